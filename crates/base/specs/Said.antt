@@ -1,0 +1,34 @@
+-- What a call answers, in document 01's words: a value, or the number and the detail of a refusal. Every answer enum of
+-- the library has a definition that turns it into this, and the contracts speak of what is said. Assumes nothing.
+use Prim.Native.Nat.{ℕ}
+use mathlib.Core.Bool.{Bool, true, false}
+use Rattle.base.specs.declared.Refusal.{Refusal}
+
+-- number 0 with its value, or a refusal: its number and its detail
+pub data Said (A : Type 0) : Type 0 where
+  gives : A → Said A
+  refuses : ℕ → ℕ → Said A
+
+-- 01's number of what is said
+abbrev pub numberOf : {A : Type 0} → Said A → ℕ
+numberOf (gives a) = 0
+numberOf (refuses n d) = n
+
+-- 01's detail of what is said
+abbrev pub detailOf : {A : Type 0} → Said A → ℕ
+detailOf (gives a) = 0
+detailOf (refuses n d) = d
+
+-- what a `Refusal` says
+abbrev pub refusal : {A : Type 0} → Refusal → Said A
+refusal r = refuses (r .number) (r .detail)
+
+-- where a test holds the first, else the second
+abbrev pub pick : {A : Type 0} → Bool → A → A → A
+pick true a b = a
+pick false a b = b
+
+-- a value goes on to the next step; a refusal is the answer
+abbrev pub andThen : {A B : Type 0} → Said A → (A → Said B) → Said B
+andThen (gives a) f = f a
+andThen (refuses n d) f = refuses n d
