@@ -1,1 +1,4 @@
 pub mod Said
+pub mod Integers
+pub mod Division
+pub mod Machine
