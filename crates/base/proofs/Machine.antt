@@ -5,14 +5,16 @@ use mathlib.Core.Bool.{true, false}
 use Prim.Native.Nat.{ℕ, _+_, _-_, _*_, _/_, _%_, _^_, _≤_, _<_}
 use native.Mathlib.Omega.{arith}
 use native.Mathlib.Nat.{lt-of-le-of-lt, div-le-self}
-use lib.Dec.{T, ltb}
-use lib.IntN.{ℤ, pos, negsuc, natAbs, _+ℤ_, _-ℤ_}
-use lib.Signed.{mag, ltZ, nonNeg}
+use lib.Dec.{T, ltb, leb}
+use lib.IntN.{ℤ, pos, negsuc, natAbs, _-ℤ_}
+use lib.Signed.{mag, ltZ, leZ, nonNeg}
 use mir.Syntax.{Width, w8, w16, w32, w64, w128}
 use mir.Val.{Fits, SFits, toZ, ofZ, bits, hbits}
 use mir.Facts.{toZ-ofZ, sfits-widen, fits-natAbs}
-use Rattle.base.specs.Integers.{floorDiv, floorMod}
-use Rattle.base.proofs.Integers.{flip-is, keep-is, unflip, mag-sub, mag-add, div-neg, div-pos, mod-neg, mod-pos}
+use Rattle.base.specs.Integers.{floorDiv, floorMod, inI32, held}
+use Rattle.base.specs.Numbers.{overflow}
+use Rattle.base.specs.Said.{Said, gives, refuses}
+use Rattle.base.proofs.Integers.{flip-is, keep-is, unflip, mag-in, div-neg, div-pos, mod-neg, mod-pos}
 
 -- z and its magnitude are held alike
 pub mag-fits : {w : Width} (z : ℤ) → SFits w z → SFits w (pos (mag z))
@@ -83,3 +85,57 @@ module _ {w : Width} {z : ℤ} (f : SFits w z) (m s : ℕ) (told : m ≡ mag (to
 -- what a call answered of z, as it stands in the machine, is what it answers of z
 pub told : {w w′ : Width} (f : ℤ → ℤ) {z r : ℤ} → SFits w z → SFits w′ r → r ≡ f (toZ w (ofZ w z)) → toZ w′ (ofZ w′ r) ≡ f z
 told f fz fr e = toZ-ofZ fr ∙ (rw (toZ-ofZ fz) at e)
+
+-- a number cast to a wider type is the number
+module _ {w : Width} (w′ : Width) {z : ℤ} (wider : T (leb (hbits w) (hbits w′))) (f : SFits w z) where
+  pub widen-fits : SFits w′ (toZ w (ofZ w z))
+  widen-fits = rw (toZ-ofZ f) (sfits-widen {w = w} {w′ = w′} wider f)
+
+  pub widened : toZ w′ (ofZ w′ (toZ w (ofZ w z))) ≡ z
+  widened = rw (toZ-ofZ f) (toZ-ofZ (sfits-widen {w = w} {w′ = w′} wider f))
+
+-- sums and differences of two numbers of 32 bits, in 64: `op` adds no more than the two magnitudes and 2
+module _ (op : ℤ → ℤ → ℤ) (bound : (x y : ℤ) → mag (op x y) ≤ mag x + mag y + 2) {x y : ℤ} (fx : SFits w32 x) (fy : SFits w32 y) where
+  held-64 : SFits w64 (op x y)
+  held-64 = record { sfits = omega (arith, bound x y, fx .sfits, fy .sfits) }
+
+  pub exact-fits : SFits w64 (op (toZ w64 (ofZ w64 (toZ w32 (ofZ w32 x)))) (toZ w64 (ofZ w64 (toZ w32 (ofZ w32 y)))))
+  exact-fits = rw (widened w64 tt fx, widened w64 tt fy) held-64
+
+  pub exact-is : toZ w64 (ofZ w64 (op (toZ w64 (ofZ w64 (toZ w32 (ofZ w32 x)))) (toZ w64 (ofZ w64 (toZ w32 (ofZ w32 y)))))) ≡ op x y
+  exact-is = rw (widened w64 tt fx, widened w64 tt fy) (toZ-ofZ held-64)
+
+-- a number of 64 bits, tested against both ends of 32
+module _ {z : ℤ} (f : SFits w64 z) where
+  pub held-under : leZ (negsuc 2147483647) (toZ w64 (ofZ w64 z)) ≡ false → refuses overflow 0 ≡ held z
+  unfolding held
+  held-under low = rw (rw (toZ-ofZ f) at low)
+
+  module _ (low : leZ (negsuc 2147483647) (toZ w64 (ofZ w64 z)) ≡ true) where
+    above : leZ (negsuc 2147483647) z ≡ true
+    above = rw (toZ-ofZ f) at low
+
+    pub held-over : leZ (toZ w64 (ofZ w64 z)) (pos 2147483647) ≡ false → refuses overflow 0 ≡ held z
+    unfolding held
+    held-over high = rw (above, rw (toZ-ofZ f) at high)
+
+    module _ (high : leZ (toZ w64 (ofZ w64 z)) (pos 2147483647) ≡ true) where
+      within : inI32 z ≡ true
+      within = rw above (rw (toZ-ofZ f) at high)
+
+      fits-32 : SFits w32 z
+      fits-32 = record { sfits = mag-in z within }
+
+      pub narrow-fits : SFits w32 (toZ w64 (ofZ w64 z))
+      narrow-fits = rw (toZ-ofZ f) fits-32
+
+      pub held-here : gives (toZ w32 (ofZ w32 (toZ w64 (ofZ w64 z)))) ≡ held z
+      unfolding held
+      held-here = rw (toZ-ofZ f, toZ-ofZ fits-32, within)
+
+-- `held` of an exact sum or difference d that a call answered of x and y
+pub told-held : (op : ℤ → ℤ → ℤ) (x y : ℤ) {d : ℤ} {s : Said ℤ} → SFits w32 x → SFits w32 y → SFits w64 d → d ≡ op (toZ w32 (ofZ w32 x)) (toZ w32 (ofZ w32 y)) → s ≡ held (toZ w64 (ofZ w64 d)) → s ≡ held (op x y)
+told-held op x y fx fy fd e h =
+    let d-is = rw (toZ-ofZ fx, toZ-ofZ fy) at e in
+    let s-is = rw (toZ-ofZ fd) at h in
+    s-is ∙ ap held d-is

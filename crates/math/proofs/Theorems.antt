@@ -10,14 +10,14 @@ use Rattle.base.specs.Integers.{Divides, floorDiv, floorMod}
 use Rattle.base.specs.Said.{Said, gives, refuses}
 use Rattle.base.proofs.Division.{floor-divides, divides-one}
 use Rattle.base.proofs.Said.{One, Split, one-result, one-plain, one-answer}
-use Rattle.math.specs.Answers.{saysQuotient, saysRemainder, saysDivision}
+use Rattle.math.specs.Answers.{saysI32, saysU32, saysDivision}
 use Rattle.math.specs.Division.{Parts, quotientOf, remainderOf, divisionOf}
 use Rattle.math.specs.OddPart.{OddPart, oddPart}
 use Rattle.math.specs.declared.Division.{Division}
-use Rattle.math.specs.declared.QuotientAnswer.{QuotientAnswer}
-use Rattle.math.specs.declared.QuotientAnswer.the-variants as Q
-use Rattle.math.specs.declared.RemainderAnswer.{RemainderAnswer}
-use Rattle.math.specs.declared.RemainderAnswer.the-variants as R
+use Rattle.math.specs.declared.I32Answer.{I32Answer}
+use Rattle.math.specs.declared.I32Answer.the-variants as I
+use Rattle.math.specs.declared.U32Answer.{U32Answer}
+use Rattle.math.specs.declared.U32Answer.the-variants as U
 use Rattle.math.specs.declared.DivisionAnswer.{DivisionAnswer}
 use Rattle.math.specs.declared.DivisionAnswer.the-variants as D
 use Rattle.math.proofs.OddPart.{halved-is, one-part}
@@ -70,15 +70,15 @@ pub odd-part-one : (n m m′ : ℕ) → OddPart n m → OddPart n m′ → m ≡
 odd-part-one n m m′ = one-part
 
 -- ---- two results of one input are equal
-quotient-split : Split Q.Is Q.Refused
-quotient-split (Q.Is a) = inl (a, refl)
-quotient-split (Q.Refused r) = inr (r, refl)
+pub i32-split : Split I.Is I.Refused
+i32-split (I.Is a) = inl (a, refl)
+i32-split (I.Refused r) = inr (r, refl)
 
-remainder-split : Split R.Is R.Refused
-remainder-split (R.Is a) = inl (a, refl)
-remainder-split (R.Refused r) = inr (r, refl)
+pub u32-split : Split U.Is U.Refused
+u32-split (U.Is a) = inl (a, refl)
+u32-split (U.Refused r) = inr (r, refl)
 
-division-split : Split D.Is D.Refused
+pub division-split : Split D.Is D.Refused
 division-split (D.Is a) = inl (a, refl)
 division-split (D.Refused r) = inr (r, refl)
 
@@ -89,11 +89,11 @@ parts-apart : (a b : Division) → partsOf a ≡ partsOf b → a ≡ b
 unfolding partsOf
 parts-apart a b e = λ i. record { quotient = e i .quotient; remainder = e i .remainder }
 
-pub i32-div-u-one : (z : ℤ) (s : ℕ) → One saysQuotient (quotientOf z s)
-i32-div-u-one z s = one-plain quotient-split saysQuotient (λ a. refl) (λ r. refl) (quotientOf z s)
+pub i32-div-u-one : (z : ℤ) (s : ℕ) → One saysI32 (quotientOf z s)
+i32-div-u-one z s = one-plain i32-split saysI32 (λ a. refl) (λ r. refl) (quotientOf z s)
 
-pub i32-rem-u-one : (z : ℤ) (s : ℕ) → One saysRemainder (remainderOf z s)
-i32-rem-u-one z s = one-plain remainder-split saysRemainder (λ a. refl) (λ r. refl) (remainderOf z s)
+pub i32-rem-u-one : (z : ℤ) (s : ℕ) → One saysU32 (remainderOf z s)
+i32-rem-u-one z s = one-plain u32-split saysU32 (λ a. refl) (λ r. refl) (remainderOf z s)
 
 pub i32-dr-u-one : (z : ℤ) (s : ℕ) → One saysDivision (divisionOf z s)
 unfolding partsOf

@@ -3,20 +3,20 @@ use Prim.Native.Nat.{ℕ}
 use lib.IntN.{ℤ}
 use Rattle.base.specs.Said.{Said, gives, refusal}
 use Rattle.math.specs.Division.{Parts}
-use Rattle.math.specs.declared.QuotientAnswer.{QuotientAnswer}
-use Rattle.math.specs.declared.QuotientAnswer.the-variants as Q
-use Rattle.math.specs.declared.RemainderAnswer.{RemainderAnswer}
-use Rattle.math.specs.declared.RemainderAnswer.the-variants as R
+use Rattle.math.specs.declared.I32Answer.{I32Answer}
+use Rattle.math.specs.declared.I32Answer.the-variants as I
+use Rattle.math.specs.declared.U32Answer.{U32Answer}
+use Rattle.math.specs.declared.U32Answer.the-variants as U
 use Rattle.math.specs.declared.DivisionAnswer.{DivisionAnswer}
 use Rattle.math.specs.declared.DivisionAnswer.the-variants as D
 
-abbrev pub saysQuotient : QuotientAnswer → Said ℤ
-saysQuotient (Q.Is q) = gives q
-saysQuotient (Q.Refused r) = refusal r
+abbrev pub saysI32 : I32Answer → Said ℤ
+saysI32 (I.Is q) = gives q
+saysI32 (I.Refused r) = refusal r
 
-abbrev pub saysRemainder : RemainderAnswer → Said ℕ
-saysRemainder (R.Is r) = gives r
-saysRemainder (R.Refused r) = refusal r
+abbrev pub saysU32 : U32Answer → Said ℕ
+saysU32 (U.Is r) = gives r
+saysU32 (U.Refused r) = refusal r
 
 abbrev pub saysDivision : DivisionAnswer → Said Parts
 saysDivision (D.Is d) = gives (record { quotient = d .quotient; remainder = d .remainder })

@@ -2,18 +2,19 @@
 use base::Refusal;
 ghost use mathlib.Core.Path.{_≡_};
 ghost use Prim.Native.Nat.{_<_};
+ghost use lib.IntN.{_+ℤ_, _-ℤ_};
 ghost use lib.Signed.{mag};
-ghost use Rattle.base.specs.Integers.{floorDiv, floorMod};
-ghost use Rattle.math.specs.Answers.{saysQuotient, saysRemainder, saysDivision};
+ghost use Rattle.base.specs.Integers.{floorDiv, floorMod, held};
+ghost use Rattle.math.specs.Answers.{saysI32, saysU32, saysDivision};
 ghost use Rattle.math.specs.Division.{quotientOf, remainderOf, divisionOf};
 ghost use Rattle.math.specs.OddPart.{oddPart};
 
-pub enum QuotientAnswer {
+pub enum I32Answer {
     Is(i32),
     Refused(Refusal),
 }
 
-pub enum RemainderAnswer {
+pub enum U32Answer {
     Is(u32),
     Refused(Refusal),
 }
@@ -32,6 +33,12 @@ pub enum DivisionAnswer {
 // 10: the denominator is 0.
 const DENOM_IS_ZERO: Refusal = Refusal {
     number: base::UNUSABLE,
+    detail: 0,
+};
+
+// 11: a number is outside 32 bits.
+const PAST_I32: Refusal = Refusal {
+    number: base::OVERFLOW,
     detail: 0,
 };
 
@@ -61,23 +68,23 @@ pub fn remainder(numer: i32, denom: u32) -> u32
 }
 
 // The quotient rounded down; 10 for denominator 0.
-pub fn i32_div_u(numer: i32, denom: u32) -> QuotientAnswer
-    ensures { λ r. ⌜ saysQuotient r ≡ quotientOf numer denom ⌝ }
+pub fn i32_div_u(numer: i32, denom: u32) -> I32Answer
+    ensures { λ r. ⌜ saysI32 r ≡ quotientOf numer denom ⌝ }
 {
     if denom == 0 {
-        return QuotientAnswer::Refused(DENOM_IS_ZERO);
+        return I32Answer::Refused(DENOM_IS_ZERO);
     }
-    QuotientAnswer::Is(quotient(numer, denom))
+    I32Answer::Is(quotient(numer, denom))
 }
 
 // The remainder, from 0 up to the denominator; 10 for denominator 0.
-pub fn i32_rem_u(numer: i32, denom: u32) -> RemainderAnswer
-    ensures { λ r. ⌜ saysRemainder r ≡ remainderOf numer denom ⌝ }
+pub fn i32_rem_u(numer: i32, denom: u32) -> U32Answer
+    ensures { λ r. ⌜ saysU32 r ≡ remainderOf numer denom ⌝ }
 {
     if denom == 0 {
-        return RemainderAnswer::Refused(DENOM_IS_ZERO);
+        return U32Answer::Refused(DENOM_IS_ZERO);
     }
-    RemainderAnswer::Is(remainder(numer, denom))
+    U32Answer::Is(remainder(numer, denom))
 }
 
 // Quotient and remainder in one call; 10 for denominator 0.
@@ -91,6 +98,32 @@ pub fn i32_dr_u(numer: i32, denom: u32) -> DivisionAnswer
         quotient: quotient(numer, denom),
         remainder: remainder(numer, denom),
     })
+}
+
+// The exact sum.
+pub fn sum(a: i32, b: i32) -> i64
+    ensures { λ r. ⌜ r ≡ a +ℤ b ⌝ }
+{
+    (a as i64) + (b as i64)
+}
+
+// The exact difference.
+pub fn difference(a: i32, b: i32) -> i64
+    ensures { λ r. ⌜ r ≡ a -ℤ b ⌝ }
+{
+    (a as i64) - (b as i64)
+}
+
+// The number where 32 bits hold it; else 11.
+pub fn to_i32(z: i64) -> I32Answer
+    ensures { λ r. ⌜ saysI32 r ≡ held z ⌝ }
+{
+    if -2147483648 <= z {
+        if z <= 2147483647 {
+            return I32Answer::Is(z as i32);
+        }
+    }
+    I32Answer::Refused(PAST_I32)
 }
 
 // The number with every factor of two taken out; 0 stays 0.
