@@ -1,5 +1,6 @@
 pub mod Fit
 pub mod Order
+pub mod Compare
 pub mod Sign
 pub mod Whole
 pub mod Down

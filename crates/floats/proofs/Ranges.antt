@@ -10,7 +10,7 @@ use lib.Ieee.Scale.{finite}
 use lib.Ieee.Positive.{num, den, positive, le→cross, between}
 use Rattle.floats.specs.Ranges.{inReach, inSearch, inGenerator, inPitch}
 
-and-true : (a b : Bool) → a && b ≡ true → T a × T b
+pub and-true : (a b : Bool) → a && b ≡ true → T a × T b
 and-true true true h = (tt, tt)
 and-true true false h = absurd (subst T (sym h) tt)
 and-true false b h = absurd (subst T (sym h) tt)

@@ -2,7 +2,6 @@
 -- No loop; the columns are `columns`, the room for carries `half-product` of Columns.antt.
 use Prim.Native.Nat.{_/_, _%_, _^_, _≤_, _*_}
 use native.Mathlib.Omega.{arith}
-use borrow.Author.Needs.{needs}
 use Rattle.wide.proofs.Columns.{half-product, columns}
 use Rattle.wide.proofs.high_product.Statement.{statement}
 use Rattle.wide.proofs.high_product.Tie as tie
