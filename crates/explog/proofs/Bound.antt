@@ -1,16 +1,18 @@
 -- What keeps P below 2 ^ 63: P_k * T_k is at most 2 ^ 125, since a step multiplies P by T_(k+1) / 2 ^ 62 at most and T_(k+1) squared is at most 2 ^ 62 * T_k. Assumes nothing.
-use mathlib.Core.Path.{_≡_, refl, sym, ap, _∙_}
+use mathlib.Core.Path.{subst, _≡_, refl, sym, ap, _∙_}
 use mathlib.Core.Bool.{Bool, true, false}
 use Prim.Native.Nat.{ℕ, zero, suc, _+_, _-_, _*_, _/_, _%_, _^_, _≤_, _<_}
-use native.Mathlib.Nat.{le-trans, le-of-eq, le-of-lt, lt-of-le-of-lt, mul-comm, mul-assoc, mul-left-comm, mul-right-comm, mul-le-mul-left, mul-le-mul-right, le-of-mul-le-mul-right, le-div-iff-mul-le, div-mul-le-self, mul-div-cancel}
+use native.Mathlib.Nat.{mul-zero, mul-one, le-antisymm, le-trans, le-of-eq, le-of-lt, lt-of-le-of-lt, mul-comm, mul-assoc, mul-left-comm, mul-right-comm, mul-le-mul-left, mul-le-mul-right, le-of-mul-le-mul-right, le-div-iff-mul-le, div-mul-le-self, mul-div-cancel}
 use native.Mathlib.Numerals.{add-one}
 use native.Mathlib.Omega.{arith}
+use mathlib.Core.List.{List}
+use lib.ListN.{getD}
 use lib.Dec.{T, leb, eqb, leb→le, lit<, lit≤}
 use lib.Pow.{pow-pos}
 use Rattle.base.specs.Said.{pick}
 use Rattle.explog.specs.Root.{root, rootFrom}
 use Rattle.explog.specs.Exp.{tOf, pOf, stepE}
-use Rattle.explog.specs.Inner.{Factor, Power}
+use Rattle.explog.specs.Inner.{Table, Factor, Power}
 use Rattle.explog.proofs.Entries.{t-above}
 
 -- the root's square is at most the number
@@ -68,6 +70,21 @@ step-is : (c : Bool) (p t : ℕ) → p * pick c t (2 ^ 62) / 2 ^ 62 ≡ stepE c 
 step-is true p t = refl
 step-is false p t = mul-div-cancel p (pow-pos 62)
 
+-- the place k * bit holds the factor of the bit
+module _ (t : List ℕ) (h : Table t) where
+  at-bit : (c k : ℕ) → c < 2 → 1 ≤ k → k ≤ 52 → (getD t (k * c) 0 ≡ pick (eqb c 1) (tOf k) (2 ^ 62)) × (getD t (k * c) 0 < 2 ^ 63)
+  at-bit c zero b low high = absurd (omega arith)
+  at-bit zero (suc k) b low high = rw (mul-zero (suc k)) (let e = h .entry 0 (omega arith) in (e .is, e .below))
+  at-bit (suc zero) (suc k) b low high = rw (mul-one (suc k)) (let e = h .entry (suc k) (omega arith) in (e .is, e .below))
+  at-bit (suc (suc c)) (suc k) b low high = absurd (omega arith)
+
+  pub chosen : (b k : ℕ) → 1 ≤ k → k ≤ 52 → Factor b k (getD t (k * (b / 2 ^ (52 - k) % 2)) 0)
+  chosen b k low high = let a = at-bit (b / 2 ^ (52 - k) % 2) k (omega arith) low high in record { is = a .0; below = a .1 }
+
+-- and it is a place of the table
+pub place : (b k : ℕ) → k ≤ 52 → k * (b / 2 ^ (52 - k) % 2) ≤ 52
+place b k h = le-trans (mul-le-mul-left k (let l : b / 2 ^ (52 - k) % 2 ≤ 1 = omega arith in l)) (omega arith)
+
 p-next : (b k : ℕ) → pOf b (k + 1) ≡ stepE (eqb (b / 2 ^ (52 - (k + 1)) % 2) 1) (pOf b k) (tOf (k + 1))
 unfolding pOf
 p-next b k = rw add-one
@@ -90,3 +107,7 @@ next b k p f r h i g q =
 
 pub power-below : (b k p : ℕ) → k ≤ 52 → Power b k p → p < 2 ^ 63
 power-below b k p h i = below p (tOf k) (t-above k h) (i .bound)
+
+-- a loop that runs while k < j ends at j
+pub arrived : (b j k p : ℕ) → k ≤ j → j ≤ k → Power b k p → Power b j p
+arrived b j k p h g i = subst (λ (x : ℕ). Power b x p) (le-antisymm h g) i

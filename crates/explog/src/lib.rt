@@ -4,14 +4,14 @@ ghost use mathlib.Core.Bool.{cond};
 ghost use Prim.Native.Nat.{_+_, _-_, _*_, _/_, _^_, _≤_, _<_};
 ghost use Rattle.floats.specs.Answers.{saysFloat};
 ghost use Rattle.explog.specs.Rules.{E, L, inPowers};
-ghost use Rattle.explog.specs.Inner.{Entry, Factor, Power, Bits, topBit};
+ghost use Rattle.explog.specs.Inner.{Table, Factor, Power, Bits, topBit};
 
 // 2^62 stands for 1 in E's P and in L's y.
 const ONE: u64 = 0x4000_0000_0000_0000;
 
-// T_0 to T_52: T_k is 2^(62 + 2^-k), rounded down from step to step.
+// What E's steps multiply by: at place k, from 1 to 52, T_k; at place 0 the ONE of a step whose bit is clear.
 const TABLE: [u64; 53] = [
-    9223372036854775808,
+    4611686018427387904,
     6521908912666391106,
     5484249825272419511,
     5029079263719320435,
@@ -66,49 +66,44 @@ const TABLE: [u64; 53] = [
     4611686018427388612,
 ];
 
-// T_k.
-fn table(k: usize) -> u64
-    requires { ⌜ k < 53 ⌝ }
-    ensures { λ r. ⌜ Entry k r ⌝ }
-{
-    TABLE[k]
-}
-
-// What step k of E multiplies by: T_k where b's bit is set, else ONE, which changes nothing; so that no branch is needed.
-fn factor(b: u64, k: usize) -> u64
-    requires { ⌜ (1 ≤ k) × (k ≤ 52) ⌝ }
+// What step k of E multiplies by: T_k where b's bit is set, else ONE, which changes nothing. No branch: bits are hard to foretell.
+fn factor(table: &[u64; 53], b: u64, k: usize) -> u64
+    requires { ⌜ Table (now table) × (1 ≤ k) × (k ≤ 52) ⌝ }
     ensures { λ r. ⌜ Factor b k r ⌝ }
 {
-    let t = table(k);
-    if (b >> (52 - k)) % 2 == 1 { t } else { ONE }
+    let bit = (b >> (52 - k)) % 2;
+    table[k * bit as usize]
 }
 
-// P after `to` steps, from P after `from` steps.
-fn power_steps(b: u64, p: u64, from: usize, to: usize) -> u64
-    requires { ⌜ (from ≤ to) × (to ≤ 52) × Power b from p ⌝ }
+// P after `to` steps of E, from P after `from` steps.
+fn power_steps(table: &[u64; 53], b: u64, p: u64, from: usize, to: usize) -> u64
+    requires { ⌜ Table (now table) × (from ≤ to) × (to ≤ 52) × Power b from p ⌝ }
     ensures { λ r. ⌜ Power b to r ⌝ }
 {
     let mut q = p;
     let mut k = from;
     while k < to {
         k += 1;
-        q = wide::mul_shift62(q, factor(b, k));
+        q = wide::mul_shift62(q, factor(table, b, k));
     }
     q
 }
 
 // P after E's first ten steps: they look at the ten highest bits of b alone.
-fn first_ten_steps(b: u64) -> u64
+fn first_ten_steps(table: &[u64; 53], b: u64) -> u64
+    requires { ⌜ Table (now table) ⌝ }
     ensures { λ r. ⌜ Power b 10 r ⌝ }
 {
-    power_steps(b, ONE, 0, 10)
+    power_steps(table, b, ONE, 0, 10)
 }
 
 // P after E's 52 steps.
 fn power_bits(b: u64) -> u64
     ensures { λ r. ⌜ Power b 52 r ⌝ }
 {
-    power_steps(b, first_ten_steps(b), 10, 52)
+    let table = TABLE;
+    let p = first_ten_steps(&table, b);
+    power_steps(&table, b, p, 10, 52)
 }
 
 // L's next bit: 1 where s has reached 2^63, else 0.

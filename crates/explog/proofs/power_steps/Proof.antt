@@ -1,22 +1,21 @@
 -- The result is P after `to` steps.
 -- Invariant: q is P after k steps, and k is at most `to`. Measure: to - k.
-use mathlib.Core.Path.{subst}
-use Prim.Native.Nat.{ℕ, _-_, _≤_}
+use Prim.Native.Nat.{_-_, _≤_}
 use native.Mathlib.Omega.{arith}
 use borrow.Author.Needs.{needs}
 use Rattle.explog.specs.Inner.{Power}
-use Rattle.explog.proofs.Bound.{next, power-below}
+use Rattle.explog.proofs.Bound.{next, power-below, arrived}
 use Rattle.explog.proofs.power_steps.Statement.{statement}
 use Rattle.explog.proofs.power_steps.Tie as tie
 
 abbrev Inv-loop : tie.InvT-loop
-Inv-loop b p from to q₀ k₀ q k = (k ≤ to) × Power b k q
+Inv-loop table b p from to q₀ k₀ q k = (k ≤ to) × Power b k q
 
 abbrev μ-loop : tie.MeasureT-loop
-μ-loop b p from to q₀ k₀ q k = to - k
+μ-loop table b p from to q₀ k₀ q k = to - k
 
 loop-holds : tie.Need-loop-holds Inv-loop μ-loop
-loop-holds c = (c .pre .0, c .pre .2)
+loop-holds c = (c .pre .1, c .pre .3)
 
 add-k : tie.Need-add-k Inv-loop μ-loop
 add-k c = search needs
@@ -38,7 +37,7 @@ loop-again c =
     (omega arith, next (l .before .args .b) (l .loop .k) (l .loop .q) _ _ (omega arith) (l .loop .inv .1) (c .before .factor .ensures) (c .mul-shift62 .ensures))
 
 returns : tie.Need-returns Inv-loop μ-loop
-returns c = subst (λ (x : ℕ). Power (c .before .before .args .b) x (c .before .loop .q)) (omega arith) (c .before .loop .inv .1)
+returns c = arrived _ _ _ _ (c .before .loop .inv .0) (c .loop-test .left) (c .before .loop .inv .1)
 
 pub power-steps-spec : {M : Type 1} → statement M
 power-steps-spec =
