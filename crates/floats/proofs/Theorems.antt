@@ -1,48 +1,45 @@
 -- "a public function's contract leaves one possible result" (document 01): a line for each public call. Assumes nothing.
-use mathlib.Core.Path.{_≡_, ap}
+use mathlib.Core.Path.{refl}
 use mathlib.Core.Bool.{Bool}
-use Prim.Native.Nat.{ℕ}
-use native.Mathlib.Omega.{arith}
+use mathlib.Core.Logic.{inl, inr}
 use lib.Ieee.{Float}
-use Rattle.base.proofs.Said.{one-result, one-saying, same-value, same-refusal}
+use Rattle.base.specs.Said.{Said}
+use Rattle.base.proofs.Said.{One, Split, one-result, one-plain}
 use Rattle.floats.specs.Floats.{abs, trunc, floor, remEuclid, divEuclid, count}
 use Rattle.floats.specs.Answers.{saysFloat, saysCount}
-use Rattle.floats.specs.declared.FloatAnswer.{FloatAnswer}
 use Rattle.floats.specs.declared.FloatAnswer.the-variants as OfFloat
-use Rattle.floats.specs.declared.CountAnswer.{CountAnswer}
 use Rattle.floats.specs.declared.CountAnswer.the-variants as OfCount
 
--- no two answers say the same
-pub float-apart : (x y : FloatAnswer) → saysFloat x ≡ saysFloat y → x ≡ y
-float-apart (OfFloat.Is a) (OfFloat.Is b) e = ap OfFloat.Is (same-value a b e)
-float-apart (OfFloat.Refused r) (OfFloat.Refused s) e = ap OfFloat.Refused (same-refusal r s e)
-float-apart (OfFloat.Is a) (OfFloat.Refused s) e = let z : _≡_ {A = ℕ} 0 1 = cc in absurd (omega arith)
-float-apart (OfFloat.Refused r) (OfFloat.Is b) e = let z : _≡_ {A = ℕ} 0 1 = cc in absurd (omega arith)
+pub float-split : Split OfFloat.Is OfFloat.Refused
+float-split (OfFloat.Is x) = inl (x, refl)
+float-split (OfFloat.Refused r) = inr (r, refl)
 
-pub count-apart : (x y : CountAnswer) → saysCount x ≡ saysCount y → x ≡ y
-count-apart (OfCount.Is a) (OfCount.Is b) e = ap OfCount.Is (same-value a b e)
-count-apart (OfCount.Refused r) (OfCount.Refused s) e = ap OfCount.Refused (same-refusal r s e)
-count-apart (OfCount.Is a) (OfCount.Refused s) e = let z : _≡_ {A = ℕ} 0 1 = cc in absurd (omega arith)
-count-apart (OfCount.Refused r) (OfCount.Is b) e = let z : _≡_ {A = ℕ} 0 1 = cc in absurd (omega arith)
+pub count-split : Split OfCount.Is OfCount.Refused
+count-split (OfCount.Is n) = inl (n, refl)
+count-split (OfCount.Refused r) = inr (r, refl)
 
--- two results of one input are equal
-pub abs-once : (x r s : Float) → r ≡ abs x → s ≡ abs x → r ≡ s
-abs-once x r s = one-result
+-- every call that answers a float or a refusal
+pub float-one : (s : Said Float) → One saysFloat s
+float-one = one-plain float-split saysFloat (λ a. refl) (λ r. refl)
 
-pub trunc-once : (x r s : Float) → r ≡ trunc x → s ≡ trunc x → r ≡ s
-trunc-once x r s = one-result
+pub abs-of-one : (x : Float) → One (λ r. r) (abs x)
+abs-of-one x = one-result (abs x)
 
-pub floor-once : (x r s : Float) → r ≡ floor x → s ≡ floor x → r ≡ s
-floor-once x r s = one-result
+pub trunc-of-one : (x : Float) → One (λ r. r) (trunc x)
+trunc-of-one x = one-result (trunc x)
 
-pub rem-euclid-once : (a b r s : Float) → r ≡ remEuclid a b → s ≡ remEuclid a b → r ≡ s
-rem-euclid-once a b r s = one-result
+pub floor-of-one : (x : Float) → One (λ r. r) (floor x)
+floor-of-one x = one-result (floor x)
 
-pub div-euclid-once : (a b r s : Float) → r ≡ divEuclid a b → s ≡ divEuclid a b → r ≡ s
-div-euclid-once a b r s = one-result
+pub rem-euclid-one : (a b : Float) → One (λ r. r) (remEuclid a b)
+rem-euclid-one a b = one-result (remEuclid a b)
 
-pub count-once : (q : Float) (r s : CountAnswer) → saysCount r ≡ count q → saysCount s ≡ count q → r ≡ s
-count-once q r s = one-saying saysCount count-apart r s
+pub div-euclid-one : (a b : Float) → One (λ r. r) (divEuclid a b)
+div-euclid-one a b = one-result (divEuclid a b)
 
-pub range-once : (range : Float → Bool) (x : Float) (r s : Bool) → r ≡ range x → s ≡ range x → r ≡ s
-range-once range x r s = one-result
+pub count-of-one : (q : Float) → One saysCount (count q)
+count-of-one q = one-plain count-split saysCount (λ a. refl) (λ r. refl) (count q)
+
+-- the range tests
+pub range-one : (range : Float → Bool) (x : Float) → One (λ r. r) (range x)
+range-one range x = one-result (range x)
