@@ -3,6 +3,8 @@ fn main() {
     let here = std::env::var("CARGO_MANIFEST_DIR").unwrap();
     let folder = format!("{here}/../target/native");
     println!("cargo:rustc-link-search=native={folder}");
-    println!("cargo:rustc-link-lib=static=telbijan");
-    println!("cargo:rerun-if-changed={folder}/libtelbijan.a");
+    for library in ["telbijan", "probes"] {
+        println!("cargo:rustc-link-lib=static={library}");
+        println!("cargo:rerun-if-changed={folder}/lib{library}.a");
+    }
 }

@@ -54,3 +54,51 @@ pub fn u32_limits() -> Vec<u32> {
     found.dedup();
     found
 }
+
+/// Floats that a step could get wrong: zeros, ones, the ends of every range with their neighbours, the smallest and the largest,
+/// halves, whole numbers up to 2^64, infinities and NaN, each with both signs.
+pub fn f64_limits() -> Vec<f64> {
+    let mut found = vec![f64::NAN];
+    let mut sizes = vec![
+        0.0,
+        f64::from_bits(1),
+        f64::MIN_POSITIVE,
+        f64::MAX,
+        f64::INFINITY,
+        0.999999,
+        1.000001,
+        900.0,
+        1200.0,
+        38_400.0,
+        4_503_599_627_370_495.5,
+    ];
+    for power in [-1074, -1022, -900, -64, -52, -32, -20, -10, -1, 0, 1, 2, 20, 31, 32, 52, 53, 63, 64, 900, 1023] {
+        sizes.push(2f64.powi(power));
+        sizes.push(1.5 * 2f64.powi(power));
+    }
+    sizes.extend((0..20).map(|k| k as f64 / 2.0));
+    for size in sizes {
+        for near in [size.next_down(), size, size.next_up()] {
+            found.extend([near, -near]);
+        }
+    }
+    found
+}
+
+impl Random {
+    /// A number from 0 up to 1.
+    pub fn unit(&mut self) -> f64 {
+        (self.next() >> 11) as f64 * 2f64.powi(-53)
+    }
+
+    /// Any bits at all.
+    pub fn f64(&mut self) -> f64 {
+        f64::from_bits(self.next())
+    }
+
+    /// A number whose logarithm is even between those of 2^-powers and 2^powers; the exponents are not held to the limit.
+    pub fn ratio(&mut self, powers: i32) -> f64 {
+        let power = self.next() as i32 % powers;
+        (1.0 + self.unit()) * 2f64.powi(power)
+    }
+}

@@ -4,9 +4,11 @@
 //! function with no case, makes it fail.
 
 mod ffi;
+mod floats;
 mod inputs;
 mod key;
 mod math;
+mod powers;
 mod tally;
 
 use std::process::ExitCode;
@@ -17,5 +19,8 @@ fn main() -> ExitCode {
     let mut all = tally::Report::new();
     math::compare(&mut all);
     key::compare(&mut all);
+    floats::compare(&mut all);
+    powers::compare(&mut all);
+    powers::report();
     all.verdict()
 }

@@ -14,6 +14,16 @@ impl Code {
     }
 }
 
+/// A float compared by its bits; a NaN is a NaN.
+#[derive(Clone, Copy, Debug, Eq, PartialEq)]
+pub struct Bits(pub Option<u64>);
+
+impl Bits {
+    pub fn of(x: f64) -> Bits {
+        Bits((!x.is_nan()).then(|| x.to_bits()))
+    }
+}
+
 pub struct Report {
     failed: bool,
     lines: usize,

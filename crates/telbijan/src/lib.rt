@@ -4,6 +4,7 @@ use base::Refusal;
 
 mod integers;
 mod keys;
+mod powers;
 
 ghost use mathlib.Core.Path.{_≡_};
 ghost use Rattle.telbijan.specs.Interface.{code};
