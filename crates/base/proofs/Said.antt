@@ -3,7 +3,7 @@ use mathlib.Core.Path.{_≡_, refl, sym, _∙_, ap}
 use mathlib.Core.Logic.{_⊎_, inl, inr}
 use Prim.Native.Nat.{ℕ}
 use native.Mathlib.Omega.{arith}
-use Rattle.base.specs.Said.{Said, gives, refuses, refusal}
+use Rattle.base.specs.Said.{Said, gives, refuses, refusal, andThen}
 use Rattle.base.specs.declared.Refusal.{Refusal}
 
 -- a contract `says r ≡ s` leaves one result
@@ -53,3 +53,7 @@ module _ {X A B : Type 0} {is : A → X} {refused : Refusal → X} (split : Spli
 -- where the value said is the value itself
 pub one-plain : {X A : Type 0} {is : A → X} {refused : Refusal → X} → Split is refused → (says : X → Said A) → ((a : A) → says (is a) ≡ gives a) → ((r : Refusal) → says (refused r) ≡ refusal r) → (s : Said A) → One says s
 one-plain split says gave refuse = one-answer split says (λ a. a) (λ a b e. e) gave refuse
+
+-- a step that goes on from an answer: x is what a call answered, told what its contract says of it, and x′ what a match made of it
+pub and-then : {X A B : Type 0} (says : X → Said A) (f : A → Said B) {x x′ : X} {s : Said A} → says x ≡ s → x ≡ x′ → andThen (says x′) f ≡ andThen s f
+and-then says f told is = ap (λ s. andThen s f) (ap says (sym is) ∙ told)

@@ -1,0 +1,136 @@
+-- The walk of `nearest_fraction` ends: with each turn that goes on, the fractions it is between grow. Assumes nothing.
+use mathlib.Core.Path.{_≡_, refl, sym, _∙_, ap, subst}
+use mathlib.Core.Logic.{_⊎_, inl, inr}
+use mathlib.Core.Bool.{Bool, true, false, _&&_}
+use Prim.Native.Nat.{ℕ, zero, suc, _+_, _-_, _≤_, _<_}
+use native.Mathlib.Omega.{arith}
+use lib.Dec.{ltb}
+use lib.Ieee.{Float, binary64, div, lt}
+use Rattle.base.specs.Said.{pick}
+use Rattle.pitch.specs.NearestFraction.{fraction, walkOf, start, turns, quotientOf, bothOver, bothWithin, improved, passed, turnAt, stepOf, endOf, walked}
+use Rattle.pitch.specs.Ratios.{upward}
+use Rattle.pitch.specs.declared.nearest.Fraction.{Fraction}
+use Rattle.pitch.specs.declared.nearest.Step.{Step}
+use Rattle.pitch.specs.declared.nearest.Step.the-variants.{On, Done}
+use Rattle.pitch.specs.declared.nearest.Walk.{Walk}
+
+-- what the two fractions add up to
+unfoldable pub size : Walk → ℕ
+size w = w .low .numer + w .low .denom + (w .high .numer + w .high .denom)
+
+-- neither fraction is 0/0
+pub record Between (w : Walk) : Type 0 where
+  pub low : 1 ≤ w .low .denom
+  pub high : 1 ≤ w .high .numer
+
+-- a turn that goes on grows
+pub record Grown (w next : Walk) : Type 0 where
+  pub more : size w < size next
+  pub between : Between next
+
+on-is : {x y : Walk} → On x ≡ On y → x ≡ y
+on-is e = cc
+
+no-end : {x y : Walk} → Done x ≡ On y → ⊥
+no-end e = let z : _≡_ {A = ℕ} 0 1 = cc in omega arith
+
+passed-on : (w : Walk) (mid : Fraction) (target : Float) {next : Walk} → passed w mid target ≡ On next →
+    (walkOf (w .low) mid (w .best) (w .deviation) ≡ next) ⊎ (walkOf mid (w .high) (w .best) (w .deviation) ≡ next)
+unfolding passed
+passed-on w mid target {next} = go (lt target (quotientOf mid)) (lt (quotientOf mid) target)
+  where
+    go : (a b : Bool) → pick a (On (walkOf (w .low) mid (w .best) (w .deviation))) (pick b (On (walkOf mid (w .high) (w .best) (w .deviation))) (Done w)) ≡ On next →
+        (walkOf (w .low) mid (w .best) (w .deviation) ≡ next) ⊎ (walkOf mid (w .high) (w .best) (w .deviation) ≡ next)
+    go true b e = inl (on-is e)
+    go false true e = inr (on-is e)
+    go false false e = absurd (no-end e)
+
+-- the best may change; the two fractions stay
+record Kept (w better : Walk) : Type 0 where
+  low : better .low ≡ w .low
+  high : better .high ≡ w .high
+
+improved-keeps : (w : Walk) (mid : Fraction) (deviation : Float) (limit : ℕ) → Kept w (improved w mid deviation limit)
+unfolding improved
+improved-keeps w mid deviation limit = go (bothWithin mid limit && lt (upward deviation) (upward (w .deviation)))
+  where
+    go : (t : Bool) → Kept w (pick t (walkOf (w .low) (w .high) mid deviation) w)
+    go true = record { low = refl; high = refl }
+    go false = record { low = refl; high = refl }
+
+module _ (w : Walk) (b : Between w) where
+  mid : Fraction
+  mid = fraction (w .low .numer + w .high .numer) (w .low .denom + w .high .denom)
+
+  lower : (better next : Walk) → Kept w better → walkOf (better .low) mid (better .best) (better .deviation) ≡ next → Grown w next
+  unfolding mid size
+  lower better next k e = subst (Grown w) e (rw (k .low) (record { more = omega (arith, b .low); between = record { low = b .low; high = omega (arith, b .high) } }))
+
+  higher : (better next : Walk) → Kept w better → walkOf mid (better .high) (better .best) (better .deviation) ≡ next → Grown w next
+  unfolding mid size
+  higher better next k e = subst (Grown w) e (rw (k .high) (record { more = omega (arith, b .high); between = record { low = omega (arith, b .low); high = b .high } }))
+
+  turned : (target : Float) (limit : ℕ) {next : Walk} → turnAt w mid target limit ≡ On next → Grown w next
+  unfolding turnAt
+  turned target limit {next} = go (bothOver mid limit)
+    where
+      better : Walk
+      better = improved w mid (div binary64 target (quotientOf mid)) limit
+
+      go : (t : Bool) → pick t (Done w) (passed better mid target) ≡ On next → Grown w next
+      go true e = absurd (no-end e)
+      go false e = elim (passed-on better mid target e) [
+        | inl is ↦ lower better next (improved-keeps w mid _ limit) is
+        | inr is ↦ higher better next (improved-keeps w mid _ limit) is
+      ]
+
+  pub grows : (target : Float) (limit : ℕ) {next : Walk} → stepOf w target limit ≡ On next → Grown w next
+  unfolding stepOf mid
+  grows target limit {next} = go (ltb 65535 (w .low .numer + w .high .numer)) (ltb 65535 (w .low .denom + w .high .denom))
+    where
+      go : (a c : Bool) → pick a (Done w) (pick c (Done w) (turnAt w mid target limit)) ≡ On next → Grown w next
+      go true c e = absurd (no-end e)
+      go false true e = absurd (no-end e)
+      go false false e = turned target limit e
+
+-- ---- the loop's state: the walk from its start comes to what is left of it from here, and turns enough are left
+pub record Walking (target : Float) (limit : ℕ) (w : Walk) : Type 0 where
+  pub left : ℕ
+  pub enough : turns ≤ left + size w
+  pub small : size w ≤ 262140
+  pub between : Between w
+  pub same : walked turns start target limit ≡ walked left w target limit
+
+module _ (target : Float) (limit : ℕ) where
+  pub walking-start : Walking target limit start
+  unfolding size
+  walking-start = record { left = turns; enough = omega arith; small = omega arith; between = record { low = omega arith; high = omega arith }; same = refl }
+
+  walked-on : (k : ℕ) (w next : Walk) → stepOf w target limit ≡ On next → walked (suc k) w target limit ≡ walked k next target limit
+  unfolding walked
+  walked-on k w next e = rw e
+
+  pub walked-end : (k : ℕ) (w last : Walk) → stepOf w target limit ≡ Done last → walked (suc k) w target limit ≡ last
+  unfolding walked
+  walked-end k w last e = rw e
+
+  pub walking-on : {w next : Walk} → Walking target limit w → stepOf w target limit ≡ On next → size next ≤ 262140 → Walking target limit next
+  walking-on {w} {next} s e small = go (s .left) (s .enough) (s .same)
+    where
+      grown : Grown w next
+      grown = grows w (s .between) target limit e
+
+      go : (k : ℕ) → turns ≤ k + size w → walked turns start target limit ≡ walked k w target limit → Walking target limit next
+      go zero m q = absurd (omega (arith, s .small))
+      go (suc k) m q = record { left = k; enough = omega (arith, grown .more); small = small; between = grown .between; same = q ∙ walked-on k w next e }
+
+  pub walking-end : {w last : Walk} → Walking target limit w → stepOf w target limit ≡ Done last → last ≡ walked turns start target limit
+  walking-end {w} {last} s e = go (s .left) (s .enough) (s .same)
+    where
+      go : (k : ℕ) → turns ≤ k + size w → walked turns start target limit ≡ walked k w target limit → last ≡ walked turns start target limit
+      go zero m q = absurd (omega (arith, s .small))
+      go (suc k) m q = sym (q ∙ walked-end k w last e)
+
+  -- each turn that goes on is one fewer
+  pub walking-less : {w next : Walk} → Walking target limit w → stepOf w target limit ≡ On next → size next ≤ 262140 → 262140 - size next < 262140 - size w
+  walking-less {w} s e small = omega (arith, grows w (s .between) target limit e .more)

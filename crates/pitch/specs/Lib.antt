@@ -1,0 +1,5 @@
+pub mod Given
+pub mod Ratios
+pub mod Pitches
+pub mod NearestFraction
+pub mod Answers
