@@ -93,17 +93,28 @@ pub start : (b : ℕ) → Power b 0 (2 ^ 62)
 unfolding tOf pOf
 start b = record { is = refl; above = lit≤ tt; bound = lit≤ tt }
 
-pub next : (b k p f r : ℕ) → k < 52 → Power b k p → Factor b (k + 1) f → r ≡ p * f / 2 ^ 62 → Power b (k + 1) r
-next b k p f r h i g q =
+pub stepped : (b k p r : ℕ) → k < 52 → Power b k p → r ≡ stepE (eqb (b / 2 ^ (52 - (k + 1)) % 2) 1) p (tOf (k + 1)) → Power b (k + 1) r
+stepped b k p r h i e =
     let c = eqb (b / 2 ^ (52 - (k + 1)) % 2) 1 in
     let u = tOf (k + 1) in
     let a : 2 ^ 62 < u = t-above (k + 1) (omega arith) in
-    let e : r ≡ stepE c p u = q ∙ ap (λ (x : ℕ). p * x / 2 ^ 62) (g .is) ∙ step-is c p u in
     record {
       is = e ∙ ap (λ (x : ℕ). stepE c x u) (i .is) ∙ sym (p-next b k);
       above = rw e (step-above p (tOf k) u (i .above) (t-square k) a (i .bound) c);
       bound = rw e (step-bound p (tOf k) u (i .above) (t-square k) a (i .bound) c);
     }
+
+-- the code's step
+pub next : (b k p f r : ℕ) → k < 52 → Power b k p → Factor b (k + 1) f → r ≡ p * f / 2 ^ 62 → Power b (k + 1) r
+next b k p f r h i g q =
+    let c = eqb (b / 2 ^ (52 - (k + 1)) % 2) 1 in
+    stepped b k p r h i (q ∙ ap (λ (x : ℕ). p * x / 2 ^ 62) (g .is) ∙ step-is c p (tOf (k + 1)))
+
+-- P after k steps, whatever b
+pub powers : (b k : ℕ) → k ≤ 52 → Power b k (pOf b k)
+unfolding tOf pOf
+powers b zero h = start b
+powers b (suc k) h = subst (λ (j : ℕ). Power b j (pOf b j)) (add-one k) (stepped b k (pOf b k) (pOf b (k + 1)) h (powers b k (omega arith)) (p-next b k))
 
 pub power-below : (b k p : ℕ) → k ≤ 52 → Power b k p → p < 2 ^ 63
 power-below b k p h i = below p (tOf k) (t-above k h) (i .bound)

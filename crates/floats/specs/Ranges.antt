@@ -1,6 +1,6 @@
--- The ranges that document 01 names, both ends in them; "a NaN lies in no range". Assumes nothing.
+-- The ranges that document 01 names, both ends in them unless said; "a NaN lies in no range". Assumes nothing.
 use mathlib.Core.Bool.{Bool, _&&_}
-use lib.Ieee.{Float, binary64, le, ofBits}
+use lib.Ieee.{Float, binary64, le, lt, ofBits}
 
 -- from low to high
 abbrev pub within : Float → Float → Float → Bool
@@ -27,3 +27,7 @@ inGenerator = within (ofBits binary64 0x3df0_0000_0000_0000) (ofBits binary64 0x
 -- 2 ^ -10..2 ^ 20: "Pitch is usable from 2^-10 to 2^20 Hz"
 abbrev pub inPitch : Float → Bool
 inPitch = within (ofBits binary64 0x3f50_0000_0000_0000) (ofBits binary64 0x4130_0000_0000_0000)
+
+-- [0.999999, 1.000001), where Rust's `is_negligible` holds: "quotient in [0.999999, 1.000001)"
+abbrev pub negligible : Float → Bool
+negligible x = le (ofBits binary64 0x3fef_fffd_e721_0be9) x && lt x (ofBits binary64 0x3ff0_0001_0c6f_7a0b)

@@ -8,7 +8,7 @@ ghost use lib.Ieee as Ieee;
 ghost use lib.Ieee.{binary64};
 ghost use lib.Ieee.Scale.{finite};
 ghost use Rattle.floats.specs.Floats.{abs, trunc, floor, remEuclid, divEuclid, count};
-ghost use Rattle.floats.specs.Ranges.{inReach, inSearch, inGenerator, inPitch};
+ghost use Rattle.floats.specs.Ranges.{inReach, inSearch, inGenerator, inPitch, negligible};
 ghost use Rattle.floats.specs.Answers.{saysCount};
 ghost use Rattle.floats.specs.Units.{Unpacked};
 ghost use Rattle.floats.specs.Nearest.{Divided, roundedHalf};
@@ -154,6 +154,15 @@ pub fn is_in_pitch(x: f64) -> bool
 {
     let low = x >= 0.0009765625;
     let high = x <= 1048576.0;
+    low & high
+}
+
+// Whether x lies in [0.999999, 1.000001): a ratio that is as good as 1.
+pub fn is_negligible(x: f64) -> bool
+    ensures { λ r. ⌜ r ≡ negligible x ⌝ }
+{
+    let low = x >= 0.999999;
+    let high = x < 1.000001;
     low & high
 }
 
