@@ -14,4 +14,5 @@ pub mod EndsE
 pub mod EndsL
 pub mod Meaning
 pub mod Values
+pub mod Sides
 pub mod Theorems
