@@ -6,13 +6,15 @@ use lib.Ieee.{Float, binary64, le, lt, ofBits}
 abbrev pub within : Float → Float → Float → Bool
 within low high x = le low x && le x high
 
--- 2 ^ -900..2 ^ 900: "A computed pitch or ratio outside 2^-900..2^900 gives 18"
+-- 2 ^ -900
 abbrev pub reachLow : Float
 reachLow = ofBits binary64 0x07b0_0000_0000_0000
 
+-- 2 ^ 900
 abbrev pub reachHigh : Float
 reachHigh = ofBits binary64 0x7830_0000_0000_0000
 
+-- 2 ^ -900..2 ^ 900: "A computed pitch or ratio outside 2^-900..2^900 gives 18"
 abbrev pub inReach : Float → Bool
 inReach = within reachLow reachHigh
 
