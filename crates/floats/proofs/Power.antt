@@ -90,6 +90,7 @@ unfolding round
 ratio-finite zero h = tt
 ratio-finite (suc n) h = positive-finite (round binary64 false (suc n) (2 ^ 52)) (ratio-positive (suc n) (omega arith) h)
 
+-- times 2 ^ -52, rounded once
 pub ratio-law : (n : ℕ) → n < 2 ^ 64 → mul binary64 (ofInt binary64 (pos n)) (fin false 1 (negsuc 51)) ≡ round binary64 false n (2 ^ 52)
 unfolding ofInt mul round
 ratio-law zero h = refl

@@ -34,6 +34,7 @@ round-neg f s a b =
     ∙ ap (λ (x : Float). cond (ltb (q * 2 ^ k) (2 ^ (low f + suc (emax f)))) x (inf (not s))) (neg-odd (suc (prec f)) s q k (low f))
     ∙ sym (round-is f (not s) a b)
 
+-- the size of a number below zero, of a zero, and of the rest
 abs-of-negative : {x : Float} → Negative x → neg x ≡ abs x
 unfolding neg abs
 abs-of-negative ninf = refl
