@@ -19,14 +19,14 @@ abbrev pub Split : {X A : Type 0} → (A → X) → (Refusal → X) → Type 0
 Split {X} {A} is refused = (x : X) → ((a : A) × (x ≡ is a)) ⊎ ((r : Refusal) × (x ≡ refused r))
 
 -- a refusal said determines the refusal
-same-refusal : {A : Type 0} (r s : Refusal) → refusal {A = A} r ≡ refusal {A = A} s → r ≡ s
+pub same-refusal : {A : Type 0} (r s : Refusal) → refusal {A = A} r ≡ refusal {A = A} s → r ≡ s
 same-refusal r s e =
     let n : r .number ≡ s .number = cc in
     let d : r .detail ≡ s .detail = cc in
     λ i. record { number = n i; detail = d i }
 
 -- a value said determines the value
-same-value : {A : Type 0} (x y : A) → gives x ≡ gives y → x ≡ y
+pub same-value : {A : Type 0} (x y : A) → gives x ≡ gives y → x ≡ y
 same-value x y e = cc
 
 -- a value is no refusal

@@ -2,13 +2,13 @@
 use mathlib.Core.Path.{subst, _≡_, refl, sym, ap, _∙_}
 use mathlib.Core.Bool.{Bool, true, false}
 use Prim.Native.Nat.{ℕ, zero, suc, _+_, _-_, _*_, _/_, _%_, _^_, _≤_, _<_}
-use native.Mathlib.Nat.{mul-zero, mul-one, le-antisymm, le-trans, le-of-eq, le-of-lt, lt-of-le-of-lt, mul-comm, mul-assoc, mul-left-comm, mul-right-comm, mul-le-mul-left, mul-le-mul-right, le-of-mul-le-mul-right, le-div-iff-mul-le, div-mul-le-self, mul-div-cancel}
+use native.Mathlib.Nat.{div-div-eq-div-mul, mul-zero, mul-one, le-antisymm, le-trans, le-of-eq, le-of-lt, lt-of-le-of-lt, mul-comm, mul-assoc, mul-left-comm, mul-right-comm, mul-le-mul-left, mul-le-mul-right, le-of-mul-le-mul-right, le-div-iff-mul-le, div-mul-le-self, mul-div-cancel}
 use native.Mathlib.Numerals.{add-one}
 use native.Mathlib.Omega.{arith}
 use mathlib.Core.List.{List}
 use lib.ListN.{getD}
 use lib.Dec.{T, leb, eqb, leb→le, lit<, lit≤}
-use lib.Pow.{pow-pos}
+use lib.Pow.{pow-add, pow-pos}
 use Rattle.base.specs.Said.{pick}
 use Rattle.explog.specs.Root.{root, rootFrom}
 use Rattle.explog.specs.Exp.{tOf, pOf, stepE}
@@ -93,17 +93,28 @@ pub start : (b : ℕ) → Power b 0 (2 ^ 62)
 unfolding tOf pOf
 start b = record { is = refl; above = lit≤ tt; bound = lit≤ tt }
 
-pub next : (b k p f r : ℕ) → k < 52 → Power b k p → Factor b (k + 1) f → r ≡ p * f / 2 ^ 62 → Power b (k + 1) r
-next b k p f r h i g q =
+pub stepped : (b k p r : ℕ) → k < 52 → Power b k p → r ≡ stepE (eqb (b / 2 ^ (52 - (k + 1)) % 2) 1) p (tOf (k + 1)) → Power b (k + 1) r
+stepped b k p r h i e =
     let c = eqb (b / 2 ^ (52 - (k + 1)) % 2) 1 in
     let u = tOf (k + 1) in
     let a : 2 ^ 62 < u = t-above (k + 1) (omega arith) in
-    let e : r ≡ stepE c p u = q ∙ ap (λ (x : ℕ). p * x / 2 ^ 62) (g .is) ∙ step-is c p u in
     record {
       is = e ∙ ap (λ (x : ℕ). stepE c x u) (i .is) ∙ sym (p-next b k);
       above = rw e (step-above p (tOf k) u (i .above) (t-square k) a (i .bound) c);
       bound = rw e (step-bound p (tOf k) u (i .above) (t-square k) a (i .bound) c);
     }
+
+-- the code's step
+pub next : (b k p f r : ℕ) → k < 52 → Power b k p → Factor b (k + 1) f → r ≡ p * f / 2 ^ 62 → Power b (k + 1) r
+next b k p f r h i g q =
+    let c = eqb (b / 2 ^ (52 - (k + 1)) % 2) 1 in
+    stepped b k p r h i (q ∙ ap (λ (x : ℕ). p * x / 2 ^ 62) (g .is) ∙ step-is c p (tOf (k + 1)))
+
+-- P after k steps, whatever b
+pub powers : (b k : ℕ) → k ≤ 52 → Power b k (pOf b k)
+unfolding tOf pOf
+powers b zero h = start b
+powers b (suc k) h = subst (λ (j : ℕ). Power b j (pOf b j)) (add-one k) (stepped b k (pOf b k) (pOf b (k + 1)) h (powers b k (omega arith)) (p-next b k))
 
 pub power-below : (b k p : ℕ) → k ≤ 52 → Power b k p → p < 2 ^ 63
 power-below b k p h i = below p (tOf k) (t-above k h) (i .bound)
@@ -111,3 +122,15 @@ power-below b k p h i = below p (tOf k) (t-above k h) (i .bound)
 -- a loop that runs while k < j ends at j
 pub arrived : (b j k p : ℕ) → k ≤ j → j ≤ k → Power b k p → Power b j p
 arrived b j k p h g i = subst (λ (x : ℕ). Power b x p) (le-antisymm h g) i
+
+-- ---- the first ten steps look at b's ten highest bits
+top-bit : (b j : ℕ) → b / 2 ^ (42 + j) ≡ b / 2 ^ 42 / 2 ^ j
+top-bit b j = ap (λ (x : ℕ). b / x) (pow-add 2 42 j) ∙ sym (div-div-eq-div-mul b (2 ^ 42) (2 ^ j))
+
+pub tops : (b c : ℕ) → b / 2 ^ 42 ≡ c / 2 ^ 42 → (k : ℕ) → k ≤ 10 → pOf b k ≡ pOf c k
+unfolding pOf
+tops b c h zero l = refl
+tops b c h (suc k) l =
+    let e : 52 - suc k ≡ 42 + (9 - k) = omega arith in
+    let d : b / 2 ^ (52 - suc k) ≡ c / 2 ^ (52 - suc k) = rw e (top-bit b (9 - k) ∙ ap (λ (x : ℕ). x / 2 ^ (9 - k)) h ∙ sym (top-bit c (9 - k))) in
+    λ i. stepE (eqb (d i % 2) 1) (tops b c h k (omega arith) i) (tOf (suc k))

@@ -7,10 +7,12 @@ use native.Mathlib.Omega.{arith}
 use lib.Dec.{T, ltb, ltb→lt, nltb→le}
 use lib.IntN.{ℤ, pos, negsuc, negℤ, subℕ, _+ℤ_, _-ℤ_, _*ℤ_}
 
+-- z is a - b
 abbrev pub Diff : ℤ → ℕ → ℕ → Type 0
 Diff (pos n) a b = a ≡ n + b
 Diff (negsuc n) a b = a + suc n ≡ b
 
+-- a - b itself
 pub of-sub : (a b : ℕ) → Diff (subℕ a b) a b
 of-sub a b = go (ltb a b) (ltb→lt a b) (nltb→le a b)
   where
@@ -23,6 +25,7 @@ pub moved : (z : ℤ) (a b c d : ℕ) → a + d ≡ c + b → Diff z a b → Dif
 moved (pos n) a b c d e h = omega arith
 moved (negsuc n) a b c d e h = omega arith
 
+-- sums, negations, products, differences
 pub add : (z w : ℤ) (a b c d : ℕ) → Diff z a b → Diff w c d → Diff (z +ℤ w) (a + c) (b + d)
 add (pos m) (pos n) a b c d h k = omega arith
 add (pos m) (negsuc n) a b c d h k = moved (subℕ m (suc n)) m (suc n) (a + c) (b + d) (omega arith) (of-sub m (suc n))

@@ -16,11 +16,11 @@ use Rattle.explog.proofs.LiteralL.{l-literal}
 use Rattle.explog.proofs.Range.{l-range, some}
 
 -- the nearest to (a - b) / c, by which is the larger
-diff-up : (a b c : ℕ) → b ≤ a → round binary64 false (a - b) c ≡ nearestDiff a b c
+pub diff-up : (a b c : ℕ) → b ≤ a → round binary64 false (a - b) c ≡ nearestDiff a b c
 unfolding nearestDiff
 diff-up a b c h = ap (λ (t : Bool). cond t (round binary64 false (a - b) c) (round binary64 true (b - a) c)) (sym (le-leb b a h))
 
-diff-down : (a b c : ℕ) → a < b → neg (round binary64 false (b - a) c) ≡ nearestDiff a b c
+pub diff-down : (a b c : ℕ) → a < b → neg (round binary64 false (b - a) c) ≡ nearestDiff a b c
 unfolding nearestDiff
 diff-down a b c h = round-neg binary64 false (b - a) c ∙ ap (λ (t : Bool). cond t (round binary64 false (a - b) c) (round binary64 true (b - a) c)) (sym (lt-leb b a h))
 

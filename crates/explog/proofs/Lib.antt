@@ -2,6 +2,7 @@ pub mod Every
 pub mod Entries
 pub mod Bound
 pub mod Turns
+pub mod Far
 pub mod Floor
 pub mod Range
 pub mod Plain
@@ -12,3 +13,6 @@ pub mod LiteralL
 pub mod EndsE
 pub mod EndsL
 pub mod Meaning
+pub mod Values
+pub mod Sides
+pub mod Theorems

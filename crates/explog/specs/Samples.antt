@@ -2,8 +2,8 @@
 use mathlib.Core.Path.{_≡_, refl}
 use lib.IntN.{pos, negsuc}
 use mathlib.Core.Bool.{true, false}
-use lib.Ieee.{fin, binary64, le, round, size, ofBits, neg}
-use Rattle.base.specs.Said.{gives}
+use lib.Ieee.{fin, binary64, le, round, size, ofBits, neg, nan, lt, eq}
+use Rattle.base.specs.Said.{gives, refuses}
 use Rattle.explog.specs.Root.{root, rootFrom}
 use Rattle.explog.specs.Exp.{tOf, pOf}
 use Rattle.explog.specs.Log.{bOf, yOf}
@@ -31,6 +31,15 @@ log-of-ten = refl
 pub power-of-minus-half : E (fin true 1 (negsuc 0)) ≡ gives (fin false 6369051672525773 (negsuc 52))
 unfolding E floorOf powerOf timesPower tOf root rootFrom pOf le round ofBits neg
 power-of-minus-half = refl
+
+-- outside the domain 18, detail 0: E of a NaN, L of 0.0
+pub power-of-nan : E nan ≡ refuses 18 0
+unfolding E le lt eq ofBits neg
+power-of-nan = refl
+
+pub log-of-zero : L (ofBits binary64 0) ≡ refuses 18 0
+unfolding L le lt eq ofBits
+log-of-zero = refl
 
 -- the last entry of the table
 pub last-entry : tOf 52 ≡ 4611686018427388612

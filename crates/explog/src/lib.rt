@@ -9,6 +9,12 @@ ghost use Rattle.explog.specs.Inner.{Table, Factor, Power, Bits, topBit}
 // 2^62 stands for 1 in E's P and in L's y.
 const ONE: u64 = 0x4000_0000_0000_0000;
 
+// 2^52: f and V count in parts of it.
+const PARTS: u64 = 0x10_0000_0000_0000;
+
+// 1022 * 2^52: the exponent of 1.0 among those that count from 2^-1074, in parts.
+const PARTS_OF_ONE: u64 = 0x3fe0_0000_0000_0000;
+
 // What E's steps multiply by: at place k, from 1 to 52, T_k; at place 0 the ONE of a step whose bit is clear.
 const TABLE: [u64; 53] = [
     4611686018427387904,
@@ -66,7 +72,7 @@ const TABLE: [u64; 53] = [
     4611686018427388612,
 ];
 
-// What step k of E multiplies by: T_k where b's bit is set, else ONE, which changes nothing. No branch: bits are hard to foretell.
+// What step k of E multiplies by: T_k where b's bit is set, else ONE, which changes nothing. A place is read, no branch taken.
 fn factor(table: &[u64; 53], b: u64, k: usize) -> u64
     requires { ⌜ Table (now table) × (1 ≤ k) × (k ≤ 52) ⌝ }
     ensures { λ r. ⌜ Factor b k r ⌝ }
@@ -156,7 +162,7 @@ fn floor_sum(negative: bool, d: u64, k: u64) -> u64
 }
 
 // Whether x lies in -900..900, where E is defined.
-pub fn is_in_powers(x: f64) -> bool
+fn is_in_powers(x: f64) -> bool
     ensures { λ r. ⌜ r ≡ inPowers x ⌝ }
 {
     let low = x >= -900.0;
@@ -171,8 +177,8 @@ pub fn exp2(x: f64) -> floats::FloatAnswer
     if is_in_powers(x) {
         let parts = floats::unpack(x);
         let f = floor_sum(parts.negative, parts.digits, parts.exponent);
-        let p = power_bits(f % 0x10_0000_0000_0000);
-        floats::FloatAnswer::Is(floats::nearest_power(p, f / 0x10_0000_0000_0000))
+        let p = power_bits(f % PARTS);
+        floats::FloatAnswer::Is(floats::nearest_power(p, f / PARTS))
     } else {
         floats::FloatAnswer::Refused(base::Refusal {
             number: base::BEYOND_REACH,
@@ -188,11 +194,11 @@ pub fn log2(x: f64) -> floats::FloatAnswer
     if floats::is_in_reach(x) {
         let parts = floats::unpack(x);
         let bits = log_bits(parts.digits * 1024);
-        let a = parts.exponent * 0x10_0000_0000_0000 + bits;
-        if 0x3fe0_0000_0000_0000 <= a {
-            floats::FloatAnswer::Is(floats::nearest_ratio(a - 0x3fe0_0000_0000_0000))
+        let a = parts.exponent * PARTS + bits;
+        if PARTS_OF_ONE <= a {
+            floats::FloatAnswer::Is(floats::nearest_ratio(a - PARTS_OF_ONE))
         } else {
-            floats::FloatAnswer::Is(-floats::nearest_ratio(0x3fe0_0000_0000_0000 - a))
+            floats::FloatAnswer::Is(-floats::nearest_ratio(PARTS_OF_ONE - a))
         }
     } else {
         floats::FloatAnswer::Refused(base::Refusal {

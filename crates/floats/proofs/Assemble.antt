@@ -21,12 +21,14 @@ use Rattle.floats.specs.Nearest.{roundedHalf}
 use Rattle.floats.proofs.Steps.{pow-more}
 use Rattle.floats.proofs.Nearest.{half-closest, half-low, half-high}
 
+-- how many digits
 pub size-is : (w k : ℕ) → 2 ^ k ≤ w → w < 2 ^ suc k → size w ≡ suc k
 size-is w k a b =
     let l : size w ≤ suc k = size-le w (suc k) b in
     let g : k < size w = lt-of-not-le (λ (g : size w ≤ k). not-le-of-lt (lt-of-lt-of-le (size-lt w) (pow-mono g)) a) in
     omega arith
 
+-- the long division's result, rounded
 pub divided-rounds : (s : Bool) (n e up st q r : ℕ) → 0 < e → n * 2 ^ st ≡ q * e + r → r < e → 2 ^ 53 ≤ q → q < 2 ^ 54 → st ≤ 1074 + up
     → round binary64 s (n * 2 ^ up) e ≡ units binary64 s (roundedHalf q r) (1075 + up - st)
 divided-rounds s n e up st q r E exact small lo hi few =
@@ -59,6 +61,7 @@ divided-rounds s n e up st q r E exact small lo hi few =
     ∙ ap (λ (x : ℕ). units binary64 s x (c + 1)) (same ∙ half-closest q e r small)
     ∙ ap (λ (x : ℕ). units binary64 s (roundedHalf q r) x) (omega arith)
 
+-- a number of 53 digits, or 2 ^ 53, at 2 ^ k units
 val-units : (m u d h k : ℕ) → 0 < d → m * u * 2 ^ 1074 ≡ h * 2 ^ k * d → m * u * 2 ^ 1074 / d ≡ h * 2 ^ k
 val-units m u d h k D v = ap (λ (x : ℕ). x / d) v ∙ mul-div-cancel (h * 2 ^ k) D
 
@@ -86,6 +89,7 @@ pattern-is h k lo hi = go (eq-or-lt-of-le hi)
         let d : n / 2 ^ (k + 1) ≡ 2 ^ 52 = ap (λ (x : ℕ). x / 2 ^ (k + 1)) (sym (pow-add 2 53 k) ∙ ap (λ (x : ℕ). 2 ^ x) (omega arith) ∙ pow-add 2 52 (k + 1)) ∙ shl-shr (2 ^ 52) (k + 1) in
         rw e (ap (λ (x : ℕ). x * 2 ^ 52 + n / 2 ^ x) s ∙ ap (λ (x : ℕ). (k + 1) * 2 ^ 52 + x) d ∙ omega arith)
 
+-- its bits: the carry out of the digits goes into the exponent
 pub bits-of : (x : Float) (h k : ℕ) → T (fits binary64 x) → HasValue x false (h * 2 ^ k) (2 ^ 1074) → 2 ^ 52 ≤ h → h ≤ 2 ^ 53 → ofBits binary64 (k * 2 ^ 52 + h) ≡ x
 unfolding toBits
 bits-of (fin true m e) h k f v lo hi = absurd (true≢false (v .0))
@@ -94,9 +98,11 @@ bits-of (fin false m e) h k f v lo hi =
     let t : toBits binary64 (fin false m e) ≡ k * 2 ^ 52 + h = ap (λ (x : ℕ). 0 + (size x - 53) * 2 ^ 52 + x / 2 ^ (size x - 53)) n ∙ omega (arith, pattern-is h k lo hi) in
     ap (ofBits binary64) (sym t) ∙ ofBits-toBits binary64 (fin false m e) f
 
+-- it does not overflow
 pub under-top : (h k : ℕ) → h ≤ 2 ^ 53 → k ≤ 2040 → h * 2 ^ k < 2 ^ 2098
 under-top h k a b = lt-of-le-of-lt (mul-le-mul-right (2 ^ k) a) (lt-of-le-of-lt (le-of-eq (sym (pow-add 2 53 k))) (pow-lt {i = 53 + k} {j = 2098} (omega arith)))
 
+-- the assembled bits are the nearest f64
 pub scaled-bits : (n e up st q r : ℕ) → 0 < e → n * 2 ^ st ≡ q * e + r → r < e → 2 ^ 53 ≤ q → q < 2 ^ 54 → st < 120 → up < 7
     → ofBits binary64 ((1075 + up - st) * 2 ^ 52 + roundedHalf q r) ≡ round binary64 false (n * 2 ^ up) e
 scaled-bits n e up st q r E exact small lo hi few low =
@@ -108,9 +114,11 @@ scaled-bits n e up st q r E exact small lo hi few low =
     (subst (λ (y : Float). HasValue y false (h * 2 ^ k) (2 ^ 1074)) (sym is) (units-val binary64 false h k (under-top h k (half-high q r hi) (omega arith))))
     (half-low q r lo) (half-high q r hi)
 
+-- and no NaN's, which `from_bits` asks
 pub no-nan : (n : ℕ) → n < 2047 * 2 ^ 52 → T (not (nanBits binary64 n))
 no-nan n h = subst (λ (b : Bool). T (not b)) (sym (nanBits-above binary64 n ∙ ap (λ (x : ℕ). ltb (2047 * 2 ^ 52) x) (mod-eq-of-lt {n = n} {m = 2 ^ 63} (omega arith)) ∙ le-ltb (2047 * 2 ^ 52) n (omega arith))) tt
 
+-- zero over anything is 0.0
 pub zero-round : (d : ℕ) → 0 < d → fin false 0 (pos 0) ≡ round binary64 false 0 d
 unfolding round
 zero-round d D = round-same binary64 false 0 1 0 d (lit< tt) D (zero-mul d)

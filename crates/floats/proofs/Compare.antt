@@ -10,6 +10,7 @@ use lib.Dec.{T, ltb, eqb, ltb→lt, eqb→eq}
 use lib.IntN.{ℤ}
 use lib.Ieee.{fin, up, down, le, lt, eq}
 
+-- `le` is less or equal
 less-or-same : (a b : ℕ) (c : Bool) → T (ltb a b || (eqb a b && c)) → a ≤ b
 less-or-same a b c t = go (ltb a b) (eqb a b) (ltb→lt a b) (eqb→eq a b) t
   where
@@ -26,10 +27,12 @@ flip a b = go (decLe a b) (decLe b a)
     go (yes p) (no q) = ne-eqb a b (λ e. q (le-of-eq (sym e))) ∙ sym (ne-eqb b a (λ e. q (le-of-eq e)))
     go (no p) q = ne-eqb a b (λ e. p (le-of-eq e)) ∙ sym (ne-eqb b a (λ e. p (le-of-eq (sym e))))
 
+-- two floats that are not below zero
 pub le-pos : (m n : ℕ) (e d : ℤ) → T (le (fin false m e) (fin false n d)) → m * up e * down d ≤ n * up d * down e
 unfolding le lt eq
 le-pos m n e d t = less-or-same (m * up e * down d) (n * up d * down e) true t
 
+-- two floats that are not above zero
 pub le-neg : (m n : ℕ) (e d : ℤ) → T (le (fin true m e) (fin true n d)) → n * up d * down e ≤ m * up e * down d
 unfolding le lt eq
 le-neg m n e d t =

@@ -16,6 +16,7 @@ pub data In31 : Float → Type 0 where
   pin : (m : ℕ) (e : ℤ) → m * up e < 2 ^ 31 * down e → In31 (fin false m e)
   nin : (m : ℕ) (e : ℤ) → m * up e ≤ 2 ^ 31 * down e → In31 (fin true m e)
 
+-- what the two tests say
 pub in31 : (x : Float) → le (fin true 1 (pos 31)) x ≡ true → lt x (fin false 1 (pos 31)) ≡ true → In31 x
 unfolding le lt eq
 in31 nan h g = absurd (subst T (sym g) tt)
@@ -28,6 +29,7 @@ or-left : (a b : Bool) → T a → T (a || b)
 or-left true b t = tt
 or-left false b t = absurd t
 
+-- so the machine's conversion to 64 bits is defined
 pub in63 : {x : Float} → In31 x → T (le (fin true 1 (pos 63)) x) × T (lt x (fin false 1 (pos 63)))
 unfolding le lt
 in63 (pin m e h) = (
@@ -42,6 +44,7 @@ in63 (nin m e h) = (
 same-cap : (a c d : ℕ) → a ≤ c → a ≤ d → min a c ≡ min a d
 same-cap a c d h k = omega arith
 
+-- and gives the number of 32 bits
 pub same-signed : {x : Float} → In31 x → toSigned 63 x ≡ toSigned 31 x
 unfolding toSigned
 same-signed (pin m e h) =

@@ -14,14 +14,17 @@ use lib.Ieee.Scale.{finite}
 use native.Mathlib.Decide.{decLe}
 use Rattle.floats.specs.Units.{unitsOf, negative}
 
+-- the digits of a number with the exponent field x and the fraction t: a field above 0 has a leading 1
 abbrev pub digitsOf : Format → ℕ → ℕ → ℕ
 digitsOf f zero t = t
 digitsOf f (suc x) t = hid f + t
 
+-- the exponent in units of 2 ^ -1074 that goes with them
 abbrev pub expOf : ℕ → ℕ
 expOf zero = 0
 expOf (suc x) = x
 
+-- a sign, a field and a fraction, as a number of units
 pub fields-value : (f : Format) (s : Bool) (x t : ℕ) → T (finite (ofFields f s x t)) → HasValue (ofFields f s x t) s (digitsOf f x t * 2 ^ expOf x) (2 ^ low f)
 unfolding ofFields
 fields-value f s zero t h = odd-sign (prec f) s t 0 (low f)
@@ -32,6 +35,7 @@ fields-value f s (suc x) t h = go (eqb (suc x) (ones f)) (eqb t 0) h
     go true false h = absurd h
     go false d h = odd-sign (prec f) s (hid f + t) x (low f)
 
+-- the last field is no number's
 pub field-under : (f : Format) (s : Bool) (x t : ℕ) → T (finite (ofFields f s (suc x) t)) → suc x ≡ ones f → ⊥
 unfolding ofFields
 field-under f s x t h e = go (eqb (suc x) (ones f)) (eqb t 0) h (eq→eqb e)
@@ -46,6 +50,7 @@ pub units-of : (x : Float) (s : Bool) (n : ℕ) → HasValue x s n (2 ^ 1074) �
 unfolding unitsOf negative
 units-of (fin t m e) s n v = (ap (λ (z : ℕ). z / down e) (v .1) ∙ mul-div-cancel n (down-pos e), v .0)
 
+-- an f64's digits and exponent, in units of 2 ^ -1074
 pub record Located (x : Float) (s : Bool) (q j : ℕ) : Type 0 where
   pub value : HasValue x s (q * 2 ^ j) (2 ^ 1074)
   pub small : q < 2 ^ 53
@@ -72,6 +77,7 @@ pub located-fields : (s : Bool) (x t : ℕ) → x < 2 ^ 11 → t < 2 ^ 52 → T 
 located-fields s x t X L h =
     record { value = fields-value binary64 s x t h; small = digits-small x t L; normal = digits-normal x t; under = exp-under s x t X h }
 
+-- the fields of 64 bits
 pub ofBits-is : (b : ℕ) → ofBits binary64 b ≡ ofFields binary64 (leb (2 ^ 63) b) (b % 2 ^ 63 / 2 ^ 52) (b % 2 ^ 52)
 unfolding ofBits
 ofBits-is b = refl
@@ -84,6 +90,7 @@ located-bits b h =
     subst (λ (z : Float). Located z s (digitsOf binary64 x t) (expOf x)) (sym (ofBits-is b))
     (located-fields s x t (shr-lt 11 52 (mod-lt b (pow-pos 63))) (mod-lt b (pow-pos 52)) (subst (λ (z : Float). T (finite z)) (ofBits-is b) h))
 
+-- an f64 by its own bits
 pub located : (x : Float) → T (fits binary64 x) → T (finite x) → (let b = toBits binary64 x in Located x (leb (2 ^ 63) b) (digitsOf binary64 (b % 2 ^ 63 / 2 ^ 52) (b % 2 ^ 52)) (expOf (b % 2 ^ 63 / 2 ^ 52)))
 located x p h =
     let b = toBits binary64 x in
@@ -95,6 +102,7 @@ located x p h =
 abbrev pub decoded : ℕ → ℕ → ℕ
 decoded k t = digitsOf binary64 k t * 2 ^ expOf k
 
+-- the same as one value: what `to_bits` gives, decoded
 pub value-of : (x : Float) → fits binary64 x ≡ true → T (finite x)
     → HasValue x (leb (2 ^ 63) (toBits binary64 x)) (decoded (toBits binary64 x % 2 ^ 63 / 2 ^ 52) (toBits binary64 x % 2 ^ 52)) (2 ^ 1074)
 value-of x f h = located x (subst T (sym f) tt) h .value

@@ -18,6 +18,7 @@ use Rattle.floats.proofs.Fit.{fits-says, whole-round, zero-exp}
 use Rattle.floats.proofs.Sign.{round-neg}
 use Rattle.floats.proofs.Whole.{Past64, uncapped, cut-lt, no-fraction}
 
+-- -2 ^ 53: from there down every f64 is whole
 abbrev Past-53 : Float
 Past-53 = fin true 1 (pos 53)
 
@@ -81,6 +82,7 @@ le-whole (fin false m' e') n m e v h =
     (subst (λ (z : ℕ). m * up e * down e' ≤ z) (crossed (m' * up e') n (down e') (down e) (v .1)) (ltb-false (m' * up e' * down e) (m * up e * down e') h))
     (down-pos e')
 
+-- rounded up where something is left over, and where nothing is
 ceil-up : (N D : ℕ) → 0 < D → N / D * D < N → (N + (D - 1)) / D ≡ N / D + 1
 ceil-up N D p h =
     let e : N + (D - 1) ≡ (N / D + 1) * D + (N % D - 1) = rw (add-mul, one-mul) (omega (arith, div-add-mod' N D)) in
@@ -112,6 +114,7 @@ floor-same (low53 m e p h) g =
     ∙ round-neg binary64 false n 1
     ∙ ap (λ (k : ℕ). round binary64 true k 1) (sym (ceil-same (m * up e) (down e) (down-pos e) v))
 
+-- from -2 ^ 53 down: the number itself
 floor-large : (m : ℕ) (e : ℤ) → 0 < m → fits binary64 (fin true m e) ≡ true → 2 ^ 53 * down e ≤ m * up e → fin true m e ≡ floor (fin true m e)
 unfolding floor
 floor-large m (pos k) p f h = sym (ap (λ (n : ℕ). round binary64 true n 1) (div-one (m * 2 ^ k + 0) ∙ add-zero (m * 2 ^ k)) ∙ whole-round true m k p f)

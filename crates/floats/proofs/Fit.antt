@@ -13,6 +13,7 @@ use lib.Ieee.{fin, binary64, up, down, round, fits}
 use lib.Ieee.Fits.{and-l, and-r, round-fits}
 use borrow.Author.Tests.{eqb-true}
 
+-- of a number that is not 0: odd digits, fewer than 54, an exponent in range
 pub fits-says : (s : Bool) (m : ℕ) (e : ℤ) → 0 < m → fits binary64 (fin s m e) ≡ true
     → (m % 2 ≡ 1) × (m < 2 ^ 53) × (down e ≤ 2 ^ 1074) × (m * up e < 2 ^ 1024 * down e)
 unfolding fits
@@ -29,6 +30,7 @@ fits-says s (suc m) e p h =
       ltb→lt (suc m * up e) (2 ^ 1024 * down e) (and-r (a && b && c) d t),
     )
 
+-- a whole number that fits is what its value rounds to
 pub whole-round : (s : Bool) (m k : ℕ) → 0 < m → fits binary64 (fin s m (pos k)) ≡ true → round binary64 s (m * 2 ^ k) 1 ≡ fin s m (pos k)
 whole-round s m k p h =
     let f = fits-says s m (pos k) p h in

@@ -11,6 +11,7 @@ use native.Mathlib.Numerals.{add-one}
 use lib.Ieee.Nearest.{closest}
 use Rattle.floats.specs.Nearest.{roundedHalf}
 
+-- what `nearest` picks, by the comparison of the rest with a half
 Cmp : Ordering → ℕ → ℕ → Type 0
 Cmp Ordering·lt a b = a < b
 Cmp Ordering·eq a b = a ≡ b
@@ -52,6 +53,7 @@ near-gt w a b h = go (compare a b) (cmp a b)
     go Ordering·eq c = absurd (omega (arith, c, h))
     go Ordering·gt c = sym (add-one w)
 
+-- half a quotient with its rest, to the nearest
 pub half-closest : (q e r : ℕ) → r < e → closest (q * e + r) (e * 2) ≡ roundedHalf q r
 half-closest q e r p =
     let a = q * e + r in
@@ -72,6 +74,7 @@ half-closest q e r p =
     go (suc zero) (suc r) l k = rw (eqb·suc-zero r) (near-gt h ((1 * e + suc r) * 2) (e * 2) (omega (arith, one-mul e)))
     go (suc (suc b)) r l k = absurd (omega arith)
 
+-- the bounds of the result
 pub half-low : (q r : ℕ) → 2 ^ 53 ≤ q → 2 ^ 52 ≤ roundedHalf q r
 half-low q r h = go (eqb (q % 2) 0) (eqb r 0)
   where

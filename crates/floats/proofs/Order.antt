@@ -11,6 +11,7 @@ use lib.Ieee.Fits.{up-pos, down-pos}
 use borrow.Author.Tests.{ltb-true, ltb-false, eqb-true}
 use Rattle.floats.proofs.Fit.{zero-exp}
 
+-- 0.0
 abbrev pub Zero : Float
 Zero = fin false 0 (pos 0)
 
@@ -19,6 +20,7 @@ pub data Negative : Float → Type 0 where
   ninf : Negative (inf true)
   nfin : (m : ℕ) (e : ℤ) → 0 < m → Negative (fin true m e)
 
+-- above zero: the sign is clear, and the number is not 0
 pub data Positive : Float → Type 0 where
   pinf : Positive (inf false)
   pfin : (m : ℕ) (e : ℤ) → 0 < m → Positive (fin false m e)
@@ -27,6 +29,7 @@ prod-pos : (m : ℕ) (e : ℤ) → 0 < m * up e * 1 → 0 < m
 prod-pos zero e h = absurd (lt-irrefl 0 (subst (λ (x : ℕ). 0 < x * 1) (zero-mul (up e)) h))
 prod-pos (suc m) e h = omega arith
 
+-- what a test against 0.0 says
 pub negative : (x : Float) → lt x Zero ≡ true → Negative x
 unfolding lt
 negative nan h = absurd (subst T (sym h) tt)
@@ -72,6 +75,7 @@ isZero (fin s m e) f h =
     let k : e ≡ pos 0 = zero-exp s e (rw z at f) in
     (s, cc)
 
+-- neither above nor below zero
 pub no-size : (s : Bool) (m : ℕ) (e : ℤ) → lt Zero (fin s m e) ≡ false → lt (fin s m e) Zero ≡ false → m ≡ 0
 unfolding lt
 no-size false m e h g = zero-number m e (omega (arith, ltb-false (0 * 1 * down e) (m * up e * 1) h, zero-mul (down e)))

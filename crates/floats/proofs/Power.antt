@@ -2,18 +2,19 @@
 use mathlib.Core.Path.{_≡_, refl, sym, ap, _∙_, subst}
 use mathlib.Core.Bool.{Bool, false, cond}
 use Prim.Native.Nat.{ℕ, zero, suc, _+_, _-_, _*_, _/_, _%_, _^_, _≤_, _<_}
-use native.Mathlib.Nat.{mul-one, mul-assoc, mul-le-mul-right, mod-eq-of-lt, le-trans, lt-of-lt-of-le, lt-of-le-of-lt, le-of-eq, mul-mod-left}
+use native.Mathlib.Nat.{mul-le-mul, mul-one, mul-assoc, mul-le-mul-right, mod-eq-of-lt, le-trans, lt-of-lt-of-le, lt-of-le-of-lt, le-of-eq, mul-mod-left}
 use native.Mathlib.Omega.{arith}
 use lib.IntN.{pos, negsuc}
-use lib.Dec.{lit<, lit≤}
+use lib.Dec.{T, lit<, lit≤}
 use lib.Pow.{pow-pos, pow-add, shl-lt, pow-mono, shl-shr}
 use lib.Ieee.Exact.{HasValue, odd-sign}
 use lib.Ieee.{Float, inf, fin, binary64, odd, round, ofInt, ofBits, ofFields, mul}
 use borrow.Author.Tests.{ne-eqb, lt-leb}
-use lib.Ieee.Scale.{round-same}
+use lib.Ieee.Scale.{finite, grid, normal-of-fraction, round-same, round-val}
+use lib.Ieee.Positive.{positive, positive-finite, positive-of-value}
 use Rattle.floats.proofs.Decode.{ofBits-is}
-use Rattle.floats.proofs.Value.{rescaled}
-use Rattle.floats.proofs.Scale.{scale}
+use Rattle.floats.proofs.Value.{rescaled, has-finite}
+use Rattle.floats.proofs.Scale.{scale, not-over, grid-pos}
 
 -- the fields of k * 2 ^ 52
 field-of : (k : ℕ) → k < 2047 → ofBits binary64 (k * 2 ^ 52) ≡ ofFields binary64 false k 0
@@ -66,7 +67,30 @@ module _ (p n : ℕ) (low-p : 2 ^ 62 ≤ p) (high-p : p < 2 ^ 63) (low-n : 124 �
       factor
       ∙ ap (λ (x : ℕ). round f false x (2 ^ 1086)) (sum 124 u n eu)
 
--- n / 2 ^ 52, for any n below 2 ^ 64
+  -- nothing overflows
+  pub power-finite : T (finite (round binary64 false (p * 2 ^ n) (2 ^ 1086)))
+  power-finite =
+      has-finite (round binary64 false (p * 2 ^ n) (2 ^ 1086)) false (grid binary64 (p * 2 ^ n) (2 ^ 1086)) (2 ^ 1074)
+      (round-val binary64 (p * 2 ^ n) (2 ^ 1086)
+      (not-over (p * 2 ^ n) (2 ^ 1086) (pow-pos 1086)
+      (le-trans (lit≤ tt) (mul-le-mul-right (2 ^ 1074) (mul-le-mul low-p (pow-mono low-n))))
+      (lt-of-le-of-lt (le-of-eq (sum n 1074 (n + 1074) refl)) (under (n + 1074) 3183 (omega arith)))))
+
+-- n / 2 ^ 52, for any n below 2 ^ 64: above zero where n is
+pub ratio-positive : (n : ℕ) → 0 < n → n < 2 ^ 64 → T (positive (round binary64 false n (2 ^ 52)))
+ratio-positive n p h =
+    let lower : 2 ^ 52 * 2 ^ 52 ≤ n * 2 ^ 1074 = le-trans (lit≤ tt) (mul-le-mul-right (2 ^ 1074) p) in
+    let upper : n * 2 ^ 1074 < 2 ^ 2097 * 2 ^ 52 = lt-of-lt-of-le (shl-lt 64 1074 h) (lit≤ tt) in
+    positive-of-value (round binary64 false n (2 ^ 52)) (grid binary64 n (2 ^ 52)) (2 ^ 1074)
+    (round-val binary64 n (2 ^ 52) (not-over n (2 ^ 52) (pow-pos 52) lower upper))
+    (grid-pos binary64 n (2 ^ 52) (pow-pos 52) (normal-of-fraction binary64 n (2 ^ 52) (pow-pos 52) lower))
+
+pub ratio-finite : (n : ℕ) → n < 2 ^ 64 → T (finite (round binary64 false n (2 ^ 52)))
+unfolding round
+ratio-finite zero h = tt
+ratio-finite (suc n) h = positive-finite (round binary64 false (suc n) (2 ^ 52)) (ratio-positive (suc n) (omega arith) h)
+
+-- times 2 ^ -52, rounded once
 pub ratio-law : (n : ℕ) → n < 2 ^ 64 → mul binary64 (ofInt binary64 (pos n)) (fin false 1 (negsuc 51)) ≡ round binary64 false n (2 ^ 52)
 unfolding ofInt mul round
 ratio-law zero h = refl

@@ -10,6 +10,7 @@ use lib.Ieee.Scale.{finite}
 use lib.Ieee.Positive.{num, den, positive, le→cross, between}
 use Rattle.floats.specs.Ranges.{inReach, inSearch, inGenerator, inPitch}
 
+-- both tests hold
 pub and-true : (a b : Bool) → a && b ≡ true → T a × T b
 and-true true true h = (tt, tt)
 and-true true false h = absurd (subst T (sym h) tt)
@@ -19,6 +20,7 @@ and-true false b h = absurd (subst T (sym h) tt)
 pub data Within (a b : ℕ) : Float → Type 0 where
   within-fin : (m : ℕ) (e : ℤ) → 0 < m → down e ≤ m * up e * 2 ^ a → m * up e ≤ 2 ^ b * down e → Within a b (fin false m e)
 
+-- what the test of a range says
 pub within-says : (a b : ℕ) (x : Float) → le (fin false 1 (negsuc a)) x && le x (fin false 1 (pos b)) ≡ true → Within (suc a) b x
 within-says a b x h =
     let lo = fin false 1 (negsuc a) in

@@ -16,6 +16,7 @@ use lib.Ieee.Positive.{mul-at, positive-of-value}
 use lib.Ieee.Order.{drop}
 use Rattle.floats.proofs.Value.{round-again}
 
+-- how large a rounded fraction in the normal range is
 under-size : (z p : ℕ) → 0 < p → p ≤ z → z - p < z
 under-size z p P h = omega arith
 
@@ -41,6 +42,7 @@ grid-le f a c C N =
     let e : suc (n / u) * 2 ^ k ≡ n / u * 2 ^ k + 2 ^ k = suc-mul (n / u) (2 ^ k) in
     le-trans (mul-le-mul-right (2 ^ k) h) (omega arith)
 
+-- a fraction below 2 ^ 1023 does not overflow
 pub not-over : (a c : ℕ) → 0 < c → 2 ^ 52 * c ≤ a * 2 ^ 1074 → a * 2 ^ 1074 < 2 ^ 2097 * c → grid binary64 a c < overflow binary64
 not-over a c C normal h =
     let d : a * 2 ^ 1074 / c < 2 ^ 2097 = div-lt-iff-lt-mul C .1 h in
@@ -49,6 +51,7 @@ not-over a c C normal h =
 times-normal : (a c t : ℕ) → 2 ^ 52 * c ≤ a * 2 ^ 1074 → 2 ^ 52 * c ≤ a * 2 ^ t * 2 ^ 1074
 times-normal a c t h = le-trans h (mul-le-mul-right (2 ^ 1074) (le-trans (le-of-eq (sym (mul-one a))) (mul-le-mul-left a (pow-pos t))))
 
+-- a rounded fraction times 2 ^ (u - t) is the fraction times that, rounded
 pub scale : (a c t u : ℕ) (y : Float) → 0 < c → 2 ^ 52 * c ≤ a * 2 ^ 1074
     → a * 2 ^ t * 2 ^ 1074 < 2 ^ 2097 * c → a * 2 ^ u * 2 ^ 1074 < 2 ^ 2097 * c
     → HasValue y false (2 ^ u) (2 ^ t) → mul binary64 (round binary64 false (a * 2 ^ t) c) y ≡ round binary64 false (a * 2 ^ u) c

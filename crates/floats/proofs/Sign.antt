@@ -6,6 +6,8 @@ use native.Mathlib.Nat.{zero-mul}
 use native.Mathlib.Omega.{arith}
 use lib.Dec.{T, ltb}
 use lib.Ieee.{Float, nan, inf, fin, Format, binary64, prec, emax, low, size, odd, units, nearest, up, down, round, neg, lt, eq, fits}
+use lib.Ieee.Positive.{positive}
+use lib.Ieee.Scale.{finite}
 use lib.Ieee.Fits.{round-is}
 use borrow.Author.Tests.{ltb-false}
 use Rattle.floats.specs.Floats.{abs}
@@ -32,6 +34,7 @@ round-neg f s a b =
     ∙ ap (λ (x : Float). cond (ltb (q * 2 ^ k) (2 ^ (low f + suc (emax f)))) x (inf (not s))) (neg-odd (suc (prec f)) s q k (low f))
     ∙ sym (round-is f (not s) a b)
 
+-- the size of a number below zero, of a zero, and of the rest
 abs-of-negative : {x : Float} → Negative x → neg x ≡ abs x
 unfolding neg abs
 abs-of-negative ninf = refl
@@ -54,3 +57,22 @@ abs-rest (fin true m e) h g =
     let b : 0 * 1 * down e ≡ 0 = zero-mul (down e) in
     let a : m * up e * 1 ≡ 0 = omega (arith, ltb-false 0 (m * up e * 1 + 0 * 1 * down e) h) in
     absurd (subst T (rw (a, b) at g) tt)
+
+pub abs-positive : (x : Float) → T (positive x) → abs x ≡ x
+unfolding abs
+abs-positive nan h = absurd h
+abs-positive (inf s) h = absurd h
+abs-positive (fin true m e) h = absurd h
+abs-positive (fin false m e) h = refl
+
+pub abs-neg : (x : Float) → abs (neg x) ≡ abs x
+unfolding abs neg
+abs-neg nan = refl
+abs-neg (inf s) = refl
+abs-neg (fin s m e) = refl
+
+pub finite-neg : (x : Float) → T (finite x) → T (finite (neg x))
+unfolding neg
+finite-neg nan h = absurd h
+finite-neg (inf s) h = absurd h
+finite-neg (fin s m e) h = tt

@@ -24,10 +24,12 @@ bits-is : (f : Format) (s : Bool) (m : ℕ) (e : ℤ) → toBits f (fin s m e) �
 unfolding toBits
 bits-is f s m e = refl
 
+-- two fractions with one value
 cross : (x y c a p q : ℕ) → 0 < c → x * c ≡ a * p → y * c ≡ a * q → x * q ≡ y * p
 cross x y c a p q C h k =
     eq-of-mul-eq-mul-right c C (x * q) (y * p) (mul-right-comm x q c ∙ ap (λ (z : ℕ). z * q) h ∙ mul-right-comm a p q ∙ ap (λ (z : ℕ). z * p) (sym k) ∙ mul-right-comm y c p)
 
+-- two floats that fit and have one value are one
 pub unique : (f : Format) (x y : Float) (s : Bool) (a c : ℕ) → 0 < c → T (fits f x) → T (fits f y) → HasValue x s a c → HasValue y s a c → x ≡ y
 unique f (fin t m e) (fin u n d) s a c C p q v w =
     let l = 2 ^ low f in
@@ -37,10 +39,12 @@ unique f (fin t m e) (fin u n d) s a c C p q v w =
     ∙ ap (ofBits f) (bits-is f t m e ∙ ap (λ (r : Bool). bitsOf f r (m * up e * l / down e)) (v .0 ∙ sym (w .0)) ∙ ap (bitsOf f u) (div-same (m * up e * l) (down e) (n * up d * l) (down d) (down-pos e) (down-pos d) z) ∙ sym (bits-is f u n d))
     ∙ ofBits-toBits f (fin u n d) q
 
+-- rounding a fraction that a value has, where its digits are known
 pub round-back : (f : Format) (x : Float) (s : Bool) (num den q j : ℕ) → 0 < den → T (fits f x) → HasValue x s num den → q < 2 ^ prec f → q * 2 ^ j < 2 ^ (low f + suc (emax f)) → num * 2 ^ low f ≡ q * 2 ^ j * den
     → round f s num den ≡ x
 round-back f x s num den q j D p v a b e = unique f (round f s num den) x s num den D (round-fits f s num den) p (round-exact f s num den q j D a b e) v
 
+-- what has a value is a number
 pub has-finite : (x : Float) (s : Bool) (a c : ℕ) → HasValue x s a c → T (finite x)
 has-finite (fin t m e) s a c v = tt
 
@@ -48,6 +52,7 @@ pub has-no-nan : (x : Float) (s : Bool) (a c : ℕ) → HasValue x s a c → T (
 unfolding isNan
 has-no-nan (fin t m e) s a c v = tt
 
+-- a value by another fraction
 pub rescaled : (x : Float) (s : Bool) (a c b d : ℕ) → 0 < c → a * d ≡ b * c → HasValue x s a c → HasValue x s b d
 rescaled (fin t m e) s a c b d C h v = (
   v .0,
@@ -62,6 +67,7 @@ same-value (fin u m e) s t a c b d v w = (
   sym (v .0) ∙ w .0,
 )
 
+-- rounding a fraction that an f64 has gives that f64
 pub round-again : (x : Float) (s : Bool) (num den : ℕ) → 0 < den → T (fits binary64 x) → HasValue x s num den → round binary64 s num den ≡ x
 round-again x s num den D p v =
     let b = toBits binary64 x in

@@ -17,6 +17,7 @@ use Rattle.floats.proofs.Order.{Zero, Negative, ninf, nfin, Positive, p
 use Rattle.floats.proofs.Fit.{fits-says, whole-round, zero-exp}
 use Rattle.floats.proofs.Sign.{round-neg}
 
+-- 2 ^ 64, where the machine's conversion ends
 abbrev pub Past64 : Float
 Past64 = fin false 1 (pos 64)
 
@@ -31,6 +32,7 @@ uncapped a c h = omega arith
 pub cut-lt : (m : ℕ) (e : ℤ) → m * up e * 1 < 1 * 2 ^ 64 * down e → m * up e / down e < 2 ^ 64
 cut-lt m e h = div-lt-iff-lt-mul (down-pos e) .1 (omega (arith, h))
 
+-- above zero and below 2 ^ 64: the machine's conversion
 pub trunc-under : {x : Float} → Positive x → lt x Past64 ≡ true → ofInt binary64 (pos (toUnsigned 64 x)) ≡ trunc x
 unfolding lt ofInt toUnsigned trunc
 trunc-under pinf h = absurd (subst T (sym h) tt)
@@ -40,6 +42,7 @@ trunc-under (pfin m e p) h = ap (λ (n : ℕ). round binary64 false n 1) (uncapp
 pub no-fraction : (m k : ℕ) → m < 2 ^ 53 → 2 ^ 53 * 2 ^ suc k ≤ m → ⊥
 no-fraction m k h g = omega (arith, pow-pos (suc k))
 
+-- from 2 ^ 64 on: the number itself
 pub trunc-large : (s : Bool) (m : ℕ) (e : ℤ) → 0 < m → fits binary64 (fin s m e) ≡ true → 2 ^ 64 * down e ≤ m * up e → fin s m e ≡ trunc (fin s m e)
 unfolding trunc
 trunc-large s m (pos k) p f h = sym (ap (λ (n : ℕ). round binary64 s n 1) (div-one (m * 2 ^ k)) ∙ whole-round s m k p f)
@@ -50,6 +53,7 @@ unfolding lt trunc
 trunc-over pinf f h = refl
 trunc-over (pfin m e p) f h = trunc-large false m e p f (omega (arith, ltb-false (m * up e * 1) (1 * 2 ^ 64 * down e) h))
 
+-- below zero: the same of the number negated
 pub neg-top : {x : Float} → Negative x → lt Past-64 x ≡ true → lt (neg x) Past64 ≡ true
 unfolding lt neg
 neg-top ninf h = h
@@ -65,6 +69,7 @@ unfolding lt trunc
 trunc-below ninf f h = refl
 trunc-below (nfin m e p) f h = trunc-large true m e p f (omega (arith, ltb-false (m * up e * 1) (1 * 2 ^ 64 * down e) h))
 
+-- zeros, and what is no number
 trunc-zero : (s : Bool) (m : ℕ) (e : ℤ) → fits binary64 (fin s m e) ≡ true → m ≡ 0 → fin s m e ≡ trunc (fin s m e)
 unfolding trunc round
 trunc-zero s m e f z =
@@ -80,6 +85,7 @@ trunc-rest (fin s m e) f h g = trunc-zero s m e f (no-size s m e h g)
 cut-small : (m k : ℕ) → m < 2 ^ 53 → m * 1 / 2 ^ suc k ≤ 2 ^ 53
 cut-small m k h = omega (arith, div-le-self (m * 1) (2 ^ suc k))
 
+-- what trunc is: the value of the result, with no rounding
 pub trunc-exact : (s : Bool) (m : ℕ) (e : ℤ) → 0 < m → fits binary64 (fin s m e) ≡ true → HasValue (trunc (fin s m e)) s (m * up e / down e) 1
 unfolding trunc
 trunc-exact s m (pos k) p f =

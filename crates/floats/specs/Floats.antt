@@ -45,10 +45,11 @@ divEuclid a b =
     (cond (lt zeroF b) (sub binary64 (trunc (div binary64 a b)) oneF) (add binary64 (trunc (div binary64 a b)) oneF))
     (trunc (div binary64 a b))
 
--- -2 ^ 31 and 2 ^ 31: an i32 is from the first and below the second
+-- -2 ^ 31, the least i32
 abbrev pub leastI32 : Float
 leastI32 = ofBits binary64 0xc1e0_0000_0000_0000
 
+-- 2 ^ 31, past the largest i32
 abbrev pub pastI32 : Float
 pastI32 = ofBits binary64 0x41e0_0000_0000_0000
 

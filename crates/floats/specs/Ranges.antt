@@ -1,18 +1,20 @@
--- The ranges that document 01 names, both ends in them; "a NaN lies in no range". Assumes nothing.
+-- The ranges that document 01 names, both ends in them unless said; "a NaN lies in no range". Assumes nothing.
 use mathlib.Core.Bool.{Bool, _&&_}
-use lib.Ieee.{Float, binary64, le, ofBits}
+use lib.Ieee.{Float, binary64, le, lt, ofBits}
 
 -- from low to high
 abbrev pub within : Float → Float → Float → Bool
 within low high x = le low x && le x high
 
--- 2 ^ -900..2 ^ 900: "A computed pitch or ratio outside 2^-900..2^900 gives 18"
+-- 2 ^ -900
 abbrev pub reachLow : Float
 reachLow = ofBits binary64 0x07b0_0000_0000_0000
 
+-- 2 ^ 900
 abbrev pub reachHigh : Float
 reachHigh = ofBits binary64 0x7830_0000_0000_0000
 
+-- 2 ^ -900..2 ^ 900: "A computed pitch or ratio outside 2^-900..2^900 gives 18"
 abbrev pub inReach : Float → Bool
 inReach = within reachLow reachHigh
 
@@ -27,3 +29,7 @@ inGenerator = within (ofBits binary64 0x3df0_0000_0000_0000) (ofBits binary64 0x
 -- 2 ^ -10..2 ^ 20: "Pitch is usable from 2^-10 to 2^20 Hz"
 abbrev pub inPitch : Float → Bool
 inPitch = within (ofBits binary64 0x3f50_0000_0000_0000) (ofBits binary64 0x4130_0000_0000_0000)
+
+-- [0.999999, 1.000001), where Rust's `is_negligible` holds: "quotient in [0.999999, 1.000001)"
+abbrev pub negligible : Float → Bool
+negligible x = le (ofBits binary64 0x3fef_fffd_e721_0be9) x && lt x (ofBits binary64 0x3ff0_0001_0c6f_7a0b)

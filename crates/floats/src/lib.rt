@@ -8,20 +8,14 @@ ghost use lib.Ieee as Ieee;
 ghost use lib.Ieee.{binary64};
 ghost use lib.Ieee.Scale.{finite};
 ghost use Rattle.floats.specs.Floats.{abs, trunc, floor, remEuclid, divEuclid, count};
-ghost use Rattle.floats.specs.Ranges.{inReach, inSearch, inGenerator, inPitch};
-ghost use Rattle.floats.specs.Answers.{saysCount};
+ghost use Rattle.floats.specs.Ranges.{inReach, inSearch, inGenerator, inPitch, negligible};
+ghost use Rattle.math.specs.Answers.{saysI32};
 ghost use Rattle.floats.specs.Units.{Unpacked};
 ghost use Rattle.floats.specs.Nearest.{Divided, roundedHalf};
 
 // A float, or why there is none.
 pub enum FloatAnswer {
     Is(f64),
-    Refused(base::Refusal),
-}
-
-// A count, or why there is none.
-pub enum CountAnswer {
-    Is(i32),
     Refused(base::Refusal),
 }
 
@@ -36,19 +30,26 @@ pub fn abs_of(x: f64) -> f64
     }
 }
 
+// 2^64, where u64 ends; 2^53, from where on every f64 is whole; 2^31, where i32 ends.
+const U64_END: f64 = 18446744073709551616.0;
+
+const WHOLE_FROM: f64 = 9007199254740992.0;
+
+const I32_END: f64 = 2147483648.0;
+
 // The whole part of x, its sign kept.
 pub fn trunc_of(x: f64) -> f64
     ensures { λ r. ⌜ r ≡ trunc x ⌝ }
 {
     if x > 0.0 {
-        if x < 18446744073709551616.0 {
+        if x < U64_END {
             std::num::nearest_u64_to_f64(std::num::truncating_f64_to_u64(x))
         } else {
             x
         }
     } else {
         if x < 0.0 {
-            if x > -18446744073709551616.0 {
+            if x > -U64_END {
                 -std::num::nearest_u64_to_f64(std::num::truncating_f64_to_u64(-x))
             } else {
                 x
@@ -64,7 +65,7 @@ pub fn floor_of(x: f64) -> f64
     ensures { λ r. ⌜ r ≡ floor x ⌝ }
 {
     if x < 0.0 {
-        if x > -9007199254740992.0 {
+        if x > -WHOLE_FROM {
             let n = std::num::truncating_f64_to_u64(-x);
             let t = std::num::nearest_u64_to_f64(n);
             if t < -x {
@@ -101,32 +102,49 @@ pub fn div_euclid(a: f64, b: f64) -> f64
 }
 
 // The whole part of q as an i32: 18 where it leaves i32.
-pub fn count_of(q: f64) -> CountAnswer
-    ensures { λ r. ⌜ saysCount r ≡ count q ⌝ }
+pub fn count_of(q: f64) -> math::I32Answer
+    ensures { λ r. ⌜ saysI32 r ≡ count q ⌝ }
 {
-    if q >= -2147483648.0 {
-        if q < 2147483648.0 {
-            CountAnswer::Is(std::num::truncating_f64_to_i64(q) as i32)
+    if q >= -I32_END {
+        if q < I32_END {
+            math::I32Answer::Is(std::num::truncating_f64_to_i64(q) as i32)
         } else {
-            CountAnswer::Refused(base::Refusal {
+            math::I32Answer::Refused(base::Refusal {
                 number: base::BEYOND_REACH,
                 detail: 0,
             })
         }
     } else {
-        CountAnswer::Refused(base::Refusal {
+        math::I32Answer::Refused(base::Refusal {
             number: base::BEYOND_REACH,
             detail: 0,
         })
     }
 }
 
+// The ends of 01's ranges: 2^-900 and 2^900, 2^-64 and 2^64, 2^-32 and 2^32, 2^-10 and 2^20.
+pub const REACH_LOW: f64 = 1.1830521861667747e-271;
+
+pub const REACH_HIGH: f64 = 8.452712498170644e270;
+
+pub const SEARCH_LOW: f64 = 5.421010862427522e-20;
+
+pub const SEARCH_HIGH: f64 = 18446744073709551616.0;
+
+pub const GENERATOR_LOW: f64 = 2.3283064365386963e-10;
+
+pub const GENERATOR_HIGH: f64 = 4294967296.0;
+
+pub const PITCH_LOW: f64 = 0.0009765625;
+
+pub const PITCH_HIGH: f64 = 1048576.0;
+
 // Whether x lies in 2^-900..2^900: every pitch and ratio does.
 pub fn is_in_reach(x: f64) -> bool
     ensures { λ r. ⌜ r ≡ inReach x ⌝ }
 {
-    let low = x >= 1.1830521861667747e-271;
-    let high = x <= 8.452712498170644e270;
+    let low = x >= REACH_LOW;
+    let high = x <= REACH_HIGH;
     low & high
 }
 
@@ -134,8 +152,8 @@ pub fn is_in_reach(x: f64) -> bool
 pub fn is_in_search(x: f64) -> bool
     ensures { λ r. ⌜ r ≡ inSearch x ⌝ }
 {
-    let low = x >= 5.421010862427522e-20;
-    let high = x <= 18446744073709551616.0;
+    let low = x >= SEARCH_LOW;
+    let high = x <= SEARCH_HIGH;
     low & high
 }
 
@@ -143,8 +161,8 @@ pub fn is_in_search(x: f64) -> bool
 pub fn is_in_generator(x: f64) -> bool
     ensures { λ r. ⌜ r ≡ inGenerator x ⌝ }
 {
-    let low = x >= 2.3283064365386963e-10;
-    let high = x <= 4294967296.0;
+    let low = x >= GENERATOR_LOW;
+    let high = x <= GENERATOR_HIGH;
     low & high
 }
 
@@ -152,8 +170,17 @@ pub fn is_in_generator(x: f64) -> bool
 pub fn is_in_pitch(x: f64) -> bool
     ensures { λ r. ⌜ r ≡ inPitch x ⌝ }
 {
-    let low = x >= 0.0009765625;
-    let high = x <= 1048576.0;
+    let low = x >= PITCH_LOW;
+    let high = x <= PITCH_HIGH;
+    low & high
+}
+
+// Whether x lies in [0.999999, 1.000001): a ratio that is as good as 1.
+pub fn is_negligible(x: f64) -> bool
+    ensures { λ r. ⌜ r ≡ negligible x ⌝ }
+{
+    let low = x >= 0.999999;
+    let high = x < 1.000001;
     low & high
 }
 

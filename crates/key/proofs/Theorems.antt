@@ -4,7 +4,7 @@ use mathlib.Core.Logic.{inl, inr}
 use lib.IntN.{ℤ}
 use Rattle.base.proofs.Said.{One, Split, one-result, one-plain}
 use Rattle.math.specs.Answers.{saysI32}
-use Rattle.math.proofs.Theorems.{i32-split}
+use Rattle.math.proofs.Theorems.{i32-one}
 use Rattle.key.specs.Answers.{saysKey, saysMidi}
 use Rattle.key.specs.Keys.{key, keyAfter, stepsBetween, midiOf}
 use Rattle.key.specs.declared.PianoKey.{PianoKey}
@@ -29,7 +29,7 @@ pub checked-midi-number-one : (k : PianoKey) → One saysMidi (midiOf k)
 checked-midi-number-one k = one-plain midi-split saysMidi (λ a. refl) (λ r. refl) (midiOf k)
 
 pub num-keys-before-one : (k other : PianoKey) → One saysI32 (stepsBetween k other)
-num-keys-before-one k other = one-plain i32-split saysI32 (λ a. refl) (λ r. refl) (stepsBetween k other)
+num-keys-before-one k other = i32-one (stepsBetween k other)
 
 pub plus-steps-one : (k : PianoKey) (steps : ℤ) → One saysKey (keyAfter k steps)
 plus-steps-one k steps = one-plain key-split saysKey (λ a. refl) (λ r. refl) (keyAfter k steps)

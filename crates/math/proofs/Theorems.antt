@@ -89,8 +89,12 @@ parts-apart : (a b : Division) → partsOf a ≡ partsOf b → a ≡ b
 unfolding partsOf
 parts-apart a b e = λ i. record { quotient = e i .quotient; remainder = e i .remainder }
 
+-- every call that answers an i32 or a refusal
+pub i32-one : (s : Said ℤ) → One saysI32 s
+i32-one = one-plain i32-split saysI32 (λ a. refl) (λ r. refl)
+
 pub i32-div-u-one : (z : ℤ) (s : ℕ) → One saysI32 (quotientOf z s)
-i32-div-u-one z s = one-plain i32-split saysI32 (λ a. refl) (λ r. refl) (quotientOf z s)
+i32-div-u-one z s = i32-one (quotientOf z s)
 
 pub i32-rem-u-one : (z : ℤ) (s : ℕ) → One saysU32 (remainderOf z s)
 i32-rem-u-one z s = one-plain u32-split saysU32 (λ a. refl) (λ r. refl) (remainderOf z s)

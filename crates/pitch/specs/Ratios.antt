@@ -4,13 +4,13 @@ use mathlib.Core.Bool.{Bool, true, false, _&&_, cond}
 use lib.Ieee.{Float, binary64, mul, div, neg, lt, le, ofBits}
 use Rattle.base.specs.Said.{Said, gives, pick, andThen}
 use Rattle.floats.specs.Floats.{oneF}
-use Rattle.floats.specs.Ranges.{inReach}
+use Rattle.floats.specs.Ranges.{inReach, negligible}
 use Rattle.explog.specs.Rules.{E, L}
 use Rattle.pitch.specs.Given.{given, bothGiven, computed}
 use Rattle.pitch.specs.declared.Order.{Order}
 use Rattle.pitch.specs.declared.Order.the-variants.{Lower, Same, Higher}
 
--- 2.0, 12.0, 100.0, 1200.0, 0.999999, 1.000001
+-- 2.0, 12.0, 100.0, 1200.0
 abbrev pub twoF : Float
 twoF = ofBits binary64 0x4000_0000_0000_0000
 
@@ -22,12 +22,6 @@ hundredF = ofBits binary64 0x4059_0000_0000_0000
 
 abbrev pub centsF : Float
 centsF = ofBits binary64 0x4092_c000_0000_0000
-
-abbrev pub justBelowOne : Float
-justBelowOne = ofBits binary64 0x3fef_fffd_e721_0be9
-
-abbrev pub justAboveOne : Float
-justAboveOne = ofBits binary64 0x3ff0_0001_0c6f_7a0b
 
 -- a number given as a ratio
 abbrev pub fromFloat : Float → Said Float
@@ -88,9 +82,6 @@ abbrev pub absolute : Float → Said Float
 absolute r = given r (computed (upward r))
 
 -- "quotient in [0.999999, 1.000001)"
-abbrev pub negligible : Float → Bool
-negligible r = le justBelowOne r && lt r justAboveOne
-
 abbrev pub isNegligible : Float → Said Bool
 isNegligible r = given r (gives (negligible r))
 

@@ -13,7 +13,7 @@ ghost use Rattle.floats.specs.Ranges.{inReach};
 ghost use Rattle.pitch.specs.Answers.{saysRatio, saysPitch, saysBool, saysOrder};
 ghost use Rattle.pitch.specs.Given.{computed};
 ghost use Rattle.pitch.specs.Pitches.{fromHz, asHz, pitchTimes, pitchOver, betweenPitches};
-ghost use Rattle.pitch.specs.Ratios.{twoF, fromFloat, fromOctaves, fromSemitones, fromCents, asFloat, asOctaves, asSemitones, asCents, stretchedBy, deviationFrom, repeated, dividedInto, stepsOfSize, inverse, upward, absolute, negligible, isNegligible, totalCmp};
+ghost use Rattle.pitch.specs.Ratios.{twoF, fromFloat, fromOctaves, fromSemitones, fromCents, asFloat, asOctaves, asSemitones, asCents, stretchedBy, deviationFrom, repeated, dividedInto, stepsOfSize, inverse, upward, absolute, isNegligible, totalCmp};
 
 // How far two frequencies are apart, as their quotient.
 pub struct Ratio(pub f64);
@@ -101,15 +101,6 @@ pub fn upwards(x: f64) -> f64
         }
     }
     x
-}
-
-// Whether x lies in [0.999999, 1.000001).
-pub fn negligibly(x: f64) -> bool
-    ensures { λ r. ⌜ r ≡ negligible x ⌝ }
-{
-    let low = x >= 0.999999;
-    let high = x < 1.000001;
-    low & high
 }
 
 impl Pitch {
@@ -359,7 +350,7 @@ impl Ratio {
     {
         let value = self.0;
         if floats::is_in_reach(value) {
-            BoolAnswer::Is(negligibly(value))
+            BoolAnswer::Is(floats::is_negligible(value))
         } else {
             BoolAnswer::Refused(NOT_USABLE)
         }

@@ -1,8 +1,8 @@
 // The nearest fraction within an odd limit, as the Rust's walk finds it: not the best of all. Document 01, "Scales and searches".
 use crate::RatioAnswer;
 use base::Refusal;
-use floats::CountAnswer;
 use floats::FloatAnswer;
+use math::I32Answer;
 ghost use mathlib.Core.Path.{_≡_};
 ghost use Prim.Native.Nat.{_+_};
 ghost use Rattle.pitch.specs.Answers.{saysNearest};
@@ -201,8 +201,8 @@ fn reduced(ratio: f64, limit: u16) -> NearestAnswer
 {
     match explog::log2(ratio) {
         FloatAnswer::Is(octaves) => match floats::count_of(floats::floor_of(octaves)) {
-            CountAnswer::Is(whole) => without(ratio, whole, limit),
-            CountAnswer::Refused(refusal) => NearestAnswer::Refused(refusal),
+            I32Answer::Is(whole) => without(ratio, whole, limit),
+            I32Answer::Refused(refusal) => NearestAnswer::Refused(refusal),
         },
         FloatAnswer::Refused(refusal) => NearestAnswer::Refused(refusal),
     }

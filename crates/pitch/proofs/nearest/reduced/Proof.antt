@@ -1,7 +1,8 @@
 -- `nearest::reduced` meets its contract: the logarithm, its floor as a number, and the rest, each refusal passed on.
 -- Assumes nothing.
 use Rattle.base.proofs.Said.{and-then}
-use Rattle.floats.specs.Answers.{saysFloat, saysCount}
+use Rattle.floats.specs.Answers.{saysFloat}
+use Rattle.math.specs.Answers.{saysI32}
 use Rattle.floats.specs.Floats.{count}
 use Rattle.pitch.specs.NearestFraction.{withoutOctaves, withoutWhole}
 use borrow.Author.Needs.{needs}
@@ -36,10 +37,10 @@ enum-known-refusal-2 : tie.Need-enum-known-refusal-2
 enum-known-refusal-2 c = search needs
 
 returns : tie.Need-returns
-returns c = let start = c .before .before .before .before .before .before .before .before .before .before in let ratio = start .args .ratio in let limit = start .args .limit in (rw (toZ-ofZ {w = w32} {z = c .before .before .whole .given .0 .0} (search needs)) at (c .without .ensures)) ∙ and-then saysCount (withoutOctaves ratio limit) (c .before .before .before .before .count-of .ensures ∙ ap count (c .before .before .before .before .before .floor-of .ensures)) (c .before .before .whole .given .1) ∙ and-then saysFloat (withoutWhole ratio limit) (c .before .before .before .before .before .before .before .before .before .log2 .ensures) (c .before .before .before .before .before .before .before .octaves .given .1)
+returns c = let start = c .before .before .before .before .before .before .before .before .before .before in let ratio = start .args .ratio in let limit = start .args .limit in (rw (toZ-ofZ {w = w32} {z = c .before .before .whole .given .0 .0} (search needs)) at (c .without .ensures)) ∙ and-then saysI32 (withoutOctaves ratio limit) (c .before .before .before .before .count-of .ensures ∙ ap count (c .before .before .before .before .before .floor-of .ensures)) (c .before .before .whole .given .1) ∙ and-then saysFloat (withoutWhole ratio limit) (c .before .before .before .before .before .before .before .before .before .log2 .ensures) (c .before .before .before .before .before .before .before .octaves .given .1)
 
 returns-2 : tie.Need-returns-2
-returns-2 c = let start = c .before .before .before .before .before .before .before .before .before in let ratio = start .args .ratio in let limit = start .args .limit in and-then saysCount (withoutOctaves ratio limit) (c .before .before .before .count-of .ensures ∙ ap count (c .before .before .before .before .floor-of .ensures)) (c .before .refusal .given .1) ∙ and-then saysFloat (withoutWhole ratio limit) (c .before .before .before .before .before .before .before .before .log2 .ensures) (c .before .before .before .before .before .before .octaves .given .1)
+returns-2 c = let start = c .before .before .before .before .before .before .before .before .before in let ratio = start .args .ratio in let limit = start .args .limit in and-then saysI32 (withoutOctaves ratio limit) (c .before .before .before .count-of .ensures ∙ ap count (c .before .before .before .before .floor-of .ensures)) (c .before .refusal .given .1) ∙ and-then saysFloat (withoutWhole ratio limit) (c .before .before .before .before .before .before .before .before .log2 .ensures) (c .before .before .before .before .before .before .octaves .given .1)
 
 returns-3 : tie.Need-returns-3
 returns-3 c = let start = c .before .before .before .before in let ratio = start .args .ratio in let limit = start .args .limit in and-then saysFloat (withoutWhole ratio limit) (c .before .before .before .log2 .ensures) (c .before .refusal2 .given .1)

@@ -1,0 +1,99 @@
+-- What a user of E and L may count on, with the sentences of document 01. Assumes nothing.
+use mathlib.Core.Path.{_≡_, refl, sym, _∙_, subst}
+use mathlib.Core.Bool.{true, false}
+use Prim.Native.Nat.{ℕ, suc, _+_, _*_, _/_, _%_, _^_, _≤_, _<_}
+use native.Mathlib.Nat.{mul-div-cancel, lt-of-le-of-lt, mul-le-mul-left}
+use native.Mathlib.Omega.{arith}
+use lib.Dec.{T, lit<}
+use lib.Pow.{pow-pos}
+use lib.IntN.{pos, negsuc}
+use lib.Ieee.{Float, fin, binary64, le, lt, eq, fits, ofBits}
+use lib.Ieee.Scale.{finite}
+use lib.Ieee.Exact.{HasValue}
+use Rattle.base.specs.Said.{gives}
+use Rattle.base.proofs.Said.{One}
+use Rattle.floats.specs.Floats.{zeroF, oneF, abs}
+use Rattle.floats.specs.Ranges.{negligible}
+use Rattle.floats.specs.Answers.{saysFloat}
+use Rattle.floats.specs.Units.{unitsOf, negative}
+use Rattle.floats.specs.declared.FloatAnswer.{FloatAnswer}
+use Rattle.floats.proofs.Theorems.{float-one}
+use Rattle.floats.proofs.Power.{power-finite}
+use Rattle.floats.proofs.Ranges.{reach-says}
+use Rattle.floats.proofs.Value.{unique}
+use Rattle.explog.specs.Root.{root}
+use Rattle.explog.specs.Exp.{tOf, pOf}
+use Rattle.explog.specs.Rules.{E, L, inPowers, floorOf, powerOf}
+use Rattle.explog.specs.Samples.{log-of-one}
+use Rattle.explog.proofs.Meaning.{root-is}
+use Rattle.explog.proofs.Entries.{t-below}
+use Rattle.explog.proofs.Bound.{powers, power-below, tops}
+use Rattle.explog.proofs.Plain.{plainFloor, plainPower}
+use Rattle.explog.proofs.Range.{e-range}
+use Rattle.explog.proofs.LiteralE.{e-literal}
+use Rattle.explog.proofs.EndsE.{whole-range}
+use Rattle.explog.proofs.Values.{given, answered, logged, v-zero}
+use Rattle.explog.proofs.Sides.{side-of, sided-finite, sided-equal, one-fits, sided-far, and-false, side-off}
+
+-- "floor of the square root", of any number below 2 ^ 128
+pub root-floor : (n : ℕ) → n < 2 ^ 128 → (root n * root n ≤ n) × (n < (root n + 1) * (root n + 1))
+root-floor n h = root-is n h
+
+-- "T_k = floor of the square root of 2^62*T_(k-1), k = 1..52"
+pub table-root : (k : ℕ) → k < 52 → (tOf (suc k) * tOf (suc k) ≤ 2 ^ 62 * tOf k) × (2 ^ 62 * tOf k < (tOf (suc k) + 1) * (tOf (suc k) + 1))
+unfolding tOf
+table-root k h = root-is (2 ^ 62 * tOf k) (lt-of-le-of-lt (mul-le-mul-left (2 ^ 62) (t-below k (omega arith))) (lit< tt))
+
+-- E's first ten steps look at the ten highest bits of b alone
+pub first-ten : (b : ℕ) → pOf b 10 ≡ pOf (b / 2 ^ 42 * 2 ^ 42) 10
+first-ten b = tops b (b / 2 ^ 42 * 2 ^ 42) (sym (mul-div-cancel (b / 2 ^ 42) (pow-pos 42))) 10 (omega arith)
+
+-- ---- E answers a number: never a NaN, never an infinity
+power-at : (x r : Float) → E x ≡ gives r → (inPowers x ≡ true) × (powerOf (floorOf x) ≡ r)
+unfolding E
+power-at x r h = given (inPowers x) (powerOf (floorOf x)) r 18 0 h
+
+pub exp-finite : (x r : Float) → fits binary64 x ≡ true → E x ≡ gives r → T (finite r)
+unfolding plainPower plainFloor
+exp-finite x r f h =
+    let a = power-at x r h in
+    let t = e-range x (a .0) in
+    let F = plainFloor x in
+    let w = whole-range (negative x) (unitsOf x) F (t .1) refl in
+    let p = powers (F % 2 ^ 52) 52 (omega arith) in
+    subst (λ (y : Float). T (finite y)) (e-literal x (subst T (sym f) tt) (t .0) (t .1) ∙ a .1)
+    (power-finite (pOf (F % 2 ^ 52) 52) (F / 2 ^ 52) (p .above) (power-below (F % 2 ^ 52) 52 (pOf (F % 2 ^ 52) 52) (omega arith) p) (w .0) (w .1))
+
+-- ---- L answers a number: never a NaN, never an infinity
+pub log-finite : (x r : Float) → fits binary64 x ≡ true → L x ≡ gives r → T (finite r)
+log-finite x r f h = let a = answered x r h in sided-finite (side-of x r (logged x f (a .0)) (a .1))
+
+-- ---- L(x) = 0 exactly at x = 1.0
+pub log-one : L oneF ≡ gives zeroF
+log-one = log-of-one
+
+pub log-zero : (x r : Float) → fits binary64 x ≡ true → L x ≡ gives r → eq r zeroF ≡ true → x ≡ oneF
+unfolding ofBits
+log-zero x r f h z =
+    let a = answered x r h in
+    let g = logged x f (a .0) in
+    let u = v-zero (g .d) (g .k) (g .low) (g .high) (sided-equal (side-of x r g (a .1)) z) in
+    unique binary64 x (fin false 1 (pos 0)) false (2 ^ 1074) (2 ^ 1074) (pow-pos 1074) (subst T (sym f) tt) one-fits
+    (subst (λ (n : ℕ). HasValue x false n (2 ^ 1074)) u (g .value)) (refl, refl)
+
+-- ---- |L(x)| >= 2^-20 outside [0.999999, 1.000001)
+pub log-far : (x r : Float) → fits binary64 x ≡ true → L x ≡ gives r → negligible x ≡ false → T (le (ofBits binary64 0x3eb0_0000_0000_0000) (abs r))
+unfolding ofBits
+log-far x r f h n =
+    let a = answered x r h in
+    let g = logged x f (a .0) in
+    let low = le (fin false 9007190247541737 (negsuc 52)) x in
+    let high = lt x (fin false 4503604130970123 (negsuc 51)) in
+    sided-far (side-of x r g (a .1)) (side-off (reach-says x (a .0)) g (and-false low high n))
+
+-- ---- "a public function's contract leaves one possible result"
+pub exp2-one : (x : Float) → One saysFloat (E x)
+exp2-one x = float-one (E x)
+
+pub log2-one : (x : Float) → One saysFloat (L x)
+log2-one x = float-one (L x)
