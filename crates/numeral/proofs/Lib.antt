@@ -1,0 +1,4 @@
+pub mod IntegerScan
+pub mod IntegerRange
+pub mod IntegerLanguage
+pub mod IntegerTheorems

@@ -1,0 +1,2 @@
+pub mod IntegerText
+pub mod Integer
