@@ -1,4 +1,6 @@
 pub mod Lines
 pub mod Characters
+pub mod Reading
 pub mod Cut
 pub mod Utf8Machine
+pub mod Trim

@@ -2,3 +2,4 @@
 // line's token. Nothing is copied: every part is a start and an end in the whole text.
 pub mod lines;
 pub mod utf8;
+pub mod white;
