@@ -4,3 +4,4 @@ pub mod Reading
 pub mod Cut
 pub mod Utf8Machine
 pub mod Trim
+pub mod ReadLine

@@ -17,7 +17,7 @@ pub record Reading : Type 1 where
 abbrev pub WhiteSpace : ℕ → Type 0
 WhiteSpace c =
     Among (span 0x0009 0x000D ∷ span 0x0020 0x0020 ∷ span 0x0085 0x0085 ∷ span 0x00A0 0x00A0 ∷ span 0x1680 0x1680 ∷
-    span 0x2000 0x200A ∷ span 0x2028 0x2029 ∷ span 0x202F 0x202F ∷ span 0x205F 0x205F ∷ span 0x3000 0x3000 ∷ []) c
+    span 0x2000 0x200A ∷ span 0x2028 0x2028 ∷ span 0x2029 0x2029 ∷ span 0x202F 0x202F ∷ span 0x205F 0x205F ∷ span 0x3000 0x3000 ∷ []) c
 
 -- an empty line, or one that starts with `!` (33)
 pub data EmptyOrComment (m : List ℕ) : Type 0 where
@@ -40,7 +40,7 @@ pub record Trimmed (White : ℕ → Type 0) (bytes : ℕ → List ℕ) (s m : Li
 
 -- space, tab, LF, form feed, CR: where a token ends (U+000B does not)
 abbrev pub Splits : ℕ → Type 0
-Splits b = Among (span 32 32 ∷ span 9 10 ∷ span 12 13 ∷ []) b
+Splits b = Among (span 32 32 ∷ span 9 9 ∷ span 10 10 ∷ span 12 12 ∷ span 13 13 ∷ []) b
 
 -- nothing, or a byte that splits and more
 abbrev pub Stops : List ℕ → Type 0
