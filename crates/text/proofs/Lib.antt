@@ -12,3 +12,8 @@ pub mod WhiteSpaces
 pub mod TrimLanguage
 pub mod Tokens
 pub mod LineReads
+pub mod TokenLanguage
+pub mod LineLanguage
+pub mod Shown
+pub mod Theorems
+pub mod Samples
