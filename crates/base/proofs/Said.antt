@@ -1,24 +1,55 @@
--- Two results of one input are equal: the general laws, of which each public call has a line. Assumes nothing.
+-- Two results of one input are equal: the general law, of which each public call has a line. Assumes nothing.
 use mathlib.Core.Path.{_≡_, refl, sym, _∙_, ap}
+use mathlib.Core.Logic.{_⊎_, inl, inr}
 use Prim.Native.Nat.{ℕ}
+use native.Mathlib.Omega.{arith}
 use Rattle.base.specs.Said.{Said, gives, refuses, refusal}
 use Rattle.base.specs.declared.Refusal.{Refusal}
 
--- where a contract names the result
-pub one-result : {A : Type 0} {x y s : A} → x ≡ s → y ≡ s → x ≡ y
-one-result p q = p ∙ sym q
+-- a contract `says r ≡ s` leaves one result
+abbrev pub One : {A B : Type 0} → (A → B) → B → Type 0
+One {A} {B} says s = (x y : A) → says x ≡ s → says y ≡ s → x ≡ y
 
--- where a contract names what the result says, and no two results say the same
-pub one-saying : {A B : Type 0} (says : A → B) → ((x y : A) → says x ≡ says y → x ≡ y) → (x y : A) {s : B} → says x ≡ s → says y ≡ s → x ≡ y
-one-saying says apart x y p q = apart x y (p ∙ sym q)
+-- a contract `r ≡ s` does
+pub one-result : {A : Type 0} (s : A) → One (λ r. r) s
+one-result s x y p q = p ∙ sym q
 
--- a value said determines the value
-pub same-value : {A : Type 0} (x y : A) → gives x ≡ gives y → x ≡ y
-same-value x y e = cc
+-- an answer is a value or a refusal
+abbrev pub Split : {X A : Type 0} → (A → X) → (Refusal → X) → Type 0
+Split {X} {A} is refused = (x : X) → ((a : A) × (x ≡ is a)) ⊎ ((r : Refusal) × (x ≡ refused r))
 
 -- a refusal said determines the refusal
-pub same-refusal : {A : Type 0} (r s : Refusal) → refusal {A = A} r ≡ refusal {A = A} s → r ≡ s
+same-refusal : {A : Type 0} (r s : Refusal) → refusal {A = A} r ≡ refusal {A = A} s → r ≡ s
 same-refusal r s e =
     let n : r .number ≡ s .number = cc in
     let d : r .detail ≡ s .detail = cc in
     λ i. record { number = n i; detail = d i }
+
+-- a value said determines the value
+same-value : {A : Type 0} (x y : A) → gives x ≡ gives y → x ≡ y
+same-value x y e = cc
+
+-- a value is no refusal
+value-or-refusal : {A : Type 0} {a : A} {r : Refusal} → gives a ≡ refusal r → ⊥
+value-or-refusal e = let no : _≡_ {A = ℕ} 0 1 = cc in omega arith
+
+-- and so does `says r ≡ s`, where `says` tells a value from a refusal and one value from another
+module _ {X A B : Type 0} {is : A → X} {refused : Refusal → X} (split : Split is refused) (says : X → Said B) (value : A → B) (apart : (a b : A) → value a ≡ value b → a ≡ b) (gave : (a : A) → says (is a) ≡ gives (value a)) (refuse : (r : Refusal) → says (refused r) ≡ refusal r) where
+  same-said : (x y : X) → says x ≡ says y → x ≡ y
+  same-said x y e = elim (split x) [
+    | inl u ↦ elim (split y) [
+      | inl v ↦ u .1 ∙ ap is (apart (u .0) (v .0) (same-value _ _ (sym (gave (u .0)) ∙ ap says (sym (u .1)) ∙ e ∙ ap says (v .1) ∙ gave (v .0)))) ∙ sym (v .1)
+      | inr v ↦ absurd (value-or-refusal (sym (gave (u .0)) ∙ ap says (sym (u .1)) ∙ e ∙ ap says (v .1) ∙ refuse (v .0)))
+    ]
+    | inr u ↦ elim (split y) [
+      | inl v ↦ absurd (value-or-refusal (sym (gave (v .0)) ∙ ap says (sym (v .1)) ∙ sym e ∙ ap says (u .1) ∙ refuse (u .0)))
+      | inr v ↦ u .1 ∙ ap refused (same-refusal (u .0) (v .0) (sym (refuse (u .0)) ∙ ap says (sym (u .1)) ∙ e ∙ ap says (v .1) ∙ refuse (v .0))) ∙ sym (v .1)
+    ]
+  ]
+
+  pub one-answer : (s : Said B) → One says s
+  one-answer s x y p q = same-said x y (p ∙ sym q)
+
+-- where the value said is the value itself
+pub one-plain : {X A : Type 0} {is : A → X} {refused : Refusal → X} → Split is refused → (says : X → Said A) → ((a : A) → says (is a) ≡ gives a) → ((r : Refusal) → says (refused r) ≡ refusal r) → (s : Said A) → One says s
+one-plain split says gave refuse = one-answer split says (λ a. a) (λ a b e. e) gave refuse

@@ -4,17 +4,16 @@ use mathlib.Core.Path.{_≡_, refl, sym, _∙_, ap}
 use mathlib.Core.List.{List, [], _∷_}
 use mathlib.Core.Bool.{Bool, true, false}
 use mathlib.Core.Logic.{_↔_}
-use Prim.Native.Nat.{ℕ, zero, suc, _+_, _-_, _*_, _^_, _≤_, _<_}
-use native.Mathlib.Nat.{pow-succ', mul-assoc, mul-comm, add-mul, add-assoc}
+use Prim.Native.Nat.{ℕ, suc, _+_, _-_, _*_, _^_, _≤_, _<_}
+use native.Mathlib.Nat.{pow-succ', mul-assoc, add-mul}
 use native.Mathlib.Omega.{arith}
-use lib.ListN.{length, getD, take, drop}
+use lib.ListN.{length}
 use lib.Dec.{leb, ltb, eqb}
-use lib.IntN.{ℤ, pos, negsuc, negℤ}
-use borrow.Author.Tests.{lt-ltb, le-ltb, le-leb, lt-leb, leb-true, leb-false, ltb-false, ltb-true, eqb-true, eq-eqb, ne-eqb, eqb-false}
+use lib.IntN.{ℤ, pos, negℤ}
+use borrow.Author.Tests.{le-leb, leb-true, ltb-false, eqb-true, ne-eqb}
 use Rattle.base.specs.Said.{pick}
 use Rattle.numeral.specs.Integer.{scan, magnitudeOf, digit, value, none, signedOf, readInt, plus, minus, readSigned}
 use Rattle.numeral.specs.IntegerText.{decimal, AllDigits, Digits, IntText}
-use Rattle.numeral.specs.declared.integer.Signed.{Signed}
 use Rattle.numeral.specs.declared.integer.Signed.the-variants as signed
 use Rattle.numeral.specs.declared.integer.Magnitude.{Magnitude}
 use Rattle.numeral.specs.declared.integer.Magnitude.the-variants as magnitude

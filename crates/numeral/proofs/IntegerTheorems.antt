@@ -6,9 +6,9 @@ use mathlib.Core.Bool.{Bool, true, false}
 use mathlib.Core.Logic.{_↔_}
 use Prim.Native.Nat.{ℕ, _^_, _<_}
 use native.Mathlib.Omega.{arith}
-use lib.IntN.{ℤ, pos, negsuc, natAbs}
-use Rattle.base.proofs.Said.{one-saying}
-use Rattle.base.proofs.Apart.{apart-by}
+use lib.IntN.{ℤ, natAbs}
+use Rattle.base.proofs.Said.{One}
+use Rattle.base.proofs.Apart.{one-back}
 use Rattle.numeral.specs.Integer.{Int, value, none, readInt, u16Of, u32Of, i16Of, i32Of}
 use Rattle.numeral.specs.IntegerText.{IntText}
 use Rattle.numeral.specs.declared.integer.U16.{U16}
@@ -77,29 +77,16 @@ unfolding toI32
 same-i32 (i32.Is z) = refl
 same-i32 i32.IsNot = refl
 
--- no two answers say the same
-pub U16-apart : (x y : U16) → u16Of x ≡ u16Of y → x ≡ y
-U16-apart = apart-by u16Of toU16 same-u16
-
-pub U32-apart : (x y : U32) → u32Of x ≡ u32Of y → x ≡ y
-U32-apart = apart-by u32Of toU32 same-u32
-
-pub I16-apart : (x y : I16) → i16Of x ≡ i16Of y → x ≡ y
-I16-apart = apart-by i16Of toI16 same-i16
-
-pub I32-apart : (x y : I32) → i32Of x ≡ i32Of y → x ≡ y
-I32-apart = apart-by i32Of toI32 same-i32
-
 -- two results of one input are equal, for each call
 module _ (s : List ℕ) where
-  pub read-u16-one : (x y : U16) → u16Of x ≡ readInt false (2 ^ 16) s → u16Of y ≡ readInt false (2 ^ 16) s → x ≡ y
-  read-u16-one x y = one-saying u16Of U16-apart x y
+  pub read-u16-one : One u16Of (readInt false (2 ^ 16) s)
+  read-u16-one = one-back u16Of toU16 same-u16 (readInt false (2 ^ 16) s)
 
-  pub read-u32-one : (x y : U32) → u32Of x ≡ readInt false (2 ^ 32) s → u32Of y ≡ readInt false (2 ^ 32) s → x ≡ y
-  read-u32-one x y = one-saying u32Of U32-apart x y
+  pub read-u32-one : One u32Of (readInt false (2 ^ 32) s)
+  read-u32-one = one-back u32Of toU32 same-u32 (readInt false (2 ^ 32) s)
 
-  pub read-i16-one : (x y : I16) → i16Of x ≡ readInt true (2 ^ 15) s → i16Of y ≡ readInt true (2 ^ 15) s → x ≡ y
-  read-i16-one x y = one-saying i16Of I16-apart x y
+  pub read-i16-one : One i16Of (readInt true (2 ^ 15) s)
+  read-i16-one = one-back i16Of toI16 same-i16 (readInt true (2 ^ 15) s)
 
-  pub read-i32-one : (x y : I32) → i32Of x ≡ readInt true (2 ^ 31) s → i32Of y ≡ readInt true (2 ^ 31) s → x ≡ y
-  read-i32-one x y = one-saying i32Of I32-apart x y
+  pub read-i32-one : One i32Of (readInt true (2 ^ 31) s)
+  read-i32-one = one-back i32Of toI32 same-i32 (readInt true (2 ^ 31) s)

@@ -10,8 +10,7 @@ use Rattle.base.specs.Said.{pick}
 use Rattle.base.proofs.Pick.{true-not-false}
 use Rattle.text.specs.Characters.{Row}
 use Rattle.text.specs.Cut.{lines}
-use Rattle.text.specs.Lines.{Lines}
-use Rattle.text.specs.Reading.{Reading, strict, Trimmed, Token, Meaning, invalid, dropped, content, Line, EachLine, Says}
+use Rattle.text.specs.Reading.{Reading, strict, Trimmed, Meaning, invalid, dropped, content, Line, EachLine, Says}
 use Rattle.text.specs.ReadLine.{tokenLength, Way, strictly, partMeaning, meaningBy, meanings}
 use Rattle.text.specs.Trim.{trimBy}
 use Rattle.text.proofs.LinesLanguage.{the-lines, one-lines}

@@ -1,7 +1,7 @@
 -- The parts that an answer gives by start and end are those of the line, in the whole text; and THE LAW OF A READER'S TURN: what
 -- `next_line` and `read_line` answer is the first of what the text still says. Assumes nothing.
 use mathlib.Core.Path.{_≡_, refl, sym, _∙_, ap}
-use mathlib.Core.List.{List, [], _∷_, _++_, append-assoc, reverse}
+use mathlib.Core.List.{List, _∷_, _++_, append-assoc, reverse}
 use mathlib.Core.Bool.{Bool, true, false}
 use Prim.Native.Nat.{ℕ, _+_, _-_, _≤_, _<_}
 use native.Mathlib.Nat.{add-sub-cancel-left}
@@ -10,13 +10,13 @@ use lib.ListN.{length, take, drop, length-append, length-drop, take-append-drop}
 use lib.Seq.{drop-drop, drop-append-le, take-append-le, take-length}
 use Rattle.base.specs.Said.{pick}
 use Rattle.text.specs.Cut.{lines, cut}
-use Rattle.text.specs.Reading.{Meaning, invalid, dropped, content}
+use Rattle.text.specs.Reading.{invalid, dropped, content}
 use Rattle.text.specs.ReadLine.{tokenLength, Way, part, partMeaning, partAt, meaningBy, meanings, lineBy, lineOf, shown}
-use Rattle.text.specs.Trim.{run, keepBy, trimBy}
+use Rattle.text.specs.Trim.{run, trimBy}
 use Rattle.text.specs.declared.line.LineSays.{LineSays}
 use Rattle.text.specs.declared.line.LineSays.the-variants.{NotUtf8, Dropped, Content}
 use Rattle.text.specs.declared.lines.Ends.{Ends}
-use Rattle.text.proofs.Cuts.{Turn, turn}
+use Rattle.text.proofs.Cuts.{turn}
 use Rattle.text.proofs.Runs.{run-le}
 use Rattle.text.proofs.Tokens.{token-le}
 

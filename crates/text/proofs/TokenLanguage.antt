@@ -7,12 +7,12 @@ use mathlib.Core.Logic.{_↔_, _⊎_, inl, inr}
 use Prim.Native.Nat.{ℕ, suc, _≤_}
 use native.Mathlib.Omega.{arith}
 use lib.Dec.{eqb}
-use lib.ListN.{length, take, drop, take-append-drop}
+use lib.ListN.{length, take}
 use lib.Seq.{take-at}
 use borrow.Author.Tests.{eq-eqb, eqb-true}
 use Rattle.base.specs.Said.{pick}
 use Rattle.base.proofs.Pick.{true-not-false}
-use Rattle.text.specs.Characters.{Each, Span, span, Among}
+use Rattle.text.specs.Characters.{Each, span, Among}
 use Rattle.text.specs.Reading.{EmptyOrComment, Splits, Stops, Token}
 use Rattle.text.specs.ReadLine.{splits, tokenLength, emptyOrComment}
 

@@ -1,6 +1,6 @@
 -- THE THEOREM OF TRIMMING for document 01's reading: what the code leaves of a line is the line trimmed of Unicode White_Space at
 -- both ends, and nothing else is. Assumes nothing.
-use mathlib.Core.Path.{_≡_, refl, sym, _∙_, ap}
+use mathlib.Core.Path.{_≡_, refl, _∙_, ap}
 use mathlib.Core.List.{List, [], _∷_, _++_, reverse}
 use mathlib.Core.Bool.{Bool, true, false}
 use Prim.Native.Nat.{ℕ, _<_}
@@ -10,7 +10,7 @@ use Rattle.text.specs.Characters.{encode}
 use Rattle.text.specs.Reading.{WhiteSpace, Trimmed}
 use Rattle.text.specs.Trim.{white1, white2, white3, back2, back3, widthOf, widthBy, front, back, trimBy}
 use Rattle.text.proofs.Widths.{Hit, front-hit, back-hit, front-fits, back-fits}
-use Rattle.text.proofs.WhiteSpaces.{Lead, Shape, shape, Written, is1, is2, is3, lead2, lead3, lead-last}
+use Rattle.text.proofs.WhiteSpaces.{Lead, Shape, shape, is1, is2, is3, lead2, lead3, lead-last}
 use Rattle.text.proofs.Rows.{Measures}
 use Rattle.text.proofs.Trims as trims
 

@@ -1,20 +1,20 @@
 -- THE THEOREM OF UTF-8: the machine accepts exactly the rows of encoded scalar values (document 01, "Lines": "Each line, comment
 -- or not, must be UTF-8"). Assumes nothing.
-use mathlib.Core.Path.{_≡_, refl, sym, _∙_, ap}
-use mathlib.Core.List.{List, [], _∷_, _++_, append-assoc}
+use mathlib.Core.Path.{_≡_, refl, _∙_, ap}
+use mathlib.Core.List.{List, [], _∷_, _++_}
 use mathlib.Core.Bool.{Bool, true, false}
-use mathlib.Core.Logic.{_↔_, _⊎_, inl, inr, ⊎-elim}
+use mathlib.Core.Logic.{_↔_, inl, inr, ⊎-elim}
 use Prim.Native.Nat.{ℕ, zero, suc, _+_, _-_, _*_, _/_, _%_, _≤_, _<_}
 use native.Mathlib.Omega.{arith}
-use lib.Dec.{leb, ltb, eqb}
-use borrow.Author.Tests.{lt-ltb, le-ltb, ltb-true, ltb-false, eq-eqb, ne-eqb, eqb-true, eqb-false}
+use lib.Dec.{ltb}
+use borrow.Author.Tests.{ltb-true, ltb-false, ne-eqb, eqb-true}
 use Rattle.base.specs.Said.{pick}
 use Rattle.text.specs.Characters.{Scalar, Each, encode, written, Utf8}
 use Rattle.text.specs.Utf8Machine.{state, start, Entry, lookup, entries, leadOf, stepOf, onward, runOf}
 use Rattle.text.specs.declared.utf8.State.{State}
 use Rattle.text.specs.declared.utf8.Step.{Step}
 use Rattle.text.specs.declared.utf8.Step.the-variants.{Go, Stop}
-use Rattle.text.proofs.Utf8Steps.{lead-at, step-low, step-high, step-in, step-lead}
+use Rattle.text.proofs.Utf8Steps.{lead-at, step-in, step-lead}
 use Rattle.text.proofs.Encodings.{enc1, enc2, enc3, enc4, split}
 
 differ : _≡_ {A = ℕ} 0 1 → ⊥

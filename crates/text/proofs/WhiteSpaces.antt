@@ -1,19 +1,19 @@
 -- Unicode White_Space in UTF-8, byte by byte: each character of the set is one, two or three bytes that the tests of `Trim` hold
 -- for, and bytes that they hold for are such a character. Assumes nothing.
-use mathlib.Core.Path.{_≡_, refl, sym, _∙_, ap}
+use mathlib.Core.Path.{_≡_, refl, sym, _∙_}
 use mathlib.Core.List.{List, [], _∷_}
 use mathlib.Core.Bool.{Bool, true, false}
 use mathlib.Core.Logic.{_⊎_, inl, inr, ⊎-elim}
 use Prim.Native.Nat.{ℕ, _+_, _-_, _/_, _%_, _≤_, _<_}
 use native.Mathlib.Omega.{arith}
 use lib.Dec.{ltb, eqb}
-use borrow.Author.Tests.{lt-ltb, le-ltb, ltb-true, ltb-false, eq-eqb, ne-eqb, eqb-true}
+use borrow.Author.Tests.{lt-ltb, le-ltb, ltb-true, ltb-false, ne-eqb, eqb-true}
 use Rattle.base.specs.Said.{pick}
 use Rattle.base.proofs.Pick.{pick-both, pick-never, true-not-false}
 use Rattle.text.specs.Characters.{encode}
 use Rattle.text.specs.Reading.{WhiteSpace}
 use Rattle.text.specs.Trim.{white1, white2, white3, general}
-use Rattle.text.proofs.Encodings.{enc1, enc2, enc3}
+use Rattle.text.proofs.Encodings.{enc1, enc3}
 
 -- a byte that starts a character: it continues none
 abbrev pub Lead : ℕ → Type 0

@@ -1,12 +1,11 @@
 -- The laws of `widthBy`, in either direction: what it finds stands there, so that it fits. Assumes nothing.
-use mathlib.Core.Path.{_≡_, refl, sym, _∙_, ap}
+use mathlib.Core.Path.{_≡_, refl, ap}
 use mathlib.Core.List.{List, [], _∷_}
 use mathlib.Core.Bool.{Bool, true, false}
-use Prim.Native.Nat.{ℕ, _≤_, _<_}
+use Prim.Native.Nat.{ℕ, _≤_}
 use native.Mathlib.Omega.{arith}
 use lib.Dec.{eqb}
 use lib.ListN.{length, getD}
-use Rattle.base.specs.Said.{pick}
 use Rattle.base.proofs.Pick.{pick-never}
 use Rattle.text.specs.Trim.{white1, white2, white3, back2, back3, widthOf, widthBy, front, back}
 

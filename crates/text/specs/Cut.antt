@@ -1,7 +1,7 @@
 -- Document 01, "Lines": the lines of a text as the code walks it. `Lines` says what they are, `proofs/LinesLanguage` that the two
 -- agree. Assumes nothing.
 use mathlib.Core.List.{List, [], _∷_}
-use mathlib.Core.Bool.{Bool, true, false}
+use mathlib.Core.Bool.{Bool, false}
 use Prim.Native.Nat.{ℕ, suc, _+_}
 use lib.Dec.{eqb}
 use Rattle.base.specs.Said.{pick}

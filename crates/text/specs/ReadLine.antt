@@ -1,12 +1,11 @@
 -- Document 01, "Lines": what a line says, as the code finds it, with the start and the end of each part in the whole text.
 -- `Reading` says what a line says, `proofs/LineLanguage` that the two agree. Assumes nothing.
 use mathlib.Core.List.{List, [], _∷_}
-use mathlib.Core.Bool.{Bool, true, false}
+use mathlib.Core.Bool.{Bool, true}
 use Prim.Native.Nat.{ℕ, suc, _+_, _-_}
 use lib.Dec.{eqb}
 use lib.ListN.{length, take, drop}
 use Rattle.base.specs.Said.{pick}
-use Rattle.text.specs.Cut.{lines}
 use Rattle.text.specs.Reading.{Meaning, invalid, dropped, content}
 use Rattle.text.specs.Trim.{front, back, run, trimBy}
 use Rattle.text.specs.Utf8Machine.{start, runOf}

@@ -1,7 +1,7 @@
 -- Whether a text is UTF-8, as the code finds it byte by byte. `Characters` says what UTF-8 is, `proofs/Utf8Language` that the two
 -- agree. Assumes nothing.
 use mathlib.Core.List.{List, [], _∷_}
-use mathlib.Core.Bool.{Bool, true, false}
+use mathlib.Core.Bool.{Bool, false}
 use Prim.Native.Nat.{ℕ, _-_}
 use lib.Dec.{ltb, eqb}
 use Rattle.base.specs.Said.{pick}

@@ -1,12 +1,12 @@
 -- `read_magnitude` answers the number that the digits from `from` on write, within `top`.
 -- Invariant: what all of them are is what the rest from `i` on makes of the number so far, which is within `top`.
-use mathlib.Core.Path.{_≡_, sym, _∙_, refl}
-use Prim.Native.Nat.{ℕ, _≤_, _<_, _-_, _+_, _*_}
+use mathlib.Core.Path.{_≡_, sym, _∙_}
+use Prim.Native.Nat.{_≤_, _-_, _+_, _*_}
 use denote.Ref.{now}
 use native.Mathlib.Omega.{arith}
 use borrow.Author.Needs.{needs}
-use lib.ListN.{length, drop, getD}
-use Rattle.numeral.specs.Integer.{scan, magnitudeOf, digit}
+use lib.ListN.{length, drop}
+use Rattle.numeral.specs.Integer.{scan, magnitudeOf}
 use Rattle.numeral.proofs.IntegerScan.{digit-yes, digit-low, digit-high, scan-step, scan-stop, scan-over, scan-end, mag-none, mag-scan}
 use Rattle.numeral.proofs.integer.read_magnitude.Statement.{statement}
 use Rattle.numeral.proofs.integer.read_magnitude.Tie as tie

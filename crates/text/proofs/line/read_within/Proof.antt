@@ -1,11 +1,8 @@
 -- `read_within` answers what a line says: not UTF-8, or what its rest says after the white space at its start.
 -- No loop.
 use native.Mathlib.Omega.{arith}
-use Prim.Native.Nat.{_≤_, _-_}
-use mathlib.Core.Path.{_≡_}
 use borrow.Author.Needs.{needs}
 use denote.Ref.{now}
-use lib.ListN.{length}
 use Rattle.text.specs.ReadLine.{part}
 use Rattle.text.proofs.LineReads.{ahead-le, part-length, rest-within, line-empty, line-not, line-is}
 use Rattle.text.proofs.line.read_within.Statement.{statement}

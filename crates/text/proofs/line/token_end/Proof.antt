@@ -1,10 +1,8 @@
 -- `token_end` answers how long the token is that the slice starts with.
 -- Invariant: it is `i` bytes long and the token from `i` on.
-use mathlib.Core.Path.{_≡_}
 use Prim.Native.Nat.{_-_, _≤_}
 use native.Mathlib.Omega.{arith}
 use borrow.Author.Needs.{needs}
-use denote.Ref.{now}
 use lib.ListN.{length}
 use Rattle.text.proofs.Tokens.{Along, token-turn, token-stop, token-all}
 use Rattle.text.proofs.line.token_end.Statement.{statement}

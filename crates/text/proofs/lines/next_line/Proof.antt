@@ -2,10 +2,10 @@
 -- Invariant: the cut of the text from `at` on is that of the rest from `i` on.
 use mathlib.Core.Path.{_≡_, refl, sym, _∙_}
 use mathlib.Core.Logic.{⊎-elim}
-use Prim.Native.Nat.{ℕ, _≤_, _<_, _-_, _+_}
+use Prim.Native.Nat.{_≤_, _-_}
 use native.Mathlib.Omega.{arith}
 use denote.Ref.{now}
-use lib.ListN.{length, drop, getD}
+use lib.ListN.{length, drop}
 use Rattle.text.specs.Cut.{cut}
 use Rattle.text.proofs.Cuts.{cut-lf, cut-crlf, cut-on, cut-end, no-cr, cr-last, cr-alone}
 use Rattle.text.proofs.lines.next_line.Statement.{statement}

@@ -1,6 +1,6 @@
 -- `advance` answers the state after one more byte.
 -- No loop.
-use mathlib.Core.Path.{_≡_, refl, sym, _∙_, ap}
+use mathlib.Core.Path.{sym, _∙_}
 use Rattle.text.proofs.Utf8Steps.{step-lead, step-low, step-high, step-in}
 use borrow.Author.Needs.{needs}
 use Rattle.text.proofs.utf8.advance.Statement.{statement}

@@ -1,7 +1,7 @@
 -- `is_utf8` answers whether the machine accepts the text.
 -- Invariant: the machine's answer on all of it is its answer on the rest from `i` on, in the state reached.
-use mathlib.Core.Path.{_≡_, refl, sym, _∙_, ap}
-use Prim.Native.Nat.{ℕ, _≤_, _<_, _-_, _+_}
+use mathlib.Core.Path.{_≡_, refl, sym, _∙_}
+use Prim.Native.Nat.{_≤_, _-_}
 use native.Mathlib.Omega.{arith}
 use borrow.Author.Needs.{needs}
 use lib.ListN.{length, drop}

@@ -1,6 +1,6 @@
 -- `lead` answers what a first byte asks: at each way out, the law of an entry at its number.
 -- No loop.
-use mathlib.Core.Path.{_≡_, refl, sym, _∙_, ap}
+use mathlib.Core.Path.{sym, _∙_}
 use Rattle.text.proofs.Utf8Steps.{lead-at}
 use borrow.Author.Needs.{needs}
 use Rattle.text.proofs.utf8.lead.Statement.{statement}

@@ -1,6 +1,5 @@
 -- `byte_before` answers the byte at a place of what stands before `e`, read from its end, or 0 before its start.
 -- No loop.
-use native.Mathlib.Omega.{arith}
 use borrow.Author.Needs.{needs}
 use Rattle.text.proofs.Backwards.{back-at, back-none}
 use Rattle.text.proofs.white.byte_before.Statement.{statement}

@@ -3,8 +3,6 @@
 use mathlib.Core.Path.{_≡_}
 use Prim.Native.Nat.{_+_, _-_, _≤_}
 use native.Mathlib.Omega.{arith}
-use borrow.Author.Needs.{needs}
-use denote.Ref.{now}
 use lib.ListN.{length, drop}
 use Rattle.text.specs.Trim.{front, run}
 use Rattle.text.proofs.Runs.{ahead-turn, ahead-stop, ahead-end}

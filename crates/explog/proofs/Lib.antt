@@ -1,0 +1,14 @@
+pub mod Every
+pub mod Entries
+pub mod Bound
+pub mod Turns
+pub mod Floor
+pub mod Range
+pub mod Plain
+pub mod Diff
+pub mod Units
+pub mod LiteralE
+pub mod LiteralL
+pub mod EndsE
+pub mod EndsL
+pub mod Meaning

@@ -1,0 +1,85 @@
+-- E on natural numbers alone is E as the rules have it. Assumes nothing.
+use mathlib.Core.Path.{_≡_, refl, sym, ap, _∙_}
+use mathlib.Core.Bool.{Bool, true, false, cond}
+use Prim.Native.Nat.{ℕ, zero, suc, _+_, _-_, _*_, _/_, _%_, _^_, _≤_, _<_}
+use native.Mathlib.Nat.{le-trans, le-of-eq, add-comm, add-mul, suc-mul, mul-comm, mul-assoc, mul-right-comm, mul-one, mul-sub, mul-div-cancel, div-add-mod', mod-lt, zero-div, le-of-mul-le-mul-right, mul-le-mul-right, div-lt-iff-lt-mul}
+use native.Mathlib.Omega.{arith}
+use lib.Dec.{T, lit≤, lit<}
+use lib.Arith.{digits-div}
+use lib.Pow.{pow-add, pow-pos}
+use lib.IntN.{ℤ, pos, negsuc, _-ℤ_}
+use lib.Ieee.{Float, fin, binary64, fits, up, down, round}
+use lib.Ieee.Fits.{down-pos}
+use lib.Ieee.Nearest.{div-same}
+use lib.Ieee.Scale.{finite, round-same}
+use Rattle.floats.specs.Units.{unitsOf, negative}
+use Rattle.explog.proofs.Floor.{plus}
+use Rattle.explog.specs.Exp.{pOf}
+use Rattle.base.specs.Integers.{floorDiv, floorMod}
+use Rattle.explog.specs.Rules.{signed, floorOf, timesPower, powerOf}
+use Rattle.explog.proofs.Plain.{plainFloor, plainPower}
+use Rattle.explog.proofs.Diff.{Diff, add, moved}
+use Rattle.explog.proofs.Units.{whole-units}
+
+-- ---- the floor, moved up by Q
+floor-diff : (s : Bool) (Q A D : ℕ) → 0 < D → A ≤ Q * D → Diff (floorDiv (signed s A) D) (cond s (Q * D - A) (Q * D + A) / D) Q
+floor-diff false Q A D p h = plus Q D A p ∙ add-comm Q (A / D)
+floor-diff true Q zero D p h =
+    let z : Q * D - 0 ≡ Q * D = omega arith in
+    let w : 0 / D ≡ 0 = zero-div D in
+    ap (λ (x : ℕ). x / D) z ∙ mul-div-cancel Q p ∙ omega arith
+floor-diff true Q (suc a) D p h =
+    let q = a / D in
+    let r = a % D in
+    let e : q * D + r ≡ a = div-add-mod' a D in
+    let l : r < D = mod-lt a p in
+    let k : q < Q = div-lt-iff-lt-mul p .1 h in
+    let s : Q - suc q + suc q ≡ Q = omega arith in
+    let m : (Q - suc q) * D + suc q * D ≡ Q * D = sym (add-mul (Q - suc q) (suc q) D) ∙ ap (λ (x : ℕ). x * D) s in
+    let n : suc q * D ≡ q * D + D = suc-mul q D in
+    let b : D - suc r < D = omega arith in
+    let d : Q * D - suc a ≡ (Q - suc q) * D + (D - suc r) = omega arith in
+    ap (λ (x : ℕ). x / D + suc q) d ∙ ap (λ (x : ℕ). x + suc q) (digits-div (Q - suc q) b) ∙ s
+
+-- two fractions of the same size
+same-floor : (s : Bool) (Q A D u M : ℕ) → 0 < D → 0 < M → A * M ≡ u * D → cond s (Q * D - A) (Q * D + A) / D ≡ cond s (Q * M - u) (Q * M + u) / M
+same-floor false Q A D u M p q e = div-same (Q * D + A) D (Q * M + u) M p q (add-mul (Q * D) A M ∙ ap (λ (x : ℕ). x + A * M) (mul-right-comm Q D M) ∙ ap (λ (x : ℕ). Q * M * D + x) e ∙ sym (add-mul (Q * M) u D))
+same-floor true Q A D u M p q e =
+    div-same (Q * D - A) D (Q * M - u) M p q
+    (mul-comm (Q * D - A) M ∙ mul-sub M (Q * D) A
+    ∙ (λ i. (mul-comm M (Q * D) ∙ mul-right-comm Q D M ∙ mul-comm (Q * M) D) i - (mul-comm M A ∙ e ∙ mul-comm u D) i)
+    ∙ sym (mul-sub D (Q * M) u) ∙ mul-comm D (Q * M - u))
+
+-- ---- the power
+split : (f : ℤ) (F : ℕ) → Diff f F (2 ^ 62) → Diff (floorDiv f (2 ^ 52)) (F / 2 ^ 52) 1024 × (floorMod f (2 ^ 52) ≡ F % 2 ^ 52)
+split (pos a) F h = (omega arith, omega arith)
+split (negsuc a) F h = (omega arith, omega arith)
+
+times-power : (P : ℕ) (z : ℤ) (N : ℕ) → Diff z N 1086 → timesPower P z ≡ round binary64 false (P * 2 ^ N) (2 ^ 1086)
+unfolding timesPower
+times-power P (pos n) N h =
+    round-same binary64 false (P * 2 ^ n) 1 (P * 2 ^ N) (2 ^ 1086) (lit< tt) (pow-pos 1086)
+    (mul-assoc P (2 ^ n) (2 ^ 1086) ∙ ap (λ (x : ℕ). P * x) (sym (pow-add 2 n 1086) ∙ ap (λ (x : ℕ). 2 ^ x) (sym h)) ∙ sym (mul-one (P * 2 ^ N)))
+times-power P (negsuc n) N h =
+    round-same binary64 false (P * 1) (2 ^ suc n) (P * 2 ^ N) (2 ^ 1086) (pow-pos (suc n)) (pow-pos 1086)
+    (ap (λ (x : ℕ). x * 2 ^ 1086) (mul-one P) ∙ ap (λ (x : ℕ). P * 2 ^ x) (sym h) ∙ ap (λ (x : ℕ). P * x) (pow-add 2 N (suc n)) ∙ sym (mul-assoc P (2 ^ N) (2 ^ suc n)))
+
+power-literal : (f : ℤ) (F : ℕ) → Diff f F (2 ^ 62) → plainPower F ≡ powerOf f
+unfolding plainPower powerOf
+power-literal f F h =
+    let s = split f F h in
+    let n = floorDiv f (2 ^ 52) in
+    let d : Diff (n -ℤ pos 62) (F / 2 ^ 52) 1086 = moved (n -ℤ pos 62) (F / 2 ^ 52 + 0) 1086 (F / 2 ^ 52) 1086 (omega arith) (add n (negsuc 61) (F / 2 ^ 52) 1024 0 62 (s .0) refl) in
+    ap (λ (b : ℕ). round binary64 false (pOf b 52 * 2 ^ (F / 2 ^ 52)) (2 ^ 1086)) (sym (s .1)) ∙ sym (times-power (pOf (floorMod f (2 ^ 52)) 52) (n -ℤ pos 62) (F / 2 ^ 52) d)
+
+-- ---- E
+pub e-literal : (x : Float) → T (fits binary64 x) → T (finite x) → unitsOf x ≤ 900 * 2 ^ 1074 → plainPower (plainFloor x) ≡ powerOf (floorOf x)
+unfolding plainFloor floorOf negative
+e-literal (fin s m e) p h b =
+    let D = down e in
+    let A = m * up e * 2 ^ 52 in
+    let u = unitsOf (fin s m e) in
+    let v : A * 2 ^ 1022 ≡ u * D = mul-assoc (m * up e) (2 ^ 52) (2 ^ 1022) ∙ whole-units (fin s m e) p h .1 in
+    let l : A ≤ 2 ^ 62 * D = le-of-mul-le-mul-right (le-trans (le-of-eq v) (le-trans (mul-le-mul-right D (le-trans b (lit≤ tt))) (le-of-eq (mul-right-comm (2 ^ 62) (2 ^ 1022) D)))) (pow-pos 1022) in
+    ap plainPower (sym (same-floor s (2 ^ 62) A D u (2 ^ 1022) (down-pos e) (pow-pos 1022) v))
+    ∙ power-literal (floorDiv (signed s A) D) (cond s (2 ^ 62 * D - A) (2 ^ 62 * D + A) / D) (floor-diff s (2 ^ 62) A D (down-pos e) l)

@@ -1,0 +1,6 @@
+pub mod Root
+pub mod Exp
+pub mod Log
+pub mod Rules
+pub mod Inner
+pub mod Samples

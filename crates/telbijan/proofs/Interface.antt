@@ -1,0 +1,31 @@
+-- From an answer to what the interface for C says of it. Assumes nothing.
+use mathlib.Core.Path.{_≡_, sym, _∙_, ap}
+use Prim.Native.Nat.{ℕ}
+use Rattle.base.specs.Said.{Said, gives, refusal}
+use Rattle.base.specs.declared.Refusal.{Refusal}
+use Rattle.telbijan.specs.Interface.{code, result, kept, mapped}
+
+-- x is what a call answered, told what its contract says of it, and x′ what a match made of it
+module _ {X A : Type 0} (says : X → Said A) {s : Said A} {x x′ : X} (told : says x ≡ s) (is : x ≡ x′) where
+  said : says x′ ≡ s
+  said = ap says (sym is) ∙ told
+
+  -- a value: the result is 0, and v, a part of the value, is stored
+  pub accepted : {a : A} → says x′ ≡ gives a → 0 ≡ result s
+  accepted gave = ap result (sym gave ∙ said)
+
+  pub stored : {a v : A} (old : A) → says x′ ≡ gives a → v ≡ a → v ≡ kept s old
+  stored old gave is-part = is-part ∙ ap (λ s. kept s old) (sym gave ∙ said)
+
+  pub stored-part : {B : Type 0} (part : A → B) {a : A} {v : B} (old : B) → says x′ ≡ gives a → v ≡ part a → v ≡ kept (mapped part s) old
+  stored-part part old gave is-part = is-part ∙ ap (λ s. kept (mapped part s) old) (sym gave ∙ said)
+
+  -- a refusal r: the result is its code, and what was there stays
+  pub refused : (r : Refusal) {n : ℕ} → says x′ ≡ refusal r → n ≡ code (r .number) (r .detail) → n ≡ result s
+  refused r gave coded = coded ∙ ap result (sym gave ∙ said)
+
+  pub stays : (r : Refusal) (old : A) → says x′ ≡ refusal r → old ≡ kept s old
+  stays r old gave = ap (λ s. kept s old) (sym gave ∙ said)
+
+  pub stays-part : {B : Type 0} (part : A → B) (r : Refusal) (old : B) → says x′ ≡ refusal r → old ≡ kept (mapped part s) old
+  stays-part part r old gave = ap (λ s. kept (mapped part s) old) (sym gave ∙ said)

@@ -1,0 +1,26 @@
+//! The proved library beside the Rust that it is a port of: the same inputs to both, every answer compared.
+//!
+//! `oracle` compares and prints a line for each function: cases tried, refusals met, differences. Any difference, and any
+//! function with no case, makes it fail.
+
+mod ffi;
+mod floats;
+mod inputs;
+mod key;
+mod math;
+mod powers;
+mod tally;
+
+use std::process::ExitCode;
+
+fn main() -> ExitCode {
+    // a panic of the Rust is an answer here, and is caught where it is one
+    std::panic::set_hook(Box::new(|_| {}));
+    let mut all = tally::Report::new();
+    math::compare(&mut all);
+    key::compare(&mut all);
+    floats::compare(&mut all);
+    powers::compare(&mut all);
+    powers::report();
+    all.verdict()
+}

@@ -1,0 +1,57 @@
+//! math.rs: the divisions at every limit, every u16 denominator and random pairs; the odd part of every u16.
+
+use crate::ffi;
+use crate::inputs::{Random, i32_limits, u32_limits};
+use crate::tally::{Code, Report, caught};
+use tune::math;
+
+const RANDOM_PAIRS: usize = 2_000_000;
+
+pub fn pairs() -> impl Iterator<Item = (i32, u32)> {
+    let limits = i32_limits().into_iter().flat_map(|numer| u32_limits().into_iter().map(move |denom| (numer, denom)));
+    let denoms = (0..=65_535u32).flat_map(|denom| [i32::MIN, -7, -1, 5, i32::MAX].map(|numer| (numer, denom)));
+    let mut random = Random::new(1);
+    limits.chain(denoms).chain((0..RANDOM_PAIRS).map(move |_| (random.i32(), random.u32())))
+}
+
+/// The Rust's answer, at each denominator type that can hold the denominator; a panic is 10, and there only denominator 0 is one.
+pub fn division(numer: i32, denom: u32) -> (Code, (i32, u32)) {
+    let Some(answer) = caught(|| math::i32_dr_u(numer, denom)) else {
+        assert_eq!(denom, 0);
+        return (Code::refusal(10, 0), (ffi::OLD_I32, ffi::OLD_U32));
+    };
+    if let Ok(short) = u16::try_from(denom) {
+        let (q, r) = math::i32_dr_u(numer, short);
+        assert_eq!(answer, (q, r.into()));
+    }
+    if let Ok(byte) = u8::try_from(denom) {
+        let (q, r) = math::i32_dr_u(numer, byte);
+        assert_eq!(answer, (q, r.into()));
+    }
+    (Code::ACCEPTED, answer)
+}
+
+pub fn compare(all: &mut Report) {
+    all.function("i32_div_u", |tally| {
+        for (numer, denom) in pairs() {
+            let (code, (quotient, _)) = division(numer, denom);
+            tally.same((numer, denom), ffi::i32_div_u(numer, denom), (code, quotient));
+        }
+    });
+    all.function("i32_rem_u", |tally| {
+        for (numer, denom) in pairs() {
+            let (code, (_, remainder)) = division(numer, denom);
+            tally.same((numer, denom), ffi::i32_rem_u(numer, denom), (code, remainder));
+        }
+    });
+    all.function("i32_dr_u", |tally| {
+        for (numer, denom) in pairs() {
+            tally.same((numer, denom), ffi::i32_dr_u(numer, denom), division(numer, denom));
+        }
+    });
+    all.function("odd_factors_u16", |tally| {
+        for number in 0..=u16::MAX {
+            tally.same(number, ffi::odd_factors_u16(number), (Code::ACCEPTED, math::odd_factors_u16(number)));
+        }
+    });
+}
