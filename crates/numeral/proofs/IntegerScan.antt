@@ -11,6 +11,7 @@ use lib.Seq.{drop-cons}
 use borrow.Author.Tests.{lt-ltb, le-ltb, le-leb, lt-leb, eq-eqb, ne-eqb}
 use Rattle.base.specs.Said.{pick}
 use Rattle.numeral.specs.Integer.{scan, magnitudeOf, digit, plus, minus, readSigned}
+use Rattle.numeral.specs.declared.integer.Signed.{Signed}
 use Rattle.numeral.specs.declared.integer.Signed.the-variants as signed
 use Rattle.numeral.specs.declared.integer.Magnitude.{Magnitude}
 use Rattle.numeral.specs.declared.integer.Magnitude.the-variants as magnitude
@@ -56,7 +57,7 @@ pub mag-scan : (top : ℕ) (s : List ℕ) (i : ℕ) → i < length s → magnitu
 unfolding magnitudeOf
 mag-scan top s i h = rw (drop-cons s i 0 h)
 
--- the cases of `readSigned`: m is what a call of `read_magnitude` answered, m′ what a match made of it
+-- the cases of `readSigned`: m is what a call of `read_magnitude` answered, x what its sign made of it
 module _ (sign : Bool) (top : ℕ) where
   pub int-none : (s : List ℕ) → length s ≡ 0 → signed.IsNot ≡ readSigned sign top s
   unfolding readSigned
@@ -68,20 +69,18 @@ module _ (sign : Bool) (top : ℕ) where
   int-unsigned [] h e g = absurd (h refl)
   int-unsigned (b ∷ s) h e g = rw (eq-eqb b 45 e, g)
 
-  pub int-minus : (s : List ℕ) → (length s ≡ 0 → ⊥) → getD s 0 0 ≡ 45 → sign ≡ true → {m m′ : Magnitude} → m ≡ magnitudeOf top (drop 1 s) → m ≡ m′ →
-      minus m′ ≡ readSigned sign top s
-  unfolding readSigned
-  int-minus [] h e g p q = absurd (h refl)
-  int-minus (b ∷ s) h e g p q = rw (eq-eqb b 45 e, g, ← p, q)
+  module _ {m : Magnitude} {x : Signed} where
+    pub int-minus : (s : List ℕ) → (length s ≡ 0 → ⊥) → getD s 0 0 ≡ 45 → sign ≡ true → m ≡ magnitudeOf top (drop 1 s) → x ≡ minus m → x ≡ readSigned sign top s
+    unfolding readSigned
+    int-minus [] h e g p q = absurd (h refl)
+    int-minus (b ∷ s) h e g p q = rw (eq-eqb b 45 e, g, ← p) q
 
-  pub int-plus : (s : List ℕ) → (length s ≡ 0 → ⊥) → (getD s 0 0 ≡ 45 → ⊥) → getD s 0 0 ≡ 43 → {m m′ : Magnitude} → m ≡ magnitudeOf (top - 1) (drop 1 s) →
-      m ≡ m′ → plus m′ ≡ readSigned sign top s
-  unfolding readSigned
-  int-plus [] h f e p q = absurd (h refl)
-  int-plus (b ∷ s) h f e p q = rw (ne-eqb b 45 f, eq-eqb b 43 e, ← p, q)
+    pub int-plus : (s : List ℕ) → (length s ≡ 0 → ⊥) → (getD s 0 0 ≡ 45 → ⊥) → getD s 0 0 ≡ 43 → m ≡ magnitudeOf (top - 1) (drop 1 s) → x ≡ plus m → x ≡ readSigned sign top s
+    unfolding readSigned
+    int-plus [] h f e p q = absurd (h refl)
+    int-plus (b ∷ s) h f e p q = rw (ne-eqb b 45 f, eq-eqb b 43 e, ← p) q
 
-  pub int-plain : (s : List ℕ) → (length s ≡ 0 → ⊥) → (getD s 0 0 ≡ 45 → ⊥) → (getD s 0 0 ≡ 43 → ⊥) → {m m′ : Magnitude} →
-      m ≡ magnitudeOf (top - 1) (drop 0 s) → m ≡ m′ → plus m′ ≡ readSigned sign top s
-  unfolding readSigned
-  int-plain [] h f e p q = absurd (h refl)
-  int-plain (b ∷ s) h f e p q = rw (ne-eqb b 45 f, ne-eqb b 43 e, ← p, q)
+    pub int-plain : (s : List ℕ) → (length s ≡ 0 → ⊥) → (getD s 0 0 ≡ 45 → ⊥) → (getD s 0 0 ≡ 43 → ⊥) → m ≡ magnitudeOf (top - 1) (drop 0 s) → x ≡ plus m → x ≡ readSigned sign top s
+    unfolding readSigned
+    int-plain [] h f e p q = absurd (h refl)
+    int-plain (b ∷ s) h f e p q = rw (ne-eqb b 45 f, ne-eqb b 43 e, ← p) q

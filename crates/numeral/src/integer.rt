@@ -4,7 +4,7 @@ ghost use mathlib.Core.Path.{_≡_};
 ghost use Prim.Native.Nat.{ℕ, _+_, _-_, _*_, _^_, _≤_, _<_};
 ghost use lib.ListN.{length, take, drop};
 ghost use mathlib.Core.Bool.{true, false};
-ghost use Rattle.numeral.specs.Integer.{magnitudeOf, readInt, readSigned, wholeOf, u16Of, u32Of, i16Of, i32Of};
+ghost use Rattle.numeral.specs.Integer.{magnitudeOf, plus, minus, readInt, readSigned, wholeOf, u16Of, u32Of, i16Of, i32Of};
 
 // A row of digits within a limit, or none.
 pub enum Magnitude {
@@ -83,6 +83,26 @@ fn read_magnitude(s: &[u8], from: usize, top: u64) -> Magnitude
     Magnitude::Is(acc)
 }
 
+// A row of digits with nothing or `+` before it.
+fn plus_of(m: Magnitude) -> Signed
+    ensures { λ r. ⌜ r ≡ plus m ⌝ }
+{
+    match m {
+        Magnitude::Is(n) => Signed::Plus(n),
+        Magnitude::IsNot => Signed::IsNot,
+    }
+}
+
+// A row of digits with `-` before it.
+fn minus_of(m: Magnitude) -> Signed
+    ensures { λ r. ⌜ r ≡ minus m ⌝ }
+{
+    match m {
+        Magnitude::Is(n) => Signed::Minus(n),
+        Magnitude::IsNot => Signed::IsNot,
+    }
+}
+
 // The sign and the size of an integer of a type that holds what is below `top` and, if signed, what is down to its negative.
 fn read_signed(s: &[u8], signed: bool, top: u64) -> Signed
     requires { ⌜ (0 < top) × (top ≤ 2 ^ 32) ⌝ }
@@ -94,27 +114,14 @@ fn read_signed(s: &[u8], signed: bool, top: u64) -> Signed
     let b = s[0];
     if b == 45 {
         if signed {
-            let m = read_magnitude(s, 1, top);
-            let Magnitude::Is(n) = m else {
-                return Signed::IsNot;
-            };
-            return Signed::Minus(n);
-        } else {
-            return Signed::IsNot;
+            return minus_of(read_magnitude(s, 1, top));
         }
+        return Signed::IsNot;
     }
     if b == 43 {
-        let m = read_magnitude(s, 1, top - 1);
-        let Magnitude::Is(n) = m else {
-            return Signed::IsNot;
-        };
-        return Signed::Plus(n);
+        return plus_of(read_magnitude(s, 1, top - 1));
     }
-    let m = read_magnitude(s, 0, top - 1);
-    let Magnitude::Is(n) = m else {
-        return Signed::IsNot;
-    };
-    Signed::Plus(n)
+    plus_of(read_magnitude(s, 0, top - 1))
 }
 
 // An integer of a type that holds what is below `top` and, if signed, what is down to its negative.

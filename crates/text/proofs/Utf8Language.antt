@@ -110,38 +110,26 @@ module _ (b lo hi : ℕ) (l : 128 ≤ lo) (h : hi ≤ 191) where
 none : (b : ℕ) → Starts b Stop
 none b s d = absurd d
 
+-- one entry more
+also : {A B : Type 0} → A → B → A × B
+also a b = (a, b)
+
 all-entries : AllEntries Starts 0 entries
-all-entries = (
-  (λ b l h s u. one-byte b h u),
-  (
-    (λ b l h. none b),
-    (
-      (λ b l h. two-bytes b l h),
-      (
-        (λ b l h. three-bytes b 160 191 (omega arith) (omega arith) (omega arith) (omega arith) (λ c d x y z. (omega (arith, z .0, z .1), inl (omega (arith, z .0, z .1))))),
-        (
-          (λ b l h. three-bytes b 128 191 (omega arith) (omega arith) (omega arith) (omega arith) (λ c d x y z. (omega (arith, z .0, z .1), inl (omega (arith, z .0, z .1))))),
-          (
-            (λ b l h. three-bytes b 128 159 (omega arith) (omega arith) (omega arith) (omega arith) (λ c d x y z. (omega (arith, z .0, z .1), inl (omega (arith, z .0, z .1))))),
-            (
-              (λ b l h. three-bytes b 128 191 (omega arith) (omega arith) (omega arith) (omega arith) (λ c d x y z. (omega (arith, z .0, z .1), inr (omega (arith, z .0, z .1))))),
-              (
-                (λ b l h. four-bytes b 144 191 (omega arith) (omega arith) (omega arith) (omega arith) (λ c d e x y z w. (omega (arith, z .0, z .1, w .0, w .1), inr (omega (arith, z .0, z .1, w .0, w .1))))),
-                (
-                  (λ b l h. four-bytes b 128 191 (omega arith) (omega arith) (omega arith) (omega arith) (λ c d e x y z w. (omega (arith, z .0, z .1, w .0, w .1), inr (omega (arith, z .0, z .1, w .0, w .1))))),
-                  (
-                    (λ b l h. four-bytes b 128 143 (omega arith) (omega arith) (omega arith) (omega arith) (λ c d e x y z w. (omega (arith, z .0, z .1, w .0, w .1), inr (omega (arith, z .0, z .1, w .0, w .1))))),
-                    (λ b l. none b),
-                  ),
-                ),
-              ),
-            ),
-          ),
-        ),
-      ),
-    ),
-  ),
-)
+all-entries =
+    also (λ b l h s u. one-byte b h u)
+    (also (λ b l h. none b)
+    (also (λ b l h. two-bytes b l h)
+    (also (λ b l h. three-bytes b 160 191 (omega arith) (omega arith) (omega arith) (omega arith) (λ c d x y z. (omega (arith, z .0, z .1), inl (omega (arith, z .0, z .1)))))
+    (also (λ b l h. three-bytes b 128 191 (omega arith) (omega arith) (omega arith) (omega arith) (λ c d x y z. (omega (arith, z .0, z .1), inl (omega (arith, z .0, z .1)))))
+    (also (λ b l h. three-bytes b 128 159 (omega arith) (omega arith) (omega arith) (omega arith) (λ c d x y z. (omega (arith, z .0, z .1), inl (omega (arith, z .0, z .1)))))
+    (also (λ b l h. three-bytes b 128 191 (omega arith) (omega arith) (omega arith) (omega arith) (λ c d x y z. (omega (arith, z .0, z .1), inr (omega (arith, z .0, z .1)))))
+    (also (λ b l h. four-bytes b 144 191 (omega arith) (omega arith) (omega arith) (omega arith)
+    (λ c d e x y z w. (omega (arith, z .0, z .1, w .0, w .1), inr (omega (arith, z .0, z .1, w .0, w .1)))))
+    (also (λ b l h. four-bytes b 128 191 (omega arith) (omega arith) (omega arith) (omega arith)
+    (λ c d e x y z w. (omega (arith, z .0, z .1, w .0, w .1), inr (omega (arith, z .0, z .1, w .0, w .1)))))
+    (also (λ b l h. four-bytes b 128 143 (omega arith) (omega arith) (omega arith) (omega arith)
+    (λ c d e x y z w. (omega (arith, z .0, z .1, w .0, w .1), inr (omega (arith, z .0, z .1, w .0, w .1)))))
+    (λ b l. none b))))))))))
 
 starts : (b : ℕ) → Starts b (leadOf b)
 unfolding leadOf

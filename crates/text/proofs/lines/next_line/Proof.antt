@@ -42,7 +42,9 @@ add-t17 : tie.Need-add-t17 Inv-loop μ-loop
 add-t17 c = omega arith
 
 returns-2 : tie.Need-returns-2 Inv-loop μ-loop
-returns-2 c = cut-crlf _ _ (c .before .before .before .before .before .before .loop-test .taken) (c .before .before .before .if2 .taken) (omega arith) (c .if4 .taken) ∙ sym (c .before .before .before .before .before .before .before .loop .inv .1)
+returns-2 c =
+    let l = c .before .before .before .before .before .before in
+    cut-crlf _ _ (l .loop-test .taken) (c .before .before .before .if2 .taken) (omega arith) (c .if4 .taken) ∙ sym (l .before .loop .inv .1)
 
 add-i : tie.Need-add-i Inv-loop μ-loop
 add-i c = omega arith
@@ -57,7 +59,8 @@ loop-again c =
     let i = c .before .before .before .before .loop .i in (
       omega arith,
       c .before .before .before .before .loop .inv .1 ∙ cut-on _ _ h (c .before .if1 .left)
-          (⊎-elim (λ w. cr-alone a i h (w .0 .taken) (omega (arith, w .1 .taken)) (w .3 .left)) (⊎-elim (λ w. cr-last a i h (w .0 .taken) (omega (arith, w .1 .left))) (λ w. no-cr a i h (w .left))) (c .if2 .came)),
+          (⊎-elim (λ w. cr-alone a i h (w .0 .taken) (omega (arith, w .1 .taken)) (w .3 .left))
+          (⊎-elim (λ w. cr-last a i h (w .0 .taken) (omega (arith, w .1 .left))) (λ w. no-cr a i h (w .left))) (c .if2 .came)),
     )
 
 returns-3 : tie.Need-returns-3 Inv-loop μ-loop

@@ -32,7 +32,9 @@ enum-told : tie.Need-enum-told Inv-loop μ-loop
 enum-told c = search needs
 
 returns : tie.Need-returns Inv-loop μ-loop
-returns c = sym (c .before .before .before .before .before .loop .inv .1 ∙ run-turn _ _ _ (c .before .before .before .before .loop-test .taken) (c .before .before .advance .ensures) (c .enum-told .given .1))
+returns c =
+    let l = c .before .before .before .before in
+    sym (l .before .loop .inv .1 ∙ run-turn _ _ _ (l .loop-test .taken) (c .before .before .advance .ensures) (c .enum-told .given .1))
 
 add-i : tie.Need-add-i Inv-loop μ-loop
 add-i c = omega arith
@@ -41,7 +43,9 @@ loop-less : tie.Need-loop-less Inv-loop μ-loop
 loop-less c = omega arith
 
 loop-again : tie.Need-loop-again Inv-loop μ-loop
-loop-again c = (omega arith, c .before .before .before .before .before .before .loop .inv .1 ∙ run-turn _ _ _ (c .before .before .before .before .before .loop-test .taken) (c .before .before .before .advance .ensures) (c .before .t .given .1))
+loop-again c =
+    let l = c .before .before .before .before .before in
+    (omega arith, l .before .loop .inv .1 ∙ run-turn _ _ _ (l .loop-test .taken) (c .before .before .before .advance .ensures) (c .before .t .given .1))
 
 returns-2 : tie.Need-returns-2 Inv-loop μ-loop
 returns-2 c = sym (c .before .before .loop .inv .1 ∙ run-end _ _ _ (c .before .loop-test .left))

@@ -1,3 +1,5 @@
+-- `is_general` answers whether E2 80 and a byte are White_Space.
+-- No loop.
 use borrow.Author.Tests.{lt-ltb, le-ltb, eq-eqb, ne-eqb}
 use Rattle.text.proofs.white.is_general.Statement.{statement}
 use Rattle.text.proofs.white.is_general.Tie as tie

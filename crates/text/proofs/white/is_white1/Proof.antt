@@ -1,3 +1,5 @@
+-- `is_white1` answers whether one byte is White_Space.
+-- No loop.
 use borrow.Author.Tests.{lt-ltb, le-ltb}
 use Rattle.text.proofs.white.is_white1.Statement.{statement}
 use Rattle.text.proofs.white.is_white1.Tie as tie

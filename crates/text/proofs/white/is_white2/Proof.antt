@@ -1,3 +1,5 @@
+-- `is_white2` answers whether two bytes are White_Space.
+-- No loop.
 use borrow.Author.Tests.{eq-eqb, ne-eqb}
 use Rattle.text.proofs.white.is_white2.Statement.{statement}
 use Rattle.text.proofs.white.is_white2.Tie as tie

@@ -1,3 +1,5 @@
+-- `is_white3` answers whether three bytes are White_Space.
+-- No loop.
 use borrow.Author.Tests.{eq-eqb, ne-eqb}
 use borrow.Author.Needs.{needs}
 use Rattle.text.proofs.white.is_white3.Statement.{statement}
