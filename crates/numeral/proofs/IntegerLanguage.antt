@@ -13,7 +13,8 @@ use lib.IntN.{ℤ, pos, negℤ}
 use borrow.Author.Tests.{le-leb, leb-true, ltb-false, eqb-true, ne-eqb}
 use Rattle.base.specs.Said.{pick}
 use Rattle.numeral.specs.Integer.{scan, magnitudeOf, digit, value, none, signedOf, readInt, plus, minus, readSigned}
-use Rattle.numeral.specs.IntegerText.{decimal, AllDigits, Digits, IntText}
+use Rattle.numeral.specs.Digits.{decimal, AllDigits}
+use Rattle.numeral.specs.IntegerText.{Digits, IntText}
 use Rattle.numeral.specs.declared.integer.Signed.the-variants as signed
 use Rattle.numeral.specs.declared.integer.Magnitude.{Magnitude}
 use Rattle.numeral.specs.declared.integer.Magnitude.the-variants as magnitude

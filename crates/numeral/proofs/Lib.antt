@@ -2,3 +2,4 @@ pub mod IntegerScan
 pub mod IntegerRange
 pub mod IntegerLanguage
 pub mod IntegerTheorems
+pub mod IntegerSamples

@@ -1,21 +1,12 @@
 -- Document 01, "Lines": "Integer: optional `+` (`-` only for signed types), then one or more digits, within the type."
 -- Which texts are integers of a type, and of what value; no reader is named here. Assumes nothing.
 use mathlib.Core.Path.{_≡_}
-use mathlib.Core.List.{List, [], _∷_}
+use mathlib.Core.List.{List, _∷_}
 use mathlib.Core.Bool.{Bool, true}
-use Prim.Native.Nat.{ℕ, _+_, _-_, _*_, _^_, _≤_, _<_}
+use Prim.Native.Nat.{ℕ, _≤_, _<_}
 use lib.ListN.{length}
 use lib.IntN.{ℤ, pos, negℤ}
-
--- the number that a row of decimal digits writes, each by its place
-abbrev pub decimal : List ℕ → ℕ
-decimal [] = 0
-decimal (b ∷ s) = (b - 48) * 10 ^ length s + decimal s
-
--- each byte is one of `0` to `9`
-abbrev pub AllDigits : List ℕ → Type 0
-AllDigits [] = Unit {0}
-AllDigits (b ∷ s) = ((48 ≤ b) × (b ≤ 57)) × AllDigits s
+use Rattle.numeral.specs.Digits.{decimal, AllDigits}
 
 -- one or more digits, which write n
 pub record Digits (s : List ℕ) (n : ℕ) : Type 0 where
