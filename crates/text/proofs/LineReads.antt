@@ -7,32 +7,32 @@ use Prim.Native.Nat.{ℕ, _+_, _-_, _≤_, _<_}
 use native.Mathlib.Omega.{arith}
 use lib.ListN.{length, take, drop, length-drop}
 use lib.Seq.{length-take-le, take-all}
-use Rattle.text.specs.Trim.{front, back, run, keepBy}
-use Rattle.text.specs.Utf8Machine.{start, runOf}
-use Rattle.text.specs.ReadLine.{tokenLength, emptyOrComment, Way, strictly, part, partAt, lineBy, lineOf}
+use Rattle.text.specs.Trim.{run, keepBy}
+use Rattle.text.specs.Utf8Machine.{runOf}
+use Rattle.text.specs.ReadLine.{tokenLength, Way, strictly, part, partAt, lineBy, lineOf}
 use Rattle.text.specs.declared.line.LineSays.{LineSays}
 use Rattle.text.specs.declared.line.LineSays.the-variants.{NotUtf8, Dropped, Content}
 use Rattle.text.proofs.Runs.{run-le}
 use Rattle.text.proofs.Tokens.{token-le}
 
--- THE REST of a line, which starts at `at`: its trimmed part ends n bytes on
-module _ (at : ℕ) (s : List ℕ) {n : ℕ} (e : n ≡ length s - run back 0 (reverse s)) where
+-- THE REST of a line, which starts at `at`, whatever the reading: its trimmed part ends n bytes on
+module _ (w : Way) (at : ℕ) (s : List ℕ) {n : ℕ} (e : n ≡ length s - run (w .behind) 0 (reverse s)) where
   pub kept-le : n ≤ length s
   kept-le = omega arith
 
-  module _ {r : Bool} (d : r ≡ emptyOrComment (take n s)) where
-    pub rest-drops : r ≡ true → Dropped ≡ partAt strictly at (keepBy back s)
+  module _ {r : Bool} (d : r ≡ w .drops (take n s)) where
+    pub rest-drops : r ≡ true → Dropped ≡ partAt w at (keepBy (w .behind) s)
     rest-drops t = rw (← e, ← d, t)
 
-    pub rest-says : r ≡ false → {k : ℕ} → k ≡ tokenLength (take n s) → Content at (at + n) (at + k) ≡ partAt strictly at (keepBy back s)
+    pub rest-says : r ≡ false → {k : ℕ} → k ≡ tokenLength (take n s) → Content at (at + n) (at + k) ≡ partAt w at (keepBy (w .behind) s)
     rest-says f q = rw (← e, ← d, f, ← q, length-take-le n s kept-le)
 
   pub token-kept : {k : ℕ} → k ≡ tokenLength (take n s) → k ≤ n
   token-kept q = omega (arith, q, token-le (take n s), length-take-le n s kept-le)
 
 -- the white space at the start of a line is within it, and within the text
-pub ahead-le : (l : List ℕ) {n : ℕ} → n ≡ run front 0 l → n ≤ length l
-ahead-le l e = rw e (run-le front 0 l)
+pub ahead-le : (w : Way) (l : List ℕ) {n : ℕ} → n ≡ run (w .ahead) 0 l → n ≤ length l
+ahead-le w l e = rw e (run-le (w .ahead) 0 l)
 
 pub part-length : (text : List ℕ) (a e : ℕ) → a ≤ e → e ≤ length text → length (part text a e) ≡ e - a
 part-length text a e h g = length-take-le (e - a) (drop a text) (omega (arith, length-drop a text))
@@ -43,13 +43,13 @@ rest-within text a e n h g k =
     let l = part text a e in
     omega (arith, k, part-length text a e h g, part-length l n (length l) k (omega arith))
 
--- THE LINE l, which starts at a: whether it is UTF-8, and what its rest says
-module _ (a : ℕ) (l : List ℕ) {r : Bool} (d : r ≡ runOf start l) where
-  pub line-not : r ≡ false → NotUtf8 ≡ lineBy strictly a l
+-- THE LINE l, which starts at a, whatever the reading: whether it is a text, and what its rest says
+module _ (w : Way) (a : ℕ) (l : List ℕ) {r : Bool} (d : r ≡ w .valid l) where
+  pub line-not : r ≡ false → NotUtf8 ≡ lineBy w a l
   unfolding lineBy
   line-not f = rw (← d, f)
 
-  pub line-is : r ≡ true → {n : ℕ} → n ≡ run front 0 l → {x : LineSays} → x ≡ partAt strictly (a + n) (keepBy back (take (length l - n) (drop n l))) → x ≡ lineBy strictly a l
+  pub line-is : r ≡ true → {n : ℕ} → n ≡ run (w .ahead) 0 l → {x : LineSays} → x ≡ partAt w (a + n) (keepBy (w .behind) (take (length l - n) (drop n l))) → x ≡ lineBy w a l
   unfolding lineBy
   line-is t {n} e q =
       let all : take (length l - n) (drop n l) ≡ drop n l = take-all (length l - n) (drop n l) (omega (arith, length-drop n l)) in

@@ -3,7 +3,7 @@
 use native.Mathlib.Omega.{arith}
 use borrow.Author.Needs.{needs}
 use denote.Ref.{now}
-use Rattle.text.specs.ReadLine.{part}
+use Rattle.text.specs.ReadLine.{strictly, part}
 use Rattle.text.proofs.LineReads.{ahead-le, part-length, rest-within, line-empty, line-not, line-is}
 use Rattle.text.proofs.line.read_within.Statement.{statement}
 use Rattle.text.proofs.line.read_within.Tie as tie
@@ -30,7 +30,7 @@ trim-start-requires c κs = search needs
 
 -- the white space at the start is within the line
 sub-read-rest : tie.Need-sub-read-rest
-sub-read-rest c = ahead-le _ (c .trim-start .ensures)
+sub-read-rest c = ahead-le strictly _ (c .trim-start .ensures)
 
 part-read-rest-start : tie.Need-part-read-rest-start
 part-read-rest-start c = let h = sub-read-rest c in search needs
@@ -53,13 +53,13 @@ read-rest-requires c κs =
 returns-2 : tie.Need-returns-2
 returns-2 c =
     let a = c .before .before .before .before .before .before .before .before .args in
-    line-is (a .start) (part (now (a .text)) (a .start) (a .end)) (c .before .before .before .before .is-utf8 .ensures) (c .before .before .before .if2 .taken)
+    line-is strictly (a .start) (part (now (a .text)) (a .start) (a .end)) (c .before .before .before .before .is-utf8 .ensures) (c .before .before .before .if2 .taken)
     (c .before .before .trim-start .ensures) (c .read-rest .ensures)
 
 returns-3 : tie.Need-returns-3
 returns-3 c =
     let a = c .before .before .before .before .before .args in
-    line-not (a .start) (part (now (a .text)) (a .start) (a .end)) (c .before .is-utf8 .ensures) (c .if2 .left)
+    line-not strictly (a .start) (part (now (a .text)) (a .start) (a .end)) (c .before .is-utf8 .ensures) (c .if2 .left)
 
 pub read-within-spec : {M : Type 1} → statement M
 read-within-spec =
