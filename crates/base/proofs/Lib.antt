@@ -1,4 +1,6 @@
 pub mod Said
+pub mod Apart
+pub mod Pick
 pub mod Integers
 pub mod Division
 pub mod Machine

@@ -1,0 +1,5 @@
+pub mod IntegerScan
+pub mod IntegerRange
+pub mod IntegerLanguage
+pub mod IntegerTheorems
+pub mod IntegerSamples

@@ -1,0 +1,52 @@
+-- The laws of a token's length along a slice, and of what drops out, as the code meets them. Assumes nothing.
+use mathlib.Core.Path.{_≡_, refl, ap}
+use mathlib.Core.List.{List, [], _∷_}
+use mathlib.Core.Bool.{Bool, true, false}
+use Prim.Native.Nat.{ℕ, suc, _+_, _≤_, _<_}
+use native.Mathlib.Omega.{arith}
+use lib.Dec.{eqb}
+use lib.ListN.{length, getD, drop, drop-of-length-le}
+use Rattle.base.specs.Said.{pick}
+use Rattle.text.specs.ReadLine.{splits, tokenLength, emptyOrComment}
+use Rattle.text.proofs.Cuts.{drop-next}
+
+-- the token is i bytes long and the token from there
+abbrev pub Along : List ℕ → ℕ → Type 0
+Along s i = tokenLength s ≡ i + tokenLength (drop i s)
+
+module _ (s : List ℕ) (i : ℕ) (v : Along s i) where
+  module _ (h : i < length s) {r : Bool} (e : r ≡ splits (getD s i 0)) where
+    pub token-turn : r ≡ false → Along s (i + 1)
+    unfolding tokenLength
+    token-turn f =
+        let x : tokenLength (drop i s) ≡ suc (tokenLength (drop (i + 1) s)) = rw (drop-next s i h, ← e, f) in
+        omega (arith, v, x)
+
+    pub token-stop : r ≡ true → i ≡ tokenLength s
+    unfolding tokenLength
+    token-stop f =
+        let x : tokenLength (drop i s) ≡ 0 = rw (drop-next s i h, ← e, f) in
+        omega (arith, v, x)
+
+  pub token-all : length s ≤ i → i ≡ tokenLength s
+  unfolding tokenLength
+  token-all h = omega (arith, v, ap tokenLength (drop-of-length-le s h))
+
+-- a token stays within what it is of
+pub token-le : (s : List ℕ) → tokenLength s ≤ length s
+unfolding tokenLength
+token-le [] = omega arith
+token-le (b ∷ s) = go (splits b) (token-le s)
+  where
+    go : (x : Bool) → tokenLength s ≤ length s → pick x 0 (suc (tokenLength s)) ≤ suc (length s)
+    go true h = omega arith
+    go false h = omega arith
+
+-- an empty line drops out; another goes by its first byte
+pub drops-empty : (s : List ℕ) → length s ≡ 0 → true ≡ emptyOrComment s
+drops-empty [] e = refl
+drops-empty (b ∷ s) e = absurd (omega arith)
+
+pub drops-first : (s : List ℕ) → (length s ≡ 0 → ⊥) → eqb (getD s 0 0) 33 ≡ emptyOrComment s
+drops-first [] n = absurd (n refl)
+drops-first (b ∷ s) n = refl

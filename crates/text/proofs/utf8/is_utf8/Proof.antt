@@ -1,0 +1,68 @@
+-- `is_utf8` answers whether the machine accepts the text.
+-- Invariant: the machine's answer on all of it is its answer on the rest from `i` on, in the state reached.
+use mathlib.Core.Path.{_≡_, refl, sym, _∙_}
+use Prim.Native.Nat.{_≤_, _-_}
+use native.Mathlib.Omega.{arith}
+use borrow.Author.Needs.{needs}
+use lib.ListN.{length, drop}
+use Rattle.text.specs.Utf8Machine.{start, runOf}
+use Rattle.text.proofs.Utf8Steps.{run-turn, run-end}
+use Rattle.text.proofs.utf8.is_utf8.Statement.{statement}
+use Rattle.text.proofs.utf8.is_utf8.Tie as tie
+
+abbrev Inv-loop : tie.InvT-loop
+Inv-loop s st₀ i₀ st i = (i ≤ length s) × (runOf start s ≡ runOf st (drop i s))
+
+abbrev μ-loop : tie.MeasureT-loop
+μ-loop s st₀ i₀ st i = length s - i
+
+loop-holds : tie.Need-loop-holds Inv-loop μ-loop
+loop-holds c = (omega arith, refl)
+
+shared-slice-read-advance : tie.Need-shared-slice-read-advance Inv-loop μ-loop
+shared-slice-read-advance c = omega arith
+
+advance-requires : tie.Need-advance-requires Inv-loop μ-loop
+advance-requires c κs = search needs
+
+enum-known-t : tie.Need-enum-known-t Inv-loop μ-loop
+enum-known-t c = search needs
+
+enum-told : tie.Need-enum-told Inv-loop μ-loop
+enum-told c = search needs
+
+returns : tie.Need-returns Inv-loop μ-loop
+returns c =
+    let l = c .before .before .before .before in
+    sym (l .before .loop .inv .1 ∙ run-turn _ _ _ (l .loop-test .taken) (c .before .before .advance .ensures) (c .enum-told .given .1))
+
+add-i : tie.Need-add-i Inv-loop μ-loop
+add-i c = omega arith
+
+loop-less : tie.Need-loop-less Inv-loop μ-loop
+loop-less c = omega arith
+
+loop-again : tie.Need-loop-again Inv-loop μ-loop
+loop-again c =
+    let l = c .before .before .before .before .before in
+    (omega arith, l .before .loop .inv .1 ∙ run-turn _ _ _ (l .loop-test .taken) (c .before .before .before .advance .ensures) (c .before .t .given .1))
+
+returns-2 : tie.Need-returns-2 Inv-loop μ-loop
+returns-2 c = sym (c .before .before .loop .inv .1 ∙ run-end _ _ _ (c .before .loop-test .left))
+
+pub is-utf8-spec : {M : Type 1} → statement M
+is-utf8-spec =
+    tie.close
+    (tie.spec
+    Inv-loop
+    μ-loop
+    loop-holds
+    shared-slice-read-advance
+    advance-requires
+    enum-known-t
+    enum-told
+    returns
+    add-i
+    loop-less
+    loop-again
+    returns-2)

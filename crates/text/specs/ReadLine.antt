@@ -1,0 +1,74 @@
+-- Document 01, "Lines": what a line says, as the code finds it, with the start and the end of each part in the whole text.
+-- `Reading` says what a line says, `proofs/LineLanguage` that the two agree. Assumes nothing.
+use mathlib.Core.List.{List, [], _∷_}
+use mathlib.Core.Bool.{Bool, true}
+use Prim.Native.Nat.{ℕ, suc, _+_, _-_}
+use lib.Dec.{eqb}
+use lib.ListN.{length, take, drop}
+use Rattle.base.specs.Said.{pick}
+use Rattle.text.specs.Reading.{Meaning, invalid, dropped, content}
+use Rattle.text.specs.Trim.{front, back, run, trimBy}
+use Rattle.text.specs.Utf8Machine.{start, runOf}
+use Rattle.text.specs.declared.line.LineSays.{LineSays}
+use Rattle.text.specs.declared.line.LineSays.the-variants.{NotUtf8, Dropped, Content}
+
+-- space, tab, LF, form feed or CR
+abbrev pub splits : ℕ → Bool
+splits b = pick (eqb b 32) true (pick (eqb b 9) true (pick (eqb b 10) true (pick (eqb b 12) true (eqb b 13))))
+
+-- how long the token is that m starts with
+unfoldable pub tokenLength : List ℕ → ℕ
+tokenLength [] = 0
+tokenLength (b ∷ s) = pick (splits b) 0 (suc (tokenLength s))
+
+-- empty, or starting with `!`
+abbrev pub emptyOrComment : List ℕ → Bool
+emptyOrComment [] = true
+emptyOrComment (b ∷ s) = eqb b 33
+
+-- how a reading is carried out: which lines are texts, how long the trimmed character at the start is (and at the end, backwards),
+-- and which trimmed lines drop out
+pub record Way : Type 0 where
+  pub valid : List ℕ → Bool
+  pub ahead : List ℕ → ℕ
+  pub behind : List ℕ → ℕ
+  pub drops : List ℕ → Bool
+
+-- document 01's reading
+abbrev pub strictly : Way
+strictly = record { valid = runOf start; ahead = front; behind = back; drops = emptyOrComment }
+
+-- what the trimmed part m says
+abbrev pub partMeaning : Way → List ℕ → Meaning
+partMeaning w m = pick (w .drops m) dropped (content m (take (tokenLength m) m))
+
+-- what the line l says
+unfoldable pub meaningBy : Way → List ℕ → Meaning
+meaningBy w l = pick (w .valid l) (partMeaning w (trimBy (w .ahead) (w .behind) l)) invalid
+
+-- what each of the lines says
+unfoldable pub meanings : Way → List (List ℕ) → List Meaning
+meanings w [] = []
+meanings w (l ∷ ls) = meaningBy w l ∷ meanings w ls
+
+-- the part of a text from a to e: what a function sees that `&text[a..e]` is handed to
+abbrev pub part : List ℕ → ℕ → ℕ → List ℕ
+part text a e = take (e - a) (drop a text)
+
+-- what the trimmed part m says, which starts at k: where it starts and ends, and where its token ends
+abbrev pub partAt : Way → ℕ → List ℕ → LineSays
+partAt w k m = pick (w .drops m) Dropped (Content k (k + length m) (k + tokenLength m))
+
+-- what the line l says, which starts at k
+unfoldable pub lineBy : Way → ℕ → List ℕ → LineSays
+lineBy w k l = pick (w .valid l) (partAt w (k + run (w .ahead) 0 l) (trimBy (w .ahead) (w .behind) l)) NotUtf8
+
+-- what the line of a text from a to e says
+abbrev pub lineOf : Way → List ℕ → ℕ → ℕ → LineSays
+lineOf w text a e = lineBy w a (part text a e)
+
+-- what an answer says, in the text that it is of
+abbrev pub shown : List ℕ → LineSays → Meaning
+shown text NotUtf8 = invalid
+shown text Dropped = dropped
+shown text (Content a e t) = content (part text a e) (part text a t)
