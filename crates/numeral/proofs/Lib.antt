@@ -1,0 +1,2 @@
+pub mod DecimalRuns
+pub mod DecimalBounds

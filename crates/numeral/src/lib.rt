@@ -1,0 +1,2 @@
+// Numerals: decimals read from a text, numbers written into one. Document 01, "Lines" and "Writing".
+pub mod decimal;
