@@ -1,0 +1,15 @@
+pub mod Fit
+pub mod Order
+pub mod Sign
+pub mod Whole
+pub mod Down
+pub mod Counts
+pub mod Ranges
+pub mod Decode
+pub mod Value
+pub mod Scale
+pub mod Power
+pub mod Steps
+pub mod Nearest
+pub mod Assemble
+pub mod Theorems

@@ -1,0 +1,86 @@
+-- A power of two by its bits, and a number below 2 ^ 64 times it, rounded once. Assumes nothing.
+use mathlib.Core.Path.{_≡_, refl, sym, ap, _∙_, subst}
+use mathlib.Core.Bool.{Bool, false, cond}
+use Prim.Native.Nat.{ℕ, zero, suc, _+_, _-_, _*_, _/_, _%_, _^_, _≤_, _<_}
+use native.Mathlib.Nat.{mul-one, mul-assoc, mul-le-mul-right, mod-eq-of-lt, le-trans, lt-of-lt-of-le, lt-of-le-of-lt, le-of-eq, mul-mod-left}
+use native.Mathlib.Omega.{arith}
+use lib.IntN.{pos, negsuc}
+use lib.Dec.{lit<, lit≤}
+use lib.Pow.{pow-pos, pow-add, shl-lt, pow-mono, shl-shr}
+use lib.Ieee.Exact.{HasValue, odd-sign}
+use lib.Ieee.{Float, inf, fin, binary64, odd, round, ofInt, ofBits, ofFields, mul}
+use borrow.Author.Tests.{ne-eqb, lt-leb}
+use lib.Ieee.Scale.{round-same}
+use Rattle.floats.proofs.Decode.{ofBits-is}
+use Rattle.floats.proofs.Value.{rescaled}
+use Rattle.floats.proofs.Scale.{scale}
+
+-- the fields of k * 2 ^ 52
+field-of : (k : ℕ) → k < 2047 → ofBits binary64 (k * 2 ^ 52) ≡ ofFields binary64 false k 0
+field-of k h =
+    let b : k * 2 ^ 52 < 2 ^ 63 = shl-lt 11 52 (omega arith) in
+    ofBits-is (k * 2 ^ 52)
+    ∙ ap (λ (s : Bool). ofFields binary64 s (k * 2 ^ 52 % 2 ^ 63 / 2 ^ 52) (k * 2 ^ 52 % 2 ^ 52)) (lt-leb (2 ^ 63) (k * 2 ^ 52) b)
+    ∙ ap (λ (z : ℕ). ofFields binary64 false (z / 2 ^ 52) (k * 2 ^ 52 % 2 ^ 52)) (mod-eq-of-lt b)
+    ∙ ap (λ (z : ℕ). ofFields binary64 false z (k * 2 ^ 52 % 2 ^ 52)) (shl-shr k 52)
+    ∙ ap (λ (z : ℕ). ofFields binary64 false k z) (mul-mod-left k (2 ^ 52))
+
+power-field : (k : ℕ) → suc k < 2047 → ofFields binary64 false (suc k) 0 ≡ odd 53 false (2 ^ 52) k 1074
+unfolding ofFields
+power-field k h = ap (λ (b : Bool). cond b (inf false) (odd 53 false (2 ^ 52) k 1074)) (ne-eqb (suc k) 2047 (λ e. omega arith))
+
+-- from_bits(k << 52) is 2 ^ (k - 1023)
+pub power : (k : ℕ) → suc k < 2047 → HasValue (ofBits binary64 (suc k * 2 ^ 52)) false (2 ^ 52 * 2 ^ k) (2 ^ 1074)
+power k h = subst (λ (x : Float). HasValue x false (2 ^ 52 * 2 ^ k) (2 ^ 1074)) (sym (field-of (suc k) h ∙ power-field k h)) (odd-sign 53 false (2 ^ 52) k 1074)
+
+-- p times 2 ^ (n - 1086)
+module _ (p n : ℕ) (low-p : 2 ^ 62 ≤ p) (high-p : p < 2 ^ 63) (low-n : 124 ≤ n) (high-n : n ≤ 1924) where
+  sum : (a b c : ℕ) → a + b ≡ c → p * 2 ^ a * 2 ^ b ≡ p * 2 ^ c
+  sum a b c e = mul-assoc p (2 ^ a) (2 ^ b) ∙ ap (λ (x : ℕ). p * x) (sym (pow-add 2 a b) ∙ ap (λ (x : ℕ). 2 ^ x) e)
+
+  under : (a b : ℕ) → 63 + a ≤ b → p * 2 ^ a < 2 ^ b
+  under a b h = lt-of-lt-of-le (shl-lt 63 a high-p) (pow-mono h)
+
+  -- 2 ^ (n - 1086), by its bits
+  pub factor : HasValue (ofBits binary64 ((n - 63) * 2 ^ 52)) false (2 ^ (n - 124)) (2 ^ 962)
+  factor =
+      let e : n - 63 ≡ suc (n - 64) = omega arith in
+      let k : 52 + (n - 64) + 962 ≡ n - 124 + 1074 = omega arith in
+      rescaled (ofBits binary64 ((n - 63) * 2 ^ 52)) false (2 ^ 52 * 2 ^ (n - 64)) (2 ^ 1074) (2 ^ (n - 124)) (2 ^ 962) (pow-pos 1074)
+      (ap (λ (x : ℕ). x * 2 ^ 962) (sym (pow-add 2 52 (n - 64))) ∙ sym (pow-add 2 (52 + (n - 64)) 962) ∙ ap (λ (x : ℕ). 2 ^ x) k ∙ pow-add 2 (n - 124) 1074)
+      (subst (λ (z : ℕ). HasValue (ofBits binary64 (z * 2 ^ 52)) false (2 ^ 52 * 2 ^ (n - 64)) (2 ^ 1074)) (sym e) (power (n - 64) (omega arith)))
+
+  pub nearest-law : mul binary64 (ofInt binary64 (pos p)) (ofBits binary64 ((n - 63) * 2 ^ 52)) ≡ round binary64 false (p * 2 ^ n) (2 ^ 1086)
+  unfolding ofInt
+  nearest-law =
+      let f = binary64 in
+      let y = ofBits f ((n - 63) * 2 ^ 52) in
+      let a = p * 2 ^ 124 in
+      let u = n - 124 in
+      let eu : 124 + u ≡ n = omega arith in
+      ap (λ (x : Float). mul f x y) (round-same f false p 1 (a * 2 ^ 962) (2 ^ 1086) (lit< tt) (pow-pos 1086) (sym (mul-one (a * 2 ^ 962) ∙ sum 124 962 1086 refl)))
+      ∙ scale a (2 ^ 1086) 962 u y (pow-pos 1086)
+      (le-trans (lit≤ tt) (mul-le-mul-right (2 ^ 1074) (mul-le-mul-right (2 ^ 124) low-p)))
+      (lt-of-le-of-lt (le-of-eq (ap (λ (x : ℕ). x * 2 ^ 1074) (sum 124 962 1086 refl) ∙ sum 1086 1074 2160 refl)) (under 2160 3183 (lit≤ tt)))
+      (lt-of-le-of-lt (le-of-eq (ap (λ (x : ℕ). x * 2 ^ 1074) (sum 124 u n eu) ∙ sum n 1074 (n + 1074) refl)) (under (n + 1074) 3183 (omega arith)))
+      factor
+      ∙ ap (λ (x : ℕ). round f false x (2 ^ 1086)) (sum 124 u n eu)
+
+-- n / 2 ^ 52, for any n below 2 ^ 64
+pub ratio-law : (n : ℕ) → n < 2 ^ 64 → mul binary64 (ofInt binary64 (pos n)) (fin false 1 (negsuc 51)) ≡ round binary64 false n (2 ^ 52)
+unfolding ofInt mul round
+ratio-law zero h = refl
+ratio-law (suc m) h = ratio-pos (suc m) (omega arith) h
+  where
+    ratio-pos : (n : ℕ) → 0 < n → n < 2 ^ 64 → mul binary64 (round binary64 false n 1) (fin false 1 (negsuc 51)) ≡ round binary64 false n (2 ^ 52)
+    ratio-pos n p h =
+        let f = binary64 in
+        let y = fin false 1 (negsuc 51) in
+        let under : (a b : ℕ) → 64 + a ≤ b → n * 2 ^ a < 2 ^ b = λ a b l. lt-of-lt-of-le (shl-lt 64 a h) (pow-mono l) in
+        ap (λ (x : Float). mul f x y) (round-same f false n 1 (n * 2 ^ 52) (2 ^ 52) (lit< tt) (pow-pos 52) (sym (mul-one (n * 2 ^ 52))))
+        ∙ scale n (2 ^ 52) 52 0 y (pow-pos 52)
+        (le-trans (lit≤ tt) (mul-le-mul-right (2 ^ 1074) p))
+        (lt-of-le-of-lt (le-of-eq (mul-assoc n (2 ^ 52) (2 ^ 1074))) (under 1126 2149 (lit≤ tt)))
+        (lt-of-le-of-lt (le-of-eq (mul-assoc n (2 ^ 0) (2 ^ 1074))) (under 1074 2149 (lit≤ tt)))
+        (refl, refl)
+        ∙ ap (λ (x : ℕ). round f false x (2 ^ 52)) (mul-one n)

@@ -1,0 +1,5 @@
+pub mod Floats
+pub mod Ranges
+pub mod Answers
+pub mod Units
+pub mod Nearest
