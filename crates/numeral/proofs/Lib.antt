@@ -1,2 +1,4 @@
 pub mod DecimalRuns
 pub mod DecimalBounds
+pub mod DecimalAnswers
+pub mod DecimalTens

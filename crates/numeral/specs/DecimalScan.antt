@@ -11,6 +11,9 @@ use Rattle.numeral.specs.declared.decimal.Run.{Run}
 use Rattle.numeral.specs.declared.decimal.Numeral.{Numeral}
 use Rattle.numeral.specs.declared.decimal.Scanned.{Scanned}
 use Rattle.numeral.specs.declared.decimal.Scanned.the-variants as scanned
+use Rattle.numeral.specs.declared.decimal.DecimalAnswer.{DecimalAnswer}
+use Rattle.numeral.specs.declared.decimal.DecimalAnswer.the-variants as answer
+use lib.Ieee.{Float, round, binary64}
 
 -- a decimal digit
 abbrev pub digit : ℕ → Bool
@@ -46,18 +49,18 @@ spelled (b ∷ s) [] = false
 spelled (b ∷ s) (c ∷ w) = pick (eqb (lowered b) c) (spelled s w) false
 
 -- `inf`, `infinity`, `nan`
-abbrev pub inf : List ℕ
-inf = 105 ∷ 110 ∷ 102 ∷ []
+abbrev pub infText : List ℕ
+infText = 105 ∷ 110 ∷ 102 ∷ []
 
-abbrev pub infinity : List ℕ
-infinity = 105 ∷ 110 ∷ 102 ∷ 105 ∷ 110 ∷ 105 ∷ 116 ∷ 121 ∷ []
+abbrev pub infinityText : List ℕ
+infinityText = 105 ∷ 110 ∷ 102 ∷ 105 ∷ 110 ∷ 105 ∷ 116 ∷ 121 ∷ []
 
-abbrev pub nan : List ℕ
-nan = 110 ∷ 97 ∷ 110 ∷ []
+abbrev pub nanText : List ℕ
+nanText = 110 ∷ 97 ∷ 110 ∷ []
 
 -- whether the text from `at` on is one of the words
 abbrev pub wordAt : List ℕ → ℕ → Bool
-wordAt s at = pick (spelled (drop at s) inf) true (pick (spelled (drop at s) infinity) true (spelled (drop at s) nan))
+wordAt s at = pick (spelled (drop at s) infText) true (pick (spelled (drop at s) infinityText) true (spelled (drop at s) nanText))
 
 -- whether the text starts with a minus
 abbrev pub minusFirst : List ℕ → Bool
@@ -111,3 +114,20 @@ unfoldable pub scanOf : List ℕ → Scanned
 scanOf s =
     pick (wordAt s (afterSign s 0)) (scanned.Is (record { negative = minusFirst s; n = 0; significant = 0; places = 0; plain = false }))
     (numberAt s (minusFirst s) (afterSign s 0))
+
+-- whether a numeral is taken: no exponent and no word, at most 18 digits from the first nonzero one on, at most 18 after the dot
+abbrev pub supported : Numeral → Bool
+supported x = pick (x .plain) (pick (leb (x .significant) 18) (leb (x .places) 18) false) false
+
+-- the f64 nearest to what a numeral writes
+abbrev pub valued : Numeral → Float
+valued x = round binary64 (x .negative) (x .n) (10 ^ x .places)
+
+-- the answer for what was scanned
+abbrev pub judged : Scanned → DecimalAnswer
+judged (scanned.Is x) = pick (supported x) (answer.Is (valued x)) answer.Unsupported
+judged scanned.Bad = answer.Bad
+
+-- the answer for a text
+unfoldable pub readDecimal : List ℕ → DecimalAnswer
+readDecimal s = judged (scanOf s)

@@ -4,7 +4,9 @@ ghost use mathlib.Core.Path.{_≡_};
 ghost use mathlib.Core.Bool.{Bool, true, false};
 ghost use Prim.Native.Nat.{ℕ, _+_, _-_, _*_, _^_, _<_, _≤_};
 ghost use lib.ListN.{length, drop};
-ghost use Rattle.numeral.specs.DecimalScan.{grownBy, countedBy, runAt, lowered, spelled, afterSign, afterDot, markAt, exponentAt, endedAt, wordAt, minusFirst, numberAt, scanOf};
+ghost use Rattle.numeral.specs.DecimalScan.{grownBy, countedBy, runAt, lowered, spelled, afterSign, afterDot, markAt, exponentAt, endedAt, wordAt, minusFirst, numberAt, scanOf, supported, readDecimal};
+ghost use lib.Ieee as Ieee;
+ghost use lib.Ieee.{binary64};
 
 // Digits one after another: their number, how many there are from the first nonzero one on, and where they end.
 struct Run {
@@ -25,6 +27,13 @@ struct Numeral {
 // A numeral of Rust's f64, or none.
 enum Scanned {
     Is(Numeral),
+    Bad,
+}
+
+// What a text says as a decimal. A caller gives Unsupported the number 9, and Bad the number of what it reads.
+pub enum DecimalAnswer {
+    Is(f64),
+    Unsupported,
     Bad,
 }
 
@@ -255,4 +264,61 @@ fn scan(s: &[u8]) -> Scanned
         });
     }
     scan_number(s, negative, from)
+}
+
+// Whether a numeral is taken: no exponent and no word, at most 18 digits from the first nonzero one on, and at most 18
+// after the dot.
+fn is_supported(x: Numeral) -> bool
+    ensures { λ r. ⌜ r ≡ supported x ⌝ }
+{
+    if x.plain {
+        if x.significant <= 18 {
+            x.places <= 18
+        } else {
+            false
+        }
+    } else {
+        false
+    }
+}
+
+// The f64 nearest to n / 10^k, a tie to the even one.
+fn nearest_decimal(n: u64, k: u64) -> f64
+    requires { ⌜ (n < 10 ^ 18) × (k ≤ 18) ⌝ }
+    ensures { λ r. ⌜ r ≡ Ieee.round binary64 false n (10 ^ k) ⌝ }
+{
+    if n == 0 {
+        return 0.0;
+    }
+    if k == 0 {
+        return std::num::nearest_u64_to_f64(n);
+    }
+    if k == 1 {
+        return floats::nearest_scaled(n, 640, 6);
+    }
+    floats::nearest_scaled(n, floats::pow10(k), 0)
+}
+
+// The f64 nearest to n / 10^k, or to its negative: the sign of zero is kept.
+fn signed_decimal(negative: bool, n: u64, k: u64) -> f64
+    requires { ⌜ (n < 10 ^ 18) × (k ≤ 18) ⌝ }
+    ensures { λ r. ⌜ r ≡ Ieee.round binary64 negative n (10 ^ k) ⌝ }
+{
+    let x = nearest_decimal(n, k);
+    if negative { -x } else { x }
+}
+
+// The f64 nearest to the decimal that the text is; Unsupported (9) for a numeral that is not taken, Bad for no numeral.
+pub fn read_decimal(s: &[u8]) -> DecimalAnswer
+    ensures { λ r. ⌜ r ≡ readDecimal (now (s .entry)) ⌝ }
+{
+    let Scanned::Is(x) = scan(s) else {
+        return DecimalAnswer::Bad;
+    };
+    if is_supported(x) {
+        let places = x.places as u64;
+        DecimalAnswer::Is(signed_decimal(x.negative, x.n, places))
+    } else {
+        DecimalAnswer::Unsupported
+    }
 }
