@@ -2,3 +2,9 @@ pub mod DecimalRuns
 pub mod DecimalBounds
 pub mod DecimalAnswers
 pub mod DecimalTens
+pub mod DecimalValues
+pub mod DecimalPlaces
+pub mod DecimalWords
+pub mod DecimalNumbers
+pub mod DecimalScans
+pub mod DecimalLanguage

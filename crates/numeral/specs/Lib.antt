@@ -1,1 +1,2 @@
+pub mod DecimalText
 pub mod DecimalScan
