@@ -8,3 +8,6 @@ pub mod DecimalWords
 pub mod DecimalNumbers
 pub mod DecimalScans
 pub mod DecimalLanguage
+pub mod PrintScale
+pub mod PrintTexts
+pub mod PrintExact

@@ -1,2 +1,3 @@
 pub mod DecimalText
 pub mod DecimalScan
+pub mod PrintText

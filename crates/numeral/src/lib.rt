@@ -1,2 +1,3 @@
 // Numerals: decimals read from a text, numbers written into one. Document 01, "Lines" and "Writing".
 pub mod decimal;
+pub mod print;
