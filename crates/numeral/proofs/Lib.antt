@@ -11,3 +11,4 @@ pub mod DecimalLanguage
 pub mod PrintScale
 pub mod PrintTexts
 pub mod PrintExact
+pub mod PrintIntegers

@@ -4,6 +4,7 @@ use mathlib.Core.Bool.{Bool, true, false}
 use mathlib.Core.List.{List, [], _∷_, _++_}
 use Prim.Native.Nat.{ℕ, zero, suc, _+_, _*_, _/_, _%_, _^_, _<_, _≤_}
 use lib.Dec.{ltb, leb}
+use lib.IntN.{ℤ, pos, negsuc}
 use lib.ListN.{length}
 use lib.Seq.{sets}
 use lib.Ieee.{Float, nan, inf, fin, up, down}
@@ -65,6 +66,11 @@ textOf d plus x = fixedText d (negative x) plus (scaledOf d x)
 -- an integer
 abbrev pub integerText : Bool → ℕ → List ℕ
 integerText s n = partsText s false n (widthOf 18 n) 0 0
+
+-- a whole number with its sign
+abbrev pub wholeText : ℤ → List ℕ
+wholeText (pos n) = integerText false n
+wholeText (negsuc n) = integerText true (suc n)
 
 -- whether a text has room in l from `at` on
 abbrev pub room : List ℕ → ℕ → List ℕ → Bool

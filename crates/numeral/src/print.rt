@@ -4,10 +4,11 @@ ghost use mathlib.Core.Path.{_≡_};
 ghost use mathlib.Core.Bool.{Bool, true, false};
 ghost use Prim.Native.Nat.{ℕ, _+_, _*_, _/_, _%_, _^_, _<_, _≤_};
 ghost use lib.Dec.{T};
+ghost use lib.IntN.{ℤ, pos, natAbs};
 ghost use lib.ListN.{length};
 ghost use lib.Seq.{sets};
 ghost use lib.Ieee.Nearest.{closest};
-ghost use Rattle.numeral.specs.PrintText.{limited, digitsOf, widthOf, signText, pointText, partsText, textOf, integerText, cutAt, placed, written};
+ghost use Rattle.numeral.specs.PrintText.{limited, digitsOf, widthOf, signText, pointText, partsText, textOf, integerText, wholeText, cutAt, placed, written};
 
 // Where the next byte goes; or no room, and nothing was written.
 pub enum Placed {
@@ -240,4 +241,33 @@ fn write_integer(negative: bool, magnitude: u64, out: &mut [u8], at: usize) -> P
     ensures { λ r. ⌜ now (out .exit) ≡ written (now (out .entry)) at (integerText negative magnitude) ⌝ }
 {
     write_number(negative, false, magnitude, 0, 0, out, at)
+}
+
+// n in decimal digits at `at`. Full (12) where it does not fit, and then nothing is written.
+pub fn write_u32(n: u32, out: &mut [u8], at: usize) -> Placed
+    ensures { λ r. ⌜ r ≡ placed (now (out .entry)) at (wholeText (pos n)) ⌝ }
+    ensures { λ r. ⌜ now (out .exit) ≡ written (now (out .entry)) at (wholeText (pos n)) ⌝ }
+{
+    write_integer(false, n as u64, out, at)
+}
+
+// The size of z.
+fn magnitude(z: i32) -> u64
+    ensures { λ r. ⌜ r ≡ natAbs z ⌝ }
+{
+    let wide = z as i64;
+    if wide < 0 {
+        (0 - wide) as u64
+    } else {
+        wide as u64
+    }
+}
+
+// z in decimal digits at `at`, with its minus. Full (12) where it does not fit, and then nothing is written.
+pub fn write_i32(z: i32, out: &mut [u8], at: usize) -> Placed
+    ensures { λ r. ⌜ r ≡ placed (now (out .entry)) at (wholeText z) ⌝ }
+    ensures { λ r. ⌜ now (out .exit) ≡ written (now (out .entry)) at (wholeText z) ⌝ }
+{
+    let m = magnitude(z);
+    write_integer(z < 0, m, out, at)
 }
