@@ -12,3 +12,5 @@ pub mod PrintScale
 pub mod PrintTexts
 pub mod PrintExact
 pub mod PrintIntegers
+pub mod DecimalSamples
+pub mod DecimalTheorems

@@ -1,3 +1,4 @@
 pub mod DecimalText
 pub mod DecimalScan
 pub mod PrintText
+pub mod DecimalAnswers
