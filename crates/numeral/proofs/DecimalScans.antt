@@ -30,7 +30,7 @@ Seen (Form.plain negative whole part) x = SeenPlain negative whole part x
 Seen Form.scaled x = x .plain ≡ false
 Seen Form.word x = x .plain ≡ false
 
-all-append : (a b : List ℕ) → AllDigits a → AllDigits b → AllDigits (a ++ b)
+pub all-append : (a b : List ℕ) → AllDigits a → AllDigits b → AllDigits (a ++ b)
 all-append [] b h k = k
 all-append (c ∷ a) b h k = (h .0, all-append a b (h .1) k)
 

@@ -14,3 +14,4 @@ pub mod PrintExact
 pub mod PrintIntegers
 pub mod DecimalSamples
 pub mod DecimalTheorems
+pub mod PrintForm

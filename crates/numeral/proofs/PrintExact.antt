@@ -77,6 +77,9 @@ scaled-le (fin s m e) d h =
 whole-small : (n c : ℕ) → 0 < c → n ≤ 2 ^ 53 * c → n / c < 10 ^ 18
 whole-small n c h g = let z : n / c < 2 ^ 53 + 1 = div-lt-iff-lt-mul {y = 2 ^ 53 + 1} h .1 (omega arith) in omega arith
 
+pub scaled-whole : (x : Float) (d : ℕ) → T (limited x) → scaledOf d x / 10 ^ d < 10 ^ 18
+scaled-whole x d h = whole-small (scaledOf d x) (10 ^ d) (ten-pos d) (scaled-le x d h)
+
 -- the number that the code cut, in full
 module _ (x : Float) (s : Bool) (d g k : ℕ) (f : fits binary64 x ≡ true) (h : T (limited x)) (u : Unpacked x s g k) {r : Cut}
     (e : r ≡ cutAt d (closest (g * 2 ^ k * 10 ^ d) (2 ^ 1074))) where
@@ -84,7 +87,7 @@ module _ (x : Float) (s : Bool) (d g k : ℕ) (f : fits binary64 x ≡ true) (h 
   cut-is = e ∙ ap (λ (n : ℕ). cutAt d (closest (n * 10 ^ d) (2 ^ 1074))) (sym (u .is)) ∙ ap (cutAt d) (scaled-units x d f h)
 
   pub cut-small : r .whole < 10 ^ 18
-  cut-small = rw cut-is (whole-small (scaledOf d x) (10 ^ d) (ten-pos d) (scaled-le x d h))
+  cut-small = rw cut-is (scaled-whole x d h)
 
   pub cut-text : (plus : Bool) → partsText s plus (r .whole) (widthOf 18 (r .whole)) (r .part) d ≡ textOf d plus x
   cut-text plus = rw (u .sign, cut-is)

@@ -2,3 +2,4 @@ pub mod DecimalText
 pub mod DecimalScan
 pub mod PrintText
 pub mod DecimalAnswers
+pub mod PrintForm
