@@ -15,3 +15,4 @@ pub mod PrintIntegers
 pub mod DecimalSamples
 pub mod DecimalTheorems
 pub mod PrintForm
+pub mod PrintOne

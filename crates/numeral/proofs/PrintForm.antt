@@ -38,7 +38,7 @@ digits-value (suc k) n =
     ∙ ap (λ (x : ℕ). a * 10 ^ k + x) (digits-value k n)
     ∙ sym (mod-mul n {m = 10} {c = 10 ^ k} (lit< tt) (ten-pos k)) ∙ ap (λ (x : ℕ). n % x) (sym (pow-succ' 10 k))
 
-decimal-append : (a b : List ℕ) → decimal (a ++ b) ≡ decimal a * 10 ^ length b + decimal b
+pub decimal-append : (a b : List ℕ) → decimal (a ++ b) ≡ decimal a * 10 ^ length b + decimal b
 decimal-append [] b = omega (arith, zero-mul (10 ^ length b))
 decimal-append (c ∷ a) b =
     let p : (c - 48) * 10 ^ length (a ++ b) ≡ (c - 48) * 10 ^ length a * 10 ^ length b =

@@ -52,7 +52,7 @@ under-requires c κs = search needs
 add-rounded-half : tie.Need-add-rounded-half
 add-rounded-half c =
     let b = c .before .before in
-    omega (arith, c .under .ensures, mod-le (whole b) (2 ^ (b .before .args .t - 32)), whole-lt b)
+    omega (arith, c .under .ensures, mod-le (whole b) (2 ^ (b .before .args .t - 32)), whole-lt b, small-ten b)
 
 rounded-half-requires : tie.Need-rounded-half-requires
 rounded-half-requires c κs =
