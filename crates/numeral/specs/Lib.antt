@@ -1,3 +1,8 @@
 pub mod Digits
 pub mod IntegerText
 pub mod Integer
+pub mod DecimalText
+pub mod DecimalScan
+pub mod PrintText
+pub mod DecimalAnswers
+pub mod PrintForm

@@ -1,2 +1,4 @@
-// Numerals of a text. Document 01, "Lines": integers at every width and sign.
+// Numerals: integers and decimals read from a text, numbers written into one. Document 01, "Lines" and "Writing".
+pub mod decimal;
 pub mod integer;
+pub mod print;
