@@ -1,3 +1,4 @@
 pub mod Numbers
 pub mod Said
 pub mod Integers
+pub mod Tables
