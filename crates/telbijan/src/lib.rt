@@ -4,6 +4,7 @@ use base::Refusal;
 
 mod integers;
 mod keys;
+mod pitches;
 mod powers;
 
 ghost use mathlib.Core.Path.{_≡_};
