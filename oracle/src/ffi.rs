@@ -14,6 +14,27 @@ mod raw {
         pub fn telbijan_plus_steps(number: i32, steps: i32, after: *mut i32) -> u64;
         pub fn telbijan_exp2(x: f64, power: *mut f64) -> u64;
         pub fn telbijan_log2(x: f64, logarithm: *mut f64) -> u64;
+        pub fn telbijan_ratio_from_float(value: f64, ratio: *mut f64) -> u64;
+        pub fn telbijan_ratio_from_octaves(octaves: f64, ratio: *mut f64) -> u64;
+        pub fn telbijan_ratio_from_semitones(semitones: f64, ratio: *mut f64) -> u64;
+        pub fn telbijan_ratio_from_cents(cents: f64, ratio: *mut f64) -> u64;
+        pub fn telbijan_ratio_between_pitches(first: f64, second: f64, ratio: *mut f64) -> u64;
+        pub fn telbijan_ratio_stretched_by(value: f64, stretch: f64, ratio: *mut f64) -> u64;
+        pub fn telbijan_ratio_deviation_from(value: f64, reference: f64, ratio: *mut f64) -> u64;
+        pub fn telbijan_ratio_repeated(value: f64, times: f64, ratio: *mut f64) -> u64;
+        pub fn telbijan_ratio_divided_into_equal_steps(value: f64, steps: f64, ratio: *mut f64) -> u64;
+        pub fn telbijan_ratio_num_equal_steps_of_size(value: f64, step: f64, count: *mut f64) -> u64;
+        pub fn telbijan_ratio_as_octaves(value: f64, octaves: *mut f64) -> u64;
+        pub fn telbijan_ratio_as_semitones(value: f64, semitones: *mut f64) -> u64;
+        pub fn telbijan_ratio_as_cents(value: f64, cents: *mut f64) -> u64;
+        pub fn telbijan_ratio_inv(value: f64, ratio: *mut f64) -> u64;
+        pub fn telbijan_ratio_abs(value: f64, ratio: *mut f64) -> u64;
+        pub fn telbijan_pitch_from_hz(value: f64, hz: *mut f64) -> u64;
+        pub fn telbijan_pitch_times_ratio(value: f64, ratio: f64, hz: *mut f64) -> u64;
+        pub fn telbijan_pitch_over_ratio(value: f64, ratio: f64, hz: *mut f64) -> u64;
+        pub fn telbijan_ratio_is_negligible(value: f64, negligible: *mut bool) -> u64;
+        pub fn telbijan_ratio_total_cmp(value: f64, other: f64, order: *mut i32) -> u64;
+        pub fn telbijan_ratio_nearest_fraction(value: f64, limit: u16, numer: *mut u16, denom: *mut u16, deviation: *mut f64, octaves: *mut i32) -> u64;
     }
 }
 
@@ -72,6 +93,48 @@ pub fn log2(x: f64) -> (Code, Bits) {
     let mut logarithm = OLD_F64;
     let code = unsafe { raw::telbijan_log2(x, &mut logarithm) };
     (Code(code), Bits::of(logarithm))
+}
+
+/// A call that stores a float: of one float, and of two.
+pub type One = unsafe extern "C" fn(f64, *mut f64) -> u64;
+pub type Two = unsafe extern "C" fn(f64, f64, *mut f64) -> u64;
+
+pub fn one(call: One, x: f64) -> (Code, Bits) {
+    let mut answer = OLD_F64;
+    let code = unsafe { call(x, &mut answer) };
+    (Code(code), Bits::of(answer))
+}
+
+pub fn two(call: Two, x: f64, y: f64) -> (Code, Bits) {
+    let mut answer = OLD_F64;
+    let code = unsafe { call(x, y, &mut answer) };
+    (Code(code), Bits::of(answer))
+}
+
+pub use raw::*;
+
+pub fn is_negligible(x: f64) -> (Code, bool) {
+    let mut negligible = OLD_BOOL;
+    let code = unsafe { raw::telbijan_ratio_is_negligible(x, &mut negligible) };
+    (Code(code), negligible)
+}
+
+pub fn total_cmp(x: f64, y: f64) -> (Code, i32) {
+    let mut order = OLD_I32;
+    let code = unsafe { raw::telbijan_ratio_total_cmp(x, y, &mut order) };
+    (Code(code), order)
+}
+
+/// Numerator, denominator, deviation and octaves.
+pub type Nearest = (u16, u16, Bits, i32);
+
+pub const OLD_U16: u16 = 0x5AA5;
+pub const OLD_BOOL: bool = true;
+
+pub fn nearest_fraction(x: f64, limit: u16) -> (Code, Nearest) {
+    let (mut numer, mut denom, mut deviation, mut octaves) = (OLD_U16, OLD_U16, OLD_F64, OLD_I32);
+    let code = unsafe { raw::telbijan_ratio_nearest_fraction(x, limit, &mut numer, &mut denom, &mut deviation, &mut octaves) };
+    (Code(code), (numer, denom, Bits::of(deviation), octaves))
 }
 
 /// Inner functions, from the crate `probes`.

@@ -8,6 +8,7 @@ mod floats;
 mod inputs;
 mod key;
 mod math;
+mod pitch;
 mod powers;
 mod tally;
 
@@ -21,6 +22,7 @@ fn main() -> ExitCode {
     key::compare(&mut all);
     floats::compare(&mut all);
     powers::compare(&mut all);
+    pitch::compare(&mut all);
     powers::report();
     all.verdict()
 }
