@@ -149,5 +149,93 @@ pub mod probe {
         pub safe fn probe_is_in_search(x: f64) -> bool;
         pub safe fn probe_is_in_generator(x: f64) -> bool;
         pub safe fn probe_is_in_pitch(x: f64) -> bool;
+        fn probe_next_line(source: *const u8, length: usize, at: usize, next: *mut usize) -> usize;
+        fn probe_read_line(source: *const u8, length: usize, from: usize, to: usize, start: *mut usize, end: *mut usize, token: *mut usize) -> u32;
+        fn probe_read_u16(s: *const u8, length: usize, value: *mut u16) -> bool;
+        fn probe_read_u32(s: *const u8, length: usize, value: *mut u32) -> bool;
+        fn probe_read_i16(s: *const u8, length: usize, value: *mut i16) -> bool;
+        fn probe_read_i32(s: *const u8, length: usize, value: *mut i32) -> bool;
+        fn probe_read_decimal(s: *const u8, length: usize, value: *mut f64) -> u32;
+        fn probe_write_fixed(x: f64, decimals: u64, plus: bool, out: *mut u8, length: usize, at: usize, next: *mut usize) -> bool;
+        fn probe_write_i32(z: i32, out: *mut u8, length: usize, at: usize, next: *mut usize) -> bool;
+        fn probe_write_u32(n: u32, out: *mut u8, length: usize, at: usize, next: *mut usize) -> bool;
+    }
+
+    /// Where the line at a place ends, and where the next starts.
+    pub fn next_line(source: &[u8], at: usize) -> (usize, usize) {
+        let mut next = 0;
+        let end = unsafe { probe_next_line(source.as_ptr(), source.len(), at, &mut next) };
+        (end, next)
+    }
+
+    /// What a line says.
+    #[derive(Debug, Eq, PartialEq)]
+    pub enum Line {
+        NotUtf8,
+        Dropped,
+        Content { start: usize, end: usize, token: usize },
+    }
+
+    pub fn read_line(source: &[u8], from: usize, to: usize) -> Line {
+        let (mut start, mut end, mut token) = (0, 0, 0);
+        match unsafe { probe_read_line(source.as_ptr(), source.len(), from, to, &mut start, &mut end, &mut token) } {
+            0 => Line::NotUtf8,
+            1 => Line::Dropped,
+            _ => Line::Content { start, end, token },
+        }
+    }
+
+    pub fn read_u16(s: &[u8]) -> Option<u16> {
+        let mut value = 0;
+        unsafe { probe_read_u16(s.as_ptr(), s.len(), &mut value) }.then_some(value)
+    }
+
+    pub fn read_u32(s: &[u8]) -> Option<u32> {
+        let mut value = 0;
+        unsafe { probe_read_u32(s.as_ptr(), s.len(), &mut value) }.then_some(value)
+    }
+
+    pub fn read_i16(s: &[u8]) -> Option<i16> {
+        let mut value = 0;
+        unsafe { probe_read_i16(s.as_ptr(), s.len(), &mut value) }.then_some(value)
+    }
+
+    pub fn read_i32(s: &[u8]) -> Option<i32> {
+        let mut value = 0;
+        unsafe { probe_read_i32(s.as_ptr(), s.len(), &mut value) }.then_some(value)
+    }
+
+    /// A decimal: none, unsupported, or its bits.
+    #[derive(Debug, Eq, PartialEq)]
+    pub enum Decimal {
+        Bad,
+        Unsupported,
+        Is(u64),
+    }
+
+    pub fn read_decimal(s: &[u8]) -> Decimal {
+        let mut value = 0.0f64;
+        match unsafe { probe_read_decimal(s.as_ptr(), s.len(), &mut value) } {
+            0 => Decimal::Bad,
+            1 => Decimal::Unsupported,
+            _ => Decimal::Is(value.to_bits()),
+        }
+    }
+
+    /// The place after what was written, or none where it does not fit; `x` is at most 2^53 in size, `decimals` at most 4.
+    pub fn write_fixed(x: f64, decimals: u64, plus: bool, out: &mut [u8], at: usize) -> Option<usize> {
+        assert!(x.abs() <= 2f64.powi(53) && decimals <= 4);
+        let mut next = 0;
+        unsafe { probe_write_fixed(x, decimals, plus, out.as_mut_ptr(), out.len(), at, &mut next) }.then_some(next)
+    }
+
+    pub fn write_i32(z: i32, out: &mut [u8], at: usize) -> Option<usize> {
+        let mut next = 0;
+        unsafe { probe_write_i32(z, out.as_mut_ptr(), out.len(), at, &mut next) }.then_some(next)
+    }
+
+    pub fn write_u32(n: u32, out: &mut [u8], at: usize) -> Option<usize> {
+        let mut next = 0;
+        unsafe { probe_write_u32(n, out.as_mut_ptr(), out.len(), at, &mut next) }.then_some(next)
     }
 }

@@ -11,6 +11,8 @@ mod math;
 mod pitch;
 mod powers;
 mod tally;
+mod numerals;
+mod texts;
 
 use std::process::ExitCode;
 
@@ -23,6 +25,8 @@ fn main() -> ExitCode {
     floats::compare(&mut all);
     powers::compare(&mut all);
     pitch::compare(&mut all);
+    texts::compare(&mut all);
+    numerals::compare(&mut all);
     powers::report();
     all.verdict()
 }
