@@ -1,17 +1,19 @@
 //! The proved library beside the Rust that it is a port of: the same inputs to both, every answer compared.
 //!
-//! `oracle` compares and prints a line for each function: cases tried, refusals met, differences. Any difference, and any
-//! function with no case, makes it fail.
+//! - `oracle` compares and prints a line for each function: cases tried, refusals met, differences. Any difference, and any
+//!   function with no case, makes it fail.
+//! - `oracle freeze FOLDER` writes a sample of the Rust's answers for the program `replay`.
 
 mod ffi;
 mod floats;
+mod freeze;
 mod inputs;
 mod key;
 mod math;
+mod numerals;
 mod pitch;
 mod powers;
 mod tally;
-mod numerals;
 mod texts;
 
 use std::process::ExitCode;
@@ -19,6 +21,24 @@ use std::process::ExitCode;
 fn main() -> ExitCode {
     // a panic of the Rust is an answer here, and is caught where it is one
     std::panic::set_hook(Box::new(|_| {}));
+    let words: Vec<String> = std::env::args().skip(1).collect();
+    match words.iter().map(String::as_str).collect::<Vec<_>>()[..] {
+        [] => compare(),
+        ["freeze", folder] => match freeze::freeze(folder) {
+            Ok(()) => ExitCode::SUCCESS,
+            Err(error) => {
+                eprintln!("freeze: {error}");
+                ExitCode::FAILURE
+            }
+        },
+        _ => {
+            eprintln!("usage: oracle [freeze FOLDER]");
+            ExitCode::FAILURE
+        }
+    }
+}
+
+fn compare() -> ExitCode {
     let mut all = tally::Report::new();
     math::compare(&mut all);
     key::compare(&mut all);

@@ -6,7 +6,6 @@ use numeral::integer::U16;
 use numeral::integer::U32;
 use numeral::print::Placed;
 use text::line::LineSays;
-
 ghost use Prim.Native.Nat.{_≤_};
 ghost use lib.Dec.{T};
 ghost use Rattle.numeral.specs.PrintText.{limited};
