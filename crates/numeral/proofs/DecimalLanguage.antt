@@ -11,7 +11,8 @@ use lib.Dec.{leb}
 use lib.Ieee.{Float, round, binary64}
 use borrow.Author.Tests.{le-leb, lt-leb, leb-false}
 use Rattle.base.specs.Said.{pick}
-use Rattle.numeral.specs.DecimalText.{decimal, fromNonzero, Form, FloatText, Unsupported, UnsupportedText, DecimalText}
+use Rattle.numeral.specs.Digits.{decimal}
+use Rattle.numeral.specs.DecimalText.{fromNonzero, Form, FloatText, Unsupported, UnsupportedText, DecimalText}
 use Rattle.numeral.specs.DecimalScan.{scanOf, supported, valued, judged, readDecimal}
 use Rattle.numeral.specs.declared.decimal.Numeral.{Numeral}
 use Rattle.numeral.specs.declared.decimal.Scanned.{Scanned}

@@ -9,7 +9,8 @@ use lib.ListN.{length, getD, drop, length-append}
 use lib.Dec.{ltb, eqb, lit<, lit≤}
 use borrow.Author.Tests.{lt-ltb, le-ltb, ltb-true, eq-eqb, ne-eqb, eqb-true, eqb-false}
 use Rattle.base.specs.Said.{pick}
-use Rattle.numeral.specs.DecimalText.{AllDigits, Signed, Digits, Exponent}
+use Rattle.numeral.specs.Digits.{AllDigits}
+use Rattle.numeral.specs.DecimalText.{Signed, Digits, Exponent}
 use Rattle.numeral.specs.DecimalScan.{digit, runOf, runAt, afterSign, afterDot, markAt, digitsToEnd, exponentAt, scaled as withExponent, endedAt, partOf, numberAt}
 use Rattle.numeral.specs.declared.decimal.Run.{Run}
 use Rattle.numeral.specs.declared.decimal.Numeral.{Numeral}

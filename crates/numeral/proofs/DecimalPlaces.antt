@@ -10,7 +10,8 @@ use lib.Seq.{drop-drop, drop-append-seam, getD-drop}
 use lib.Dec.{ltb, eqb}
 use borrow.Author.Tests.{lt-ltb, le-ltb, eqb-true, eqb-false, ne-eqb}
 use Rattle.base.specs.Said.{pick}
-use Rattle.numeral.specs.DecimalText.{AllDigits, Signed}
+use Rattle.numeral.specs.Digits.{AllDigits}
+use Rattle.numeral.specs.DecimalText.{Signed}
 use Rattle.numeral.specs.DecimalScan.{runOf, runAt, afterSign, afterDot, minusFirst}
 use Rattle.numeral.proofs.DecimalValues.{grownAll, countedAll, Stops, run-over}
 

@@ -8,7 +8,8 @@ use lib.ListN.{length}
 use lib.Dec.{eqb}
 use borrow.Author.Tests.{eqb-true, eqb-false}
 use Rattle.base.specs.Said.{pick}
-use Rattle.numeral.specs.DecimalText.{AllDigits, decimal, fromNonzero, Digits, Form, FloatText}
+use Rattle.numeral.specs.Digits.{AllDigits, decimal}
+use Rattle.numeral.specs.DecimalText.{fromNonzero, Digits, Form, FloatText}
 use Rattle.numeral.specs.DecimalScan.{afterSign, wordAt, minusFirst, numberAt, scaled as withExponent, scanOf}
 use Rattle.numeral.specs.declared.decimal.Numeral.{Numeral}
 use Rattle.numeral.specs.declared.decimal.Scanned.the-variants as scanned

@@ -9,7 +9,8 @@ use lib.ListN.{length}
 use lib.Dec.{ltb, eqb}
 use borrow.Author.Tests.{lt-ltb, eq-eqb, ne-eqb, eqb-true, eqb-false, ltb-false}
 use Rattle.base.specs.Said.{pick}
-use Rattle.numeral.specs.DecimalText.{AllDigits, decimal, fromNonzero}
+use Rattle.numeral.specs.Digits.{AllDigits, decimal}
+use Rattle.numeral.specs.DecimalText.{fromNonzero}
 use Rattle.numeral.specs.DecimalScan.{digit, grownBy, countedBy, runOf}
 use Rattle.numeral.specs.declared.decimal.Run.{Run}
 use Rattle.numeral.proofs.DecimalRuns.{digit-yes}

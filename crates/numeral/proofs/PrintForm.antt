@@ -15,7 +15,8 @@ use lib.Ieee.{Float, round, binary64}
 use borrow.Author.Tests.{lt-ltb, le-ltb, ltb-true, ltb-false, eqb-true, eqb-false}
 use Rattle.base.specs.Said.{pick}
 use Rattle.floats.specs.Units.{negative}
-use Rattle.numeral.specs.DecimalText.{AllDigits, decimal, fromNonzero, Signed, Digits, Form, FloatText, Unsupported, DecimalText}
+use Rattle.numeral.specs.Digits.{AllDigits, decimal}
+use Rattle.numeral.specs.DecimalText.{fromNonzero, Signed, Digits, Form, FloatText, Unsupported, DecimalText}
 use Rattle.numeral.specs.PrintText.{limited, scaledOf, digitsOf, widthOf, signText, pointText, fixedText, textOf}
 use Rattle.numeral.specs.PrintForm.{FixedText, Printed}
 use Rattle.numeral.proofs.DecimalScans.{all-append}

@@ -11,7 +11,7 @@ use lib.ListN.{length, getD}
 use lib.Arith.{digits-lt, digits-div, digits-mod}
 use lib.Ieee.{Float}
 use Rattle.floats.specs.Units.{negative}
-use Rattle.numeral.specs.DecimalText.{AllDigits, decimal}
+use Rattle.numeral.specs.Digits.{AllDigits, decimal}
 use Rattle.numeral.specs.PrintText.{limited, scaledOf, signText, pointText, textOf}
 use Rattle.numeral.specs.PrintForm.{FixedText, Printed}
 use Rattle.numeral.proofs.DecimalTens.{ten-le}

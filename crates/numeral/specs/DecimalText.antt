@@ -9,16 +9,7 @@ use lib.ListN.{length}
 use lib.Dec.{eqb}
 use lib.Ieee.{Float, round, binary64}
 use Rattle.base.specs.Said.{pick}
-
--- every byte is a digit
-abbrev pub AllDigits : List ℕ → Type 0
-AllDigits [] = Unit {0}
-AllDigits (b ∷ s) = ((48 ≤ b) × (b ≤ 57)) × AllDigits s
-
--- the number that digits write
-abbrev pub decimal : List ℕ → ℕ
-decimal [] = 0
-decimal (b ∷ s) = (b - 48) * 10 ^ length s + decimal s
+use Rattle.numeral.specs.Digits.{AllDigits, decimal}
 
 -- the digits from the first nonzero digit on
 abbrev pub fromNonzero : List ℕ → List ℕ

@@ -1,3 +1,4 @@
+pub mod Digits
 pub mod DecimalText
 pub mod DecimalScan
 pub mod PrintText

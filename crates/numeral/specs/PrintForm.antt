@@ -7,7 +7,7 @@ use Prim.Native.Nat.{ℕ, _<_}
 use lib.ListN.{length, getD}
 use lib.Ieee.{Float}
 use Rattle.floats.specs.Units.{negative}
-use Rattle.numeral.specs.DecimalText.{AllDigits, decimal}
+use Rattle.numeral.specs.Digits.{AllDigits, decimal}
 use Rattle.numeral.specs.PrintText.{signText, pointText, scaledOf}
 
 -- t is n / 10^d with d decimals: the sign, the whole part with no zero before other digits, and d digits after a dot
