@@ -7,7 +7,6 @@ use Prim.Native.Nat.{ℕ}
 use native.Mathlib.Omega.{arith}
 use lib.IntN.{ℤ, pos}
 use lib.Ieee.{Float}
-use Rattle.base.specs.Said.{Said, gives, refuses}
 use Rattle.base.proofs.Said.{one-result}
 use Rattle.numeral.specs.DecimalScan.{readDecimal}
 use Rattle.numeral.specs.DecimalAnswers.{saysDecimal}
