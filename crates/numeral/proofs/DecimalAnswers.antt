@@ -1,11 +1,11 @@
 -- From what was scanned to the answer. Assumes nothing.
 use mathlib.Core.Path.{_≡_, refl, sym, _∙_, ap}
-use mathlib.Core.List.{List, [], _∷_}
+use mathlib.Core.List.{List}
 use mathlib.Core.Bool.{Bool, true, false}
-use Prim.Native.Nat.{ℕ, _+_, _-_, _*_, _^_, _≤_, _<_}
+use Prim.Native.Nat.{ℕ, _+_, _-_, _^_, _≤_, _<_}
 use native.Mathlib.Omega.{arith}
 use lib.ListN.{length}
-use lib.Dec.{leb, ltb, eqb}
+use lib.Dec.{leb, eqb}
 use lib.Ieee.{Float}
 use borrow.Author.Tests.{leb-true}
 use Rattle.base.specs.Said.{pick}
@@ -14,9 +14,8 @@ use Rattle.numeral.specs.declared.decimal.Run.{Run}
 use Rattle.numeral.specs.declared.decimal.Numeral.{Numeral}
 use Rattle.numeral.specs.declared.decimal.Scanned.{Scanned}
 use Rattle.numeral.specs.declared.decimal.Scanned.the-variants as scanned
-use Rattle.numeral.specs.declared.decimal.DecimalAnswer.{DecimalAnswer}
 use Rattle.numeral.specs.declared.decimal.DecimalAnswer.the-variants as answer
-use Rattle.numeral.proofs.DecimalBounds.{Bounded, run-in, dot-in, sign-in}
+use Rattle.numeral.proofs.DecimalBounds.{run-in, dot-in, sign-in}
 
 -- what `supported` says of a numeral
 pub record Supported (x : Numeral) : Type 0 where

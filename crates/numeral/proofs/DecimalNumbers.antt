@@ -5,8 +5,8 @@ use mathlib.Core.Bool.{Bool, true, false}
 use mathlib.Core.Logic.{_⊎_, inl, inr}
 use Prim.Native.Nat.{ℕ, zero, suc, _+_, _-_, _≤_, _<_}
 use native.Mathlib.Omega.{arith}
-use lib.ListN.{length, getD, drop, length-append}
-use lib.Dec.{ltb, eqb, lit<, lit≤}
+use lib.ListN.{length, length-append}
+use lib.Dec.{ltb, eqb, lit≤}
 use borrow.Author.Tests.{lt-ltb, le-ltb, ltb-true, eq-eqb, ne-eqb, eqb-true, eqb-false}
 use Rattle.base.specs.Said.{pick}
 use Rattle.numeral.specs.DecimalText.{Signed, Digits, Exponent}
@@ -14,11 +14,10 @@ use Rattle.numeral.specs.Digits.{AllDigits}
 use Rattle.numeral.specs.DecimalScan.{digit, runOf, runAt, afterSign, afterDot, markAt, digitsToEnd, exponentAt, scaled as withExponent, endedAt, partOf, numberAt}
 use Rattle.numeral.specs.declared.decimal.Run.{Run}
 use Rattle.numeral.specs.declared.decimal.Numeral.{Numeral}
-use Rattle.numeral.specs.declared.decimal.Scanned.{Scanned}
 use Rattle.numeral.specs.declared.decimal.Scanned.the-variants as scanned
 use Rattle.numeral.proofs.DecimalRuns.{number-is, exponent-some}
-use Rattle.numeral.proofs.DecimalValues.{grownAll, countedAll, grown-append, counted-append, Stops, run-over, Split, split}
-use Rattle.numeral.proofs.DecimalPlaces.{At, at-over, at-next, at-byte, at-more, at-end, NoSign, after-signed, Unsigned, unsigned}
+use Rattle.numeral.proofs.DecimalValues.{grownAll, countedAll, grown-append, counted-append, Stops, run-over, split}
+use Rattle.numeral.proofs.DecimalPlaces.{At, at-over, at-next, at-byte, at-more, at-end, NoSign, after-signed, unsigned}
 use Rattle.numeral.proofs.DecimalWords.{Opens}
 
 -- where a run over digits ends

@@ -2,14 +2,12 @@
 -- Assumes nothing.
 use mathlib.Core.Path.{_≡_, refl}
 use mathlib.Core.Bool.{true, false}
-use mathlib.Core.List.{List, [], _∷_}
-use Prim.Native.Nat.{ℕ}
-use lib.IntN.{ℤ, pos, negsuc}
-use lib.Ieee.{Float, fin, ofBits, round, binary64}
+use mathlib.Core.List.{[], _∷_}
+use lib.IntN.{pos, negsuc}
+use lib.Ieee.{ofBits, round, binary64}
 use Rattle.floats.specs.Units.{negative}
 use Rattle.numeral.specs.DecimalScan.{runOf, spelled, scanOf, readDecimal}
 use Rattle.numeral.specs.PrintText.{textOf, wholeText}
-use Rattle.numeral.specs.declared.decimal.DecimalAnswer.{DecimalAnswer}
 use Rattle.numeral.specs.declared.decimal.DecimalAnswer.the-variants.{Is, Unsupported, Bad}
 
 -- numerals that 9 is given for

@@ -1,18 +1,17 @@
 -- What a run over digits has counted, and the number that it has when there are at most 18. Assumes nothing.
-use mathlib.Core.Path.{_≡_, refl, sym, _∙_, ap}
-use mathlib.Core.List.{List, [], _∷_, _++_, append-assoc}
+use mathlib.Core.Path.{_≡_, refl, _∙_, ap}
+use mathlib.Core.List.{List, [], _∷_, _++_}
 use mathlib.Core.Bool.{Bool, true, false}
-use Prim.Native.Nat.{ℕ, zero, suc, _+_, _-_, _*_, _^_, _≤_, _<_}
+use Prim.Native.Nat.{ℕ, suc, _+_, _-_, _*_, _^_, _≤_, _<_}
 use native.Mathlib.Nat.{pow-succ', pow-suc, mul-assoc, add-mul}
 use native.Mathlib.Omega.{arith}
 use lib.ListN.{length}
 use lib.Dec.{ltb, eqb}
-use borrow.Author.Tests.{lt-ltb, eq-eqb, ne-eqb, eqb-true, eqb-false, ltb-false}
+use borrow.Author.Tests.{lt-ltb, ne-eqb, eqb-true, eqb-false}
 use Rattle.base.specs.Said.{pick}
 use Rattle.numeral.specs.DecimalText.{fromNonzero}
 use Rattle.numeral.specs.Digits.{AllDigits, decimal}
 use Rattle.numeral.specs.DecimalScan.{digit, grownBy, countedBy, runOf}
-use Rattle.numeral.specs.declared.decimal.Run.{Run}
 use Rattle.numeral.proofs.DecimalRuns.{digit-yes}
 use Rattle.numeral.proofs.DecimalBounds.{digit-is}
 use Rattle.numeral.proofs.DecimalTens.{ten-le}

@@ -21,3 +21,4 @@ pub mod DecimalSamples
 pub mod DecimalTheorems
 pub mod PrintForm
 pub mod PrintOne
+pub mod PrintLimits

@@ -1,13 +1,12 @@
 -- From a float's exact value to the number that is printed, and how large that is. Assumes nothing.
-use mathlib.Core.Path.{_≡_, refl, sym, ap, _∙_, subst}
-use mathlib.Core.Bool.{Bool, true, false}
-use mathlib.Core.List.{List}
-use Prim.Native.Nat.{ℕ, zero, suc, _+_, _-_, _*_, _/_, _%_, _^_, _≤_, _<_, compare}
-use native.Mathlib.Nat.{mul-assoc, mul-comm, mul-right-comm, mul-one, mul-le-mul-right, le-of-mul-le-mul-right, le-trans, le-of-eq, lt-of-not-le, not-le-of-lt, div-lt-iff-lt-mul, div-one, mod-one}
+use mathlib.Core.Path.{_≡_, sym, ap, _∙_}
+use mathlib.Core.Bool.{Bool, true}
+use Prim.Native.Nat.{ℕ, _+_, _-_, _*_, _/_, _%_, _^_, _≤_, _<_, compare}
+use native.Mathlib.Nat.{mul-right-comm, mul-one, mul-le-mul-right, le-of-mul-le-mul-right, le-trans, le-of-eq, lt-of-not-le, not-le-of-lt, div-lt-iff-lt-mul, div-one, mod-one}
 use native.Mathlib.Omega.{arith}
 use lib.Dec.{T, leb→le, lit<}
-use lib.Pow.{pow-pos, pow-add, pow-lt, pow-mono}
-use lib.Ieee.{Float, nan, inf, fin, binary64, up, down, fits, toBits, nearest}
+use lib.Pow.{pow-pos, pow-add, pow-lt}
+use lib.Ieee.{Float, nan, inf, fin, binary64, up, down, fits, nearest}
 use lib.Ieee.Fits.{down-pos}
 use lib.Ieee.Exact.{HasValue}
 use lib.Ieee.Nearest.{closest, closest-same, closest-mono}

@@ -1,18 +1,18 @@
 -- THE THEOREMS OF PRINTED NUMBERS: the text that is written is the one that document 01 means, and read as a decimal it is
 -- the f64 nearest to what it writes. Assumes nothing.
-use mathlib.Core.Path.{_≡_, refl, sym, ap, _∙_, subst}
+use mathlib.Core.Path.{_≡_, refl, sym, ap, _∙_}
 use mathlib.Core.Bool.{Bool, true, false}
 use mathlib.Core.List.{List, [], _∷_, _++_, append-nil}
 use mathlib.Core.Logic.{_⊎_, inl, inr}
 use Prim.Native.Nat.{ℕ, zero, suc, _+_, _-_, _*_, _/_, _%_, _^_, _≤_, _<_}
-use native.Mathlib.Nat.{pow-suc, pow-succ', mul-assoc, add-mul, add-assoc, div-add-mod', mod-lt, mod-eq-of-lt, div-lt-iff-lt-mul, le-div-iff-mul-le, lt-of-not-le, not-le-of-lt, le-trans, mul-le-mul-right, one-mul, zero-mul}
+use native.Mathlib.Nat.{pow-suc, pow-succ', mul-assoc, add-mul, div-add-mod', mod-lt, mod-eq-of-lt, div-lt-iff-lt-mul, le-div-iff-mul-le, lt-of-not-le, not-le-of-lt, mul-le-mul-right, one-mul, zero-mul}
 use native.Mathlib.Omega.{arith}
 use lib.Dec.{T, ltb, eqb, lit<}
 use lib.ListN.{length, getD, length-append}
 use lib.Pow.{pow-add}
 use lib.Arith.{mod-mul}
 use lib.Ieee.{Float, round, binary64}
-use borrow.Author.Tests.{lt-ltb, le-ltb, ltb-true, ltb-false, eqb-true, eqb-false}
+use borrow.Author.Tests.{lt-ltb, ltb-true, ltb-false, eqb-false}
 use Rattle.base.specs.Said.{pick}
 use Rattle.floats.specs.Units.{negative}
 use Rattle.numeral.specs.DecimalText.{fromNonzero, Signed, Digits, Form, FloatText, Unsupported, DecimalText}

@@ -1,12 +1,12 @@
 -- The nearest whole number to m * 10^d / 2^t, from parts that 64 bits hold. Assumes nothing.
-use mathlib.Core.Path.{_≡_, refl, sym, ap, _∙_, subst}
-use mathlib.Core.Bool.{Bool, true, false, cond}
+use mathlib.Core.Path.{_≡_, refl, sym, ap, _∙_}
+use mathlib.Core.Bool.{Bool, cond}
 use mathlib.Core.Logic.{_⊎_, inl, inr}
-use Prim.Native.Nat.{ℕ, zero, suc, _+_, _-_, _*_, _/_, _%_, _^_, _≤_, _<_, compare, Ordering, Ordering·lt, Ordering·eq, Ordering·gt}
-use native.Mathlib.Nat.{add-mul, add-assoc, add-comm, mul-assoc, mul-comm, mul-right-comm, mul-le-mul, le-trans, eq-zero-or-pos, div-add-mod', mod-lt, div-mul-le-self, mod-eq-of-lt, lt-of-lt-of-le, div-lt-iff-lt-mul, mul-add-div-right, mul-add-mod-self-right, mul-lt-mul-of-pos-right, le-of-eq}
+use Prim.Native.Nat.{ℕ, _+_, _-_, _*_, _/_, _%_, _^_, _≤_, _<_, compare, Ordering, Ordering·lt, Ordering·eq, Ordering·gt}
+use native.Mathlib.Nat.{add-mul, add-assoc, mul-assoc, mul-comm, mul-right-comm, mul-le-mul, le-trans, eq-zero-or-pos, div-add-mod', mod-lt, div-mul-le-self, mod-eq-of-lt, lt-of-lt-of-le, mul-add-div-right, mul-add-mod-self-right, mul-lt-mul-of-pos-right, le-of-eq}
 use native.Mathlib.Omega.{arith}
-use lib.Dec.{T, eqb, lit<}
-use lib.Pow.{pow-pos, pow-add, pow-mono}
+use lib.Dec.{eqb, lit<}
+use lib.Pow.{pow-pos, pow-add}
 use lib.Arith.{digits-lt}
 use lib.Ieee.{nearest}
 use lib.Ieee.Nearest.{closest, closest-same, closest-mono}
@@ -14,7 +14,6 @@ use borrow.Author.Tests.{eq-eqb, ne-eqb}
 use Rattle.floats.specs.Nearest.{roundedHalf}
 use Rattle.floats.proofs.Nearest.{half-closest}
 use Rattle.numeral.specs.PrintText.{cutAt}
-use Rattle.numeral.specs.declared.print.Cut.{Cut}
 
 -- m times ten, from its two parts
 pub split-product : (m ten : ℕ) → m * ten ≡ (m / 2 ^ 31 * ten + m % 2 ^ 31 * ten / 2 ^ 31) * 2 ^ 31 + m % 2 ^ 31 * ten % 2 ^ 31

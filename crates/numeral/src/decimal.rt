@@ -8,6 +8,13 @@ ghost use Rattle.numeral.specs.DecimalScan.{grownBy, countedBy, runAt, l
 ghost use lib.Ieee as Ieee;
 ghost use lib.Ieee.{binary64};
 
+// 01: 9 is given "for .. over 18 digits from the first nonzero digit on".
+const MOST_DIGITS: usize = 18;
+// 01: "or over 18 digits after the dot".
+const MOST_PLACES: usize = 18;
+// 10^17: a number from here on has 18 digits.
+const LEAST_OF_18_DIGITS: u64 = 100_000_000_000_000_000;
+
 // Digits one after another: their number, how many there are from the first nonzero one on, and where they end.
 struct Run {
     n: u64,
@@ -49,7 +56,7 @@ fn grown(n: u64, d: u64) -> u64
     requires { ⌜ (n < 10 ^ 18) × (d ≤ 9) ⌝ }
     ensures { λ r. ⌜ r ≡ grownBy n d ⌝ }
 {
-    if n < 100_000_000_000_000_000 {
+    if n < LEAST_OF_18_DIGITS {
         n * 10 + d
     } else {
         n
@@ -74,21 +81,21 @@ fn digits(s: &[u8], n: u64, count: usize, from: usize) -> Run
     let mut at = from;
     while at < s.len() {
         let b = s[at];
-        if b < 48 {
+        if b < b'0' {
             return Run {
                 n: number,
                 significant,
                 at,
             };
         }
-        if 57 < b {
+        if b'9' < b {
             return Run {
                 n: number,
                 significant,
                 at,
             };
         }
-        let d = wide(b - 48);
+        let d = wide(b - b'0');
         significant = counted(number, d, significant);
         number = grown(number, d);
         at += 1;
@@ -104,10 +111,10 @@ fn digits(s: &[u8], n: u64, count: usize, from: usize) -> Run
 fn lower(b: u8) -> u8
     ensures { λ r. ⌜ r ≡ lowered b ⌝ }
 {
-    if b < 65 {
+    if b < b'A' {
         return b;
     }
-    if 90 < b {
+    if b'Z' < b {
         return b;
     }
     b + 32
@@ -151,7 +158,7 @@ fn is_word(s: &[u8], from: usize) -> bool
 fn is_negative(s: &[u8]) -> bool
     ensures { λ r. ⌜ r ≡ minusFirst (now (s .entry)) ⌝ }
 {
-    if 0 < s.len() { s[0] == 45 } else { false }
+    if 0 < s.len() { s[0] == b'-' } else { false }
 }
 
 // The place after the sign at `at`, or `at` where there is none.
@@ -160,10 +167,10 @@ fn after_sign(s: &[u8], at: usize) -> usize
 {
     if at < s.len() {
         let b = s[at];
-        if b == 43 {
+        if b == b'+' {
             return at + 1;
         }
-        if b == 45 {
+        if b == b'-' {
             return at + 1;
         }
     }
@@ -175,7 +182,7 @@ fn after_dot(s: &[u8], at: usize) -> usize
     ensures { λ r. ⌜ r ≡ afterDot (now (s .entry)) at ⌝ }
 {
     if at < s.len() {
-        if s[at] == 46 {
+        if s[at] == b'.' {
             return at + 1;
         }
     }
@@ -188,7 +195,7 @@ fn is_mark(s: &[u8], at: usize) -> bool
 {
     if at < s.len() {
         let b = s[at];
-        if b == 101 { true } else { b == 69 }
+        if b == b'e' { true } else { b == b'E' }
     } else {
         false
     }
@@ -272,8 +279,8 @@ fn is_supported(x: Numeral) -> bool
     ensures { λ r. ⌜ r ≡ supported x ⌝ }
 {
     if x.plain {
-        if x.significant <= 18 {
-            x.places <= 18
+        if x.significant <= MOST_DIGITS {
+            x.places <= MOST_PLACES
         } else {
             false
         }

@@ -135,11 +135,11 @@ fn write_sign(negative: bool, plus: bool, out: &mut [u8], at: usize) -> usize
     ensures { λ r. ⌜ now (out .exit) ≡ sets (now (out .entry)) at (signText negative plus) ⌝ }
 {
     if negative {
-        out[at] = 45;
+        out[at] = b'-';
         return at + 1;
     }
     if plus {
-        out[at] = 43;
+        out[at] = b'+';
         return at + 1;
     }
     at
@@ -152,7 +152,7 @@ fn write_point(d: u64, out: &mut [u8], at: usize) -> usize
     ensures { λ r. ⌜ now (out .exit) ≡ sets (now (out .entry)) at (pointText d) ⌝ }
 {
     if d > 0 {
-        out[at] = 46;
+        out[at] = b'.';
         return at + 1;
     }
     at
@@ -169,7 +169,7 @@ fn write_digits(n: u64, k: usize, out: &mut [u8], at: usize) -> usize
     while left > 0 {
         left = left - 1;
         let p = floats::pow10(left as u64);
-        out[i] = 48 + (n / p % 10) as u8;
+        out[i] = b'0' + (n / p % 10) as u8;
         i += 1;
     }
     i

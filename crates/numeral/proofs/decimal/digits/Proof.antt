@@ -1,10 +1,9 @@
 -- `digits` meets its contract. The loop's invariant: the run from `from` on is the run from `at` on, after what was read.
 -- The measure is what is left of the text.
-use mathlib.Core.Path.{_≡_, refl, sym, _∙_, ap}
-use Prim.Native.Nat.{_+_, _-_, _^_, _≤_, _<_}
+use mathlib.Core.Path.{_≡_, refl, sym, _∙_}
+use Prim.Native.Nat.{_-_, _^_, _≤_, _<_}
 use native.Mathlib.Omega.{arith}
-use denote.Ref.{now}
-use lib.ListN.{length, drop}
+use lib.ListN.{length}
 use borrow.Author.Needs.{needs}
 use Rattle.numeral.specs.DecimalScan.{runAt}
 use Rattle.numeral.proofs.DecimalRuns.{digit-yes, digit-low, digit-high, run-step, run-stop, run-end, grown-small, counted-le}

@@ -3,9 +3,8 @@
 use mathlib.Core.Path.{sym, _∙_}
 use native.Mathlib.Omega.{arith}
 use denote.Ref.{now}
-use Prim.Native.Nat.{_+_, _<_, _≤_}
+use Prim.Native.Nat.{_+_, _<_}
 use lib.ListN.{length}
-use Rattle.numeral.specs.DecimalScan.{afterSign}
 use Rattle.numeral.proofs.DecimalRuns.{exponent-some, exponent-none}
 use Rattle.numeral.proofs.DecimalBounds.{mark-in, sign-in}
 use borrow.Author.Needs.{needs}

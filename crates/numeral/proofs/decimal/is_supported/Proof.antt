@@ -1,7 +1,6 @@
 -- `is_supported` meets its contract: the three tests of what is taken.
 -- Each return rewrites with the tests that led there.
 use borrow.Author.Tests.{le-leb, lt-leb}
-use borrow.Author.Needs.{needs}
 use Rattle.numeral.proofs.decimal.is_supported.Statement.{statement}
 use Rattle.numeral.proofs.decimal.is_supported.Tie as tie
 

@@ -2,7 +2,7 @@
 -- 2^54 and the division is by 640 of n * 64.
 use mathlib.Core.Path.{_≡_, ap, _∙_, sym}
 use mathlib.Core.Bool.{false}
-use Prim.Native.Nat.{ℕ, _+_, _-_, _*_, _^_, _≤_, _<_}
+use Prim.Native.Nat.{ℕ, _-_, _*_, _^_, _≤_, _<_}
 use native.Mathlib.Nat.{pow-le-pow-right, mul-one}
 use native.Mathlib.Omega.{arith}
 use lib.Dec.{lit<}

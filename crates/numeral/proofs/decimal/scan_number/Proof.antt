@@ -3,9 +3,8 @@
 use mathlib.Core.Path.{_∙_}
 use native.Mathlib.Omega.{arith}
 use denote.Ref.{now}
-use Prim.Native.Nat.{_+_, _<_, _≤_}
+use Prim.Native.Nat.{_≤_}
 use lib.ListN.{length}
-use Rattle.numeral.specs.DecimalScan.{afterDot}
 use Rattle.numeral.proofs.DecimalRuns.{number-is}
 use Rattle.numeral.proofs.DecimalBounds.{Bounded, run-in, dot-in}
 use borrow.Author.Needs.{needs}

@@ -3,7 +3,7 @@
 use mathlib.Core.Path.{ap, _∙_}
 use mathlib.Core.Bool.{false}
 use Prim.Native.Nat.{_^_}
-use lib.Ieee.{neg, round, binary64}
+use lib.Ieee.{neg, binary64}
 use Rattle.floats.proofs.Sign.{round-neg}
 use borrow.Author.Needs.{needs}
 use Rattle.numeral.proofs.decimal.signed_decimal.Statement.{statement}

@@ -1,7 +1,7 @@
 -- `spells` meets its contract. The loop's invariant: what is left of both, from place i on, decides.
 -- The measure is what is left of the word.
 use native.Mathlib.Nat.{add-zero}
-use mathlib.Core.Path.{_≡_, sym, _∙_, ap}
+use mathlib.Core.Path.{_≡_, sym, _∙_}
 use Prim.Native.Nat.{_+_, _-_, _≤_}
 use native.Mathlib.Omega.{arith}
 use denote.Ref.{now}

@@ -1,7 +1,6 @@
 -- `fixed` meets its contract: twice the half, and what is left, which is at most two of 10^d.
 -- Nothing here passes 2^54.
-use mathlib.Core.Path.{_≡_, ap, _∙_}
-use Prim.Native.Nat.{ℕ, _+_, _-_, _*_, _/_, _%_, _^_, _<_, _≤_}
+use Prim.Native.Nat.{_+_, _-_, _*_, _^_, _<_, _≤_}
 use native.Mathlib.Omega.{arith}
 use native.Mathlib.Nat.{mod-lt, mod-le, div-le-self}
 use lib.Pow.{pow-pos}

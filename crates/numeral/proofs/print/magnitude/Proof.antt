@@ -1,13 +1,10 @@
 -- `magnitude` meets its contract: an i32 fits an i64, where its negative fits too.
 -- Each cast keeps the number.
-use mathlib.Core.Path.{_≡_, ap, sym, _∙_}
-use mathlib.Core.Bool.{true, false}
-use Prim.Native.Nat.{ℕ}
+use mathlib.Core.Path.{_≡_}
 use native.Mathlib.Omega.{arith}
-use lib.IntN.{ℤ, pos, natAbs, _-ℤ_}
-use lib.Signed.{ltZ}
+use lib.IntN.{pos, natAbs, _-ℤ_}
 use mir.Syntax.{w32, w64}
-use mir.Val.{SFits, toZ, ofZ}
+use mir.Val.{toZ, ofZ}
 use mir.Facts.{toZ-ofZ}
 use Rattle.numeral.proofs.PrintIntegers.{wide-fits, wide-same, size-small, size-fits, turned, kept}
 use Rattle.numeral.proofs.print.magnitude.Statement.{statement}

@@ -1,6 +1,6 @@
 -- `scaled_far` meets its contract: m * 10^d is p of 2^31 and l, and half of p / 2^(t - 32) is rounded by hand.
 -- The bounds: p stays below 2^40.
-use mathlib.Core.Path.{_≡_, sym, ap, _∙_}
+use mathlib.Core.Path.{sym, ap, _∙_}
 use Prim.Native.Nat.{ℕ, _+_, _-_, _*_, _/_, _%_, _^_, _≤_, _<_}
 use native.Mathlib.Omega.{arith}
 use native.Mathlib.Nat.{mul-le-mul, div-le-self, mod-le, mod-lt}

@@ -1,12 +1,9 @@
 -- `write_fixed` meets its contract: x taken apart, its digits cut at 10^d, and written.
 -- What is cut is the number nearest to x's exact value, at most 2^53 of 10^d.
-use mathlib.Core.Path.{_≡_, sym, ap, _∙_}
-use mathlib.Core.Bool.{true}
+use mathlib.Core.Path.{ap, _∙_}
 use mathlib.Core.List.{List}
-use Prim.Native.Nat.{ℕ, _^_, _<_}
-use native.Mathlib.Omega.{arith}
+use Prim.Native.Nat.{ℕ}
 use denote.Ref.{now}
-use lib.Ieee.{fits, binary64}
 use Rattle.numeral.specs.PrintText.{placed, written}
 use Rattle.numeral.proofs.PrintExact.{limited-finite, exponent-le, cut-small, cut-text}
 use borrow.Author.Needs.{needs}

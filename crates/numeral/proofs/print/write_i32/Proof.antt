@@ -1,7 +1,7 @@
 -- `write_i32` meets its contract: the sign and the size of z are written.
 -- The text of those is the text of z.
 use lib.IntN.{natAbs, pos}
-use mathlib.Core.Path.{_≡_, ap, sym, _∙_}
+use mathlib.Core.Path.{_≡_, ap, _∙_}
 use mathlib.Core.List.{List}
 use Prim.Native.Nat.{ℕ}
 use native.Mathlib.Omega.{arith}
