@@ -2,8 +2,10 @@
 //!
 //! - `oracle` compares and prints a line for each function: cases tried, refusals met, differences. Any difference, and any
 //!   function with no case, makes it fail.
+//! - `oracle bench` times the two sides in one run.
 //! - `oracle freeze FOLDER` writes a sample of the Rust's answers for the program `replay`.
 
+mod bench;
 mod ffi;
 mod floats;
 mod freeze;
@@ -24,6 +26,10 @@ fn main() -> ExitCode {
     let words: Vec<String> = std::env::args().skip(1).collect();
     match words.iter().map(String::as_str).collect::<Vec<_>>()[..] {
         [] => compare(),
+        ["bench"] => {
+            bench::bench();
+            ExitCode::SUCCESS
+        }
         ["freeze", folder] => match freeze::freeze(folder) {
             Ok(()) => ExitCode::SUCCESS,
             Err(error) => {
@@ -32,7 +38,7 @@ fn main() -> ExitCode {
             }
         },
         _ => {
-            eprintln!("usage: oracle [freeze FOLDER]");
+            eprintln!("usage: oracle [bench | freeze FOLDER]");
             ExitCode::FAILURE
         }
     }

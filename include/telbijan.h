@@ -1,0 +1,151 @@
+/* Telbijan: a tuning loader. Scales and keyboard mappings in, pitches and degrees out.
+ *
+ * Every function is total: no argument stops it or draws a made-up answer, but for the three things that C leaves to the
+ * caller: pointers point to as many elements as their lengths say, a pointer with length 0 is not null, and no two lent
+ * parts of memory overlap. Nothing is allocated, and there are no globals: calls may run on any number of threads.
+ *
+ * A result is 0, or a refusal: its low byte is the number, and the rest the detail, which is a line of the text (from 1),
+ * the number of a required line, or 0. A refusal leaves all lent memory, and every value behind a pointer, as it was.
+ *
+ * This file is written by tools/header from the proved sources, whose contracts say the rest.
+ */
+#ifndef TELBIJAN_H
+#define TELBIJAN_H
+
+#include <stdbool.h>
+#include <stddef.h>
+#include <stdint.h>
+
+#ifdef __cplusplus
+extern "C" {
+#endif
+
+/* A result taken apart. */
+#define TELBIJAN_NUMBER(result) ((uint32_t)((result) & 0xff))
+#define TELBIJAN_DETAIL(result) ((uint64_t)(result) >> 8)
+
+/* The numbers. */
+#define TELBIJAN_ACCEPTED 0
+#define TELBIJAN_NOT_UTF8 1              /* a line is not UTF-8; its line */
+#define TELBIJAN_LINE_MISSING 2          /* a required line is missing; which one */
+#define TELBIJAN_INT_VALUE 3             /* not an integer of its type; its line */
+#define TELBIJAN_CENTS_VALUE 4           /* not a cents value; its line */
+#define TELBIJAN_NUMER 5                 /* not a numerator; its line */
+#define TELBIJAN_DENOM 6                 /* not a denominator; its line */
+#define TELBIJAN_FLOAT_VALUE 7           /* not a decimal; its line */
+#define TELBIJAN_KEYBOARD_MAPPING 8      /* not a mapping entry; its line */
+#define TELBIJAN_UNSUPPORTED_NUMERAL 9   /* a numeral with an exponent, a word, or too many digits; its line */
+#define TELBIJAN_UNUSABLE 10             /* an unusable value or table; its line, or 0 */
+#define TELBIJAN_OVERFLOW 11             /* a number leaves its type; its line, or 0 */
+#define TELBIJAN_NO_ROOM 12              /* what was lent is too small; the line, or 0 */
+#define TELBIJAN_TOO_LARGE 13            /* over 65,535 entries */
+#define TELBIJAN_INCONSISTENT_COUNT 14   /* the file says another count than it has */
+#define TELBIJAN_FORMAL_OCTAVE_MISSING 15 /* a builder with entries and no formal octave */
+#define TELBIJAN_KEY_OUT_OF_RANGE 16     /* the key is outside the range */
+#define TELBIJAN_UNMAPPED_KEY 17         /* the key is unmapped */
+#define TELBIJAN_BEYOND_REACH 18         /* a computed pitch or ratio is outside 2^-900..2^900 */
+
+/* ---- math.rs for C: division rounded down, and the odd part. */
+
+/* The quotient rounded down, stored; 10 for denominator 0. */
+uint64_t telbijan_i32_div_u(int32_t numer, uint32_t denom, int32_t *quotient);
+
+/* What the quotient leaves, stored; 10 for denominator 0. */
+uint64_t telbijan_i32_rem_u(int32_t numer, uint32_t denom, uint32_t *remainder);
+
+/* Quotient and remainder, both stored; 10 for denominator 0. */
+uint64_t telbijan_i32_dr_u(int32_t numer, uint32_t denom, int32_t *quotient, uint32_t *remainder);
+
+/* The number with every factor of two taken out; 0 stays 0. */
+uint16_t telbijan_odd_factors_u16(uint16_t number);
+
+/* ---- key.rs for C: a key goes as its MIDI number. */
+
+/* The MIDI number of a key in 0..127, stored; else 16. */
+uint64_t telbijan_checked_midi_number(int32_t number, uint8_t *midi);
+
+/* How many keys lie from one key up to another, stored; 11 outside 32 bits. */
+uint64_t telbijan_num_keys_before(int32_t number, int32_t other, int32_t *steps);
+
+/* The key that many steps after a key, stored; 11 outside 32 bits. */
+uint64_t telbijan_plus_steps(int32_t number, int32_t steps, int32_t *after);
+
+/* ---- E and L for C: the power of two and its logarithm, the same on every machine. */
+
+/* E(x), the power 2^x, stored; 18 outside -900..900. */
+uint64_t telbijan_exp2(double x, double *power);
+
+/* L(x), the base 2 logarithm, stored; 18 outside 2^-900..2^900. */
+uint64_t telbijan_log2(double x, double *logarithm);
+
+/* ---- pitch.rs for C: a ratio goes as its number, and a pitch as its number of Hz. */
+
+/* The ratio of a number; 10 outside 2^-900..2^900. */
+uint64_t telbijan_ratio_from_float(double value, double *ratio);
+
+/* The ratio of so many octaves; 18 outside -900..900. */
+uint64_t telbijan_ratio_from_octaves(double octaves, double *ratio);
+
+/* The ratio of so many semitones; 18. */
+uint64_t telbijan_ratio_from_semitones(double semitones, double *ratio);
+
+/* The ratio of so many cents; 18. */
+uint64_t telbijan_ratio_from_cents(double cents, double *ratio);
+
+/* The ratio from the first pitch to the second; 10, 18. */
+uint64_t telbijan_ratio_between_pitches(double first, double second, double *ratio);
+
+/* One ratio on top of another; 10, 18. */
+uint64_t telbijan_ratio_stretched_by(double value, double stretch, double *ratio);
+
+/* How far a ratio is from another; 10, 18. */
+uint64_t telbijan_ratio_deviation_from(double value, double reference, double *ratio);
+
+/* So many times the interval; 10, 18. */
+uint64_t telbijan_ratio_repeated(double value, double times, double *ratio);
+
+/* One of so many equal parts of the interval; 10, 18. */
+uint64_t telbijan_ratio_divided_into_equal_steps(double value, double steps, double *ratio);
+
+/* How many steps make the interval, infinite or a NaN for a step of 1.0; 10. */
+uint64_t telbijan_ratio_num_equal_steps_of_size(double value, double step, double *count);
+
+/* The octaves of a ratio; 10. */
+uint64_t telbijan_ratio_as_octaves(double value, double *octaves);
+
+/* The semitones of a ratio; 10. */
+uint64_t telbijan_ratio_as_semitones(double value, double *semitones);
+
+/* The cents of a ratio; 10. */
+uint64_t telbijan_ratio_as_cents(double value, double *cents);
+
+/* The interval turned over; 10, 18. */
+uint64_t telbijan_ratio_inv(double value, double *ratio);
+
+/* The interval upwards; 10, 18. */
+uint64_t telbijan_ratio_abs(double value, double *ratio);
+
+/* The pitch of a number in Hz; 10 outside 2^-900..2^900. */
+uint64_t telbijan_pitch_from_hz(double value, double *hz);
+
+/* The pitch that much higher; 10, 18. */
+uint64_t telbijan_pitch_times_ratio(double value, double ratio, double *hz);
+
+/* The pitch that much lower; 10, 18. */
+uint64_t telbijan_pitch_over_ratio(double value, double ratio, double *hz);
+
+/* Whether a ratio is as good as a unison; 10. */
+uint64_t telbijan_ratio_is_negligible(double value, bool *negligible);
+
+/* Whether a ratio is lower than another (-1), the same (0) or higher (1); 10. */
+uint64_t telbijan_ratio_total_cmp(double value, double other, int32_t *order);
+
+/* The nearest fraction that the walk finds within the odd limit, octaves taken off: numer, denom, deviation and octaves are
+   stored; 10 outside 2^-64..2^64. */
+uint64_t telbijan_ratio_nearest_fraction(double value, uint16_t limit, uint16_t *numer, uint16_t *denom, double *deviation, int32_t *octaves);
+
+#ifdef __cplusplus
+}
+#endif
+
+#endif

@@ -1,0 +1,138 @@
+//! Times of the proved library beside the Rust, in one run, as ratios: `cargo run --profile speed -- bench`. Each pair is timed in turns, and the
+//! shortest of the turns counts, so that other work on the machine matters little.
+
+use crate::ffi::{self, probe};
+use crate::inputs::Random;
+use std::hint::black_box;
+use std::time::{Duration, Instant};
+use tune::pitch::Ratio;
+use tune::powers;
+
+const TURNS: usize = 15;
+
+fn shortest(calls: &mut [&mut dyn FnMut()]) -> Vec<Duration> {
+    let mut best = vec![Duration::MAX; calls.len()];
+    for _ in 0..TURNS {
+        for (call, best) in calls.iter_mut().zip(&mut best) {
+            let start = Instant::now();
+            call();
+            *best = start.elapsed().min(*best);
+        }
+    }
+    best
+}
+
+/// A line: what it is, the time of one call of ours, and ours over each of the others.
+fn line(name: &str, calls: usize, times: &[Duration], others: &[&str]) {
+    let ours = times[0].as_secs_f64();
+    print!("{name:<34} {:>9.1} ns a call", ours * 1e9 / calls as f64);
+    for (time, other) in times[1..].iter().zip(others) {
+        print!("   {:>5.2} x {other}", ours / time.as_secs_f64());
+    }
+    println!();
+}
+
+fn sum(xs: &[f64], call: impl Fn(f64) -> f64) {
+    black_box(xs.iter().map(|&x| call(x)).sum::<f64>());
+}
+
+fn exponents_and_values() {
+    let mut random = Random::new(200);
+    let exponents: Vec<f64> = (0..4096).map(|_| random.unit() * 20.0 - 10.0).collect();
+    let values: Vec<f64> = (0..4096).map(|_| random.ratio(10)).collect();
+    let ours = |call: ffi::One, x: f64| {
+        let mut answer = 0.0;
+        unsafe { call(x, &mut answer) };
+        answer
+    };
+    let times = shortest(&mut [
+        &mut || sum(&exponents, |x| ours(ffi::telbijan_exp2, x)),
+        &mut || sum(&exponents, |x| powers::e(x).unwrap()),
+        &mut || sum(&exponents, f64::exp2),
+    ]);
+    line("E (exp2)", exponents.len(), &times, &["E with u128 in Rust", "libm's exp2"]);
+    let times = shortest(&mut [
+        &mut || sum(&values, |x| ours(ffi::telbijan_log2, x)),
+        &mut || sum(&values, |x| powers::l(x).unwrap()),
+        &mut || sum(&values, f64::log2),
+    ]);
+    line("L (log2)", values.len(), &times, &["L with u128 in Rust", "libm's log2"]);
+}
+
+fn fractions() {
+    let mut random = Random::new(201);
+    let ratios: Vec<f64> = (0..512).map(|_| random.ratio(3)).collect();
+    for limit in [9u16, 65_535] {
+        let times = shortest(&mut [
+            &mut || ratios.iter().for_each(|&x| { black_box(ffi::nearest_fraction(x, limit)); }),
+            &mut || ratios.iter().for_each(|&x| { black_box(Ratio::from_float(x).nearest_fraction(limit)); }),
+        ]);
+        line(&format!("nearest_fraction, limit {limit}"), ratios.len(), &times, &["the Rust"]);
+    }
+}
+
+/// A text of about a megabyte as a long scale file has it: comments, cents, fractions, integers.
+fn long_text() -> Vec<u8> {
+    let mut random = Random::new(202);
+    let mut text = String::new();
+    while text.len() < 1 << 20 {
+        let line = match random.next() % 8 {
+            0 => "! a comment, as files have them".to_string(),
+            1 => format!("  {}/{}   just", 1 + random.next() % 4096, 1 + random.next() % 4096),
+            2 => format!("{}", random.next() % 100_000),
+            _ => format!(" {:.6} cents", random.unit() * 1200.0),
+        };
+        text.push_str(&line);
+        text.push('\n');
+    }
+    text.into_bytes()
+}
+
+fn our_reading(text: &[u8]) -> f64 {
+    let (mut at, mut total) = (0, 0.0);
+    while at < text.len() {
+        let (end, next) = probe::next_line(text, at);
+        if let probe::Line::Content { start, token, .. } = probe::read_line(text, at, end) {
+            let token = &text[start..token];
+            if let probe::Decimal::Is(bits) = probe::read_decimal(token) {
+                total += f64::from_bits(bits);
+            } else if let Some(n) = probe::read_u32(token) {
+                total += f64::from(n);
+            }
+        }
+        at = next;
+    }
+    total
+}
+
+fn their_reading(text: &[u8]) -> f64 {
+    use std::io::BufRead;
+    let mut total = 0.0;
+    for line in text.lines() {
+        let line = line.unwrap();
+        let trimmed = line.trim();
+        if trimmed.is_empty() || trimmed.starts_with('!') {
+            continue;
+        }
+        let token = trimmed.split_ascii_whitespace().next().unwrap_or("");
+        if let Ok(x) = token.parse::<f64>() {
+            total += x;
+        } else if let Ok(n) = token.parse::<u32>() {
+            total += f64::from(n);
+        }
+    }
+    total
+}
+
+fn texts() {
+    let text = long_text();
+    assert_eq!(our_reading(&text), their_reading(&text));
+    let times = shortest(&mut [&mut || { black_box(our_reading(&text)); }, &mut || { black_box(their_reading(&text)); }]);
+    line("lines, tokens, numerals, a byte", text.len(), &times, &["the Rust"]);
+}
+
+pub fn bench() {
+    exponents_and_values();
+    fractions();
+    texts();
+}
