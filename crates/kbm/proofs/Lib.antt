@@ -2,3 +2,4 @@ pub mod Entries
 pub mod Octaves
 pub mod Table
 pub mod Degrees
+pub mod Pushes

@@ -1,4 +1,5 @@
 pub mod Table
 pub mod Root
 pub mod Degree
+pub mod Builder
 pub mod Answers
