@@ -1,2 +1,6 @@
 pub mod Table
+pub mod Root
+pub mod Degree
+pub mod Keys
+pub mod Builder
 pub mod Answers
