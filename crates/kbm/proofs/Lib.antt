@@ -1,1 +1,4 @@
+pub mod Entries
+pub mod Octaves
 pub mod Table
+pub mod Degrees

@@ -1,2 +1,4 @@
 pub mod Table
+pub mod Root
+pub mod Degree
 pub mod Answers

@@ -3,8 +3,18 @@
 // A mapping is a value, `Kbm`, and a lent table of `count` entries: in the table a number from -32768 to 32767 is a degree,
 // `UNMAPPED` is no degree, and any other number is unusable (10).
 use base::Refusal;
+use key::Degree;
 use key::PianoKey;
+use math::I32Answer;
 use pitch::Pitch;
+ghost use mathlib.Core.Path.{_≡_};
+ghost use mathlib.Core.Bool.{true};
+ghost use lib.IntN.{_+ℤ_, _*ℤ_};
+ghost use Rattle.base.specs.Integers.{held};
+ghost use Rattle.kbm.specs.Answers.{saysRoot, saysDegree};
+ghost use Rattle.kbm.specs.Degree.{inRange, degreeAt, degreeFrom, scaleDegreeOf};
+ghost use Rattle.kbm.specs.Root.{rootOf};
+ghost use Rattle.kbm.specs.Table.{isEntry, entryOf, isTable, tableOf};
 
 // The number that stands for an unmapped entry in a lent table.
 pub const UNMAPPED: i32 = -2147483648;
@@ -22,6 +32,11 @@ pub struct KbmRoot {
     pub offset: i32,
 }
 
+pub enum RootAnswer {
+    Is(KbmRoot),
+    Refused(Refusal),
+}
+
 // A mapping, beside its table of `count` entries: keys from `start` up to, not including, `end`; `octave` degrees make a
 // formal octave.
 pub struct Kbm {
@@ -35,4 +50,165 @@ pub struct Kbm {
 pub enum KbmAnswer {
     Is(Kbm),
     Refused(Refusal),
+}
+
+pub enum DegreeAnswer {
+    Is(Degree),
+    Refused(Refusal),
+}
+
+// 10: a lent table, a state or a pitch cannot be used.
+const NOT_USABLE: Refusal = Refusal {
+    number: base::UNUSABLE,
+    detail: 0,
+};
+
+// 16: the key is outside the mapping's range.
+const OUT_OF_RANGE: Refusal = Refusal {
+    number: base::KEY_OUT_OF_RANGE,
+    detail: 0,
+};
+
+// 17: the key is unmapped.
+const NO_DEGREE: Refusal = Refusal {
+    number: base::UNMAPPED_KEY,
+    detail: 0,
+};
+
+impl KbmRoot {
+    // The root of a reference key, its pitch and the steps up to the middle key; 10 for a pitch outside 2^-10..2^20.
+    pub fn new(reference: PianoKey, pitch: Pitch, offset: i32) -> RootAnswer
+        ensures { λ r. ⌜ saysRoot r ≡ rootOf reference pitch offset ⌝ }
+    {
+        if floats::is_in_pitch(pitch.0) {
+            RootAnswer::Is(KbmRoot {
+                reference,
+                pitch,
+                offset,
+            })
+        } else {
+            RootAnswer::Refused(NOT_USABLE)
+        }
+    }
+}
+
+// Whether z is the number of an entry.
+fn is_entry(z: i32) -> bool
+    ensures { λ r. ⌜ r ≡ isEntry z ⌝ }
+{
+    if z <= UNMAPPED {
+        return true;
+    }
+    if -32768 <= z {
+        return z <= 32767;
+    }
+    false
+}
+
+// The entry of its number.
+fn entry_of(z: i32) -> Entry
+    requires { ⌜ isEntry z ≡ true ⌝ }
+    ensures { λ r. ⌜ r ≡ entryOf z ⌝ }
+{
+    if z <= UNMAPPED {
+        Entry::Unmapped
+    } else {
+        Entry::Mapped(z as i16)
+    }
+}
+
+// Whether the table has `count` places and each of them holds an entry.
+pub fn is_table(map: &[i32], count: usize) -> bool
+    ensures { λ r. ⌜ r ≡ isTable count (now (map .entry)) ⌝ }
+{
+    if map.len() < count {
+        return false;
+    }
+    let mut i = 0;
+    while i < count {
+        if is_entry(map[i]) {
+            i += 1;
+        } else {
+            return false;
+        }
+    }
+    true
+}
+
+// Whether the key is in `start`..`end`.
+fn is_in_range(start: PianoKey, end: PianoKey, key: PianoKey) -> bool
+    ensures { λ r. ⌜ r ≡ inRange start end key ⌝ }
+{
+    let number = key.0;
+    let first = start.0;
+    let stop = end.0;
+    if first <= number {
+        return number < stop;
+    }
+    false
+}
+
+// The exact degree q formal octaves above an entry.
+fn shifted(entry: i16, q: i32, octave: i16) -> i64
+    ensures { λ r. ⌜ r ≡ entry +ℤ q *ℤ octave ⌝ }
+{
+    (entry as i64) + (q as i64) * (octave as i64)
+}
+
+// The degree of a number; 11 outside 32 bits.
+fn checked_degree(z: i64) -> DegreeAnswer
+    ensures { λ r. ⌜ saysDegree r ≡ held z ⌝ }
+{
+    match math::to_i32(z) {
+        I32Answer::Is(number) => DegreeAnswer::Is(Degree(number)),
+        I32Answer::Refused(refusal) => DegreeAnswer::Refused(refusal),
+    }
+}
+
+// The degree at a distance d from the key that the table's first entry is for; 17, 11.
+fn degree_at(d: i32, octave: i16, map: &[i32], count: u16) -> DegreeAnswer
+    requires { ⌜ isTable count (now map) ≡ true ⌝ }
+    ensures { λ r. ⌜ saysDegree r ≡ degreeAt d octave (tableOf count (now (map .entry))) ⌝ }
+{
+    if count == 0 {
+        return DegreeAnswer::Is(Degree(d));
+    }
+    let size = count as u32;
+    let place = math::remainder(d, size) as usize;
+    match entry_of(map[place]) {
+        Entry::Mapped(entry) => checked_degree(shifted(entry, math::quotient(d, size), octave)),
+        Entry::Unmapped => DegreeAnswer::Refused(NO_DEGREE),
+    }
+}
+
+// The degree of a key that is counted from another; 11 for the distance, 17, 11 for the degree.
+fn degree_from(
+    reference: PianoKey,
+    key: PianoKey,
+    octave: i16,
+    map: &[i32],
+    count: u16,
+) -> DegreeAnswer
+    requires { ⌜ isTable count (now map) ≡ true ⌝ }
+    ensures { λ r. ⌜ saysDegree r ≡ degreeFrom reference key octave (tableOf count (now (map .entry))) ⌝ }
+{
+    match reference.num_keys_before(key) {
+        I32Answer::Is(d) => degree_at(d, octave, map, count),
+        I32Answer::Refused(refusal) => DegreeAnswer::Refused(refusal),
+    }
+}
+
+// The degree of a key: 10 for a table that cannot be used, 16 outside the range, 11 for the distance, 17 unmapped, 11.
+pub fn scale_degree_of(kbm: Kbm, map: &[i32], key: PianoKey) -> DegreeAnswer
+    ensures { λ r. ⌜ saysDegree r ≡ scaleDegreeOf kbm (now (map .entry)) key ⌝ }
+{
+    let count = kbm.count;
+    let root = kbm.root;
+    if is_table(map, count as usize) {
+        if is_in_range(kbm.start, kbm.end, key) {
+            return degree_from(root.reference, key, kbm.octave, map, count);
+        }
+        return DegreeAnswer::Refused(OUT_OF_RANGE);
+    }
+    DegreeAnswer::Refused(NOT_USABLE)
 }
