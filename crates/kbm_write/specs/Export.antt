@@ -70,14 +70,15 @@ exportText kbm entries =
 unfoldable pub fitted : ℕ → List ℕ → Said (List ℕ)
 fitted room t = pick (leb (length t) room) (gives t) (refuses no-room 0)
 
--- what an export writes into so many bytes: 10 for an unusable table or pitch; 11 for a last or middle key outside i32;
--- 12 where the text is longer than the lent bytes
-abbrev pub exportOf : Kbm → List ℤ → ℕ → Said (List ℕ)
+-- 11 for a last or middle key outside i32; else the text, by its room
+abbrev pub heldText : Kbm → List Entry → ℕ → Said (List ℕ)
+heldText kbm entries room =
+    andThen (held (lastOf kbm)) (λ last. andThen (held (middleOf kbm)) (λ middle. fitted room (exportText kbm entries)))
+
+-- what an export writes into so many bytes: 10 for an unusable table or pitch, before all else
+unfoldable pub exportOf : Kbm → List ℤ → ℕ → Said (List ℕ)
 exportOf kbm map room =
-    pick (isTable (kbm .count) map && inPitch (kbm .root .pitch .0))
-    (andThen (held (lastOf kbm)) (λ last. andThen (held (middleOf kbm)) (λ middle.
-    fitted room (exportText kbm (tableOf (kbm .count) map)))))
-    (refuses unusable 0)
+    pick (isTable (kbm .count) map && inPitch (kbm .root .pitch .0)) (heldText kbm (tableOf (kbm .count) map) room) (refuses unusable 0)
 
 -- the number of bytes written
 abbrev pub sizeOf : Said (List ℕ) → Said ℕ

@@ -15,7 +15,7 @@ ghost use Rattle.floats.specs.Ranges.{inPitch};
 ghost use Rattle.numeral.specs.PrintText.{textOf, wholeText};
 ghost use Rattle.kbm.specs.Table.{isTable, entryOf, entriesOf};
 ghost use Rattle.kbm_write.specs.Answers.{saysSize};
-ghost use Rattle.kbm_write.specs.Export.{line, linesText, keyTexts, soundTexts, tableText, mappingText, entryText, entryTexts, fitted, exportOf, sizeOf};
+ghost use Rattle.kbm_write.specs.Export.{line, linesText, keyTexts, soundTexts, tableText, mappingText, entryText, entryTexts, fitted, heldText, exportOf, sizeOf};
 
 // How many bytes were written.
 pub enum SizeAnswer {
@@ -202,4 +202,52 @@ fn write_mapping(
     let formal = write_pitch(hz, out, sound);
     let entries = write_line(octave, out, formal);
     SizeAnswer::Is(write_entries(map, out, entries))
+}
+
+// The text of a mapping with these entries; 11 where its last or its middle key is outside 32 bits, then 12.
+fn write_held(kbm: Kbm, entries: &[i32], out: &mut [u8]) -> SizeAnswer
+    requires { ⌜ (inPitch (kbm .root .pitch .0) ≡ true) × (length (now entries) ≤ 65535) ⌝ }
+    ensures { λ r. ⌜ saysSize r ≡ sizeOf (heldText kbm (entriesOf (now (entries .entry))) (length (now (out .entry)))) ⌝ }
+    ensures { λ r. ⌜ now (out .exit) ≡ after (heldText kbm (entriesOf (now (entries .entry))) (length (now (out .entry)))) (λ t. t) (now (out .entry)) ⌝ }
+{
+    let size = kbm.count as i32;
+    let octave = kbm.octave as i32;
+    let first = kbm.start.0;
+    let root = kbm.root;
+    let reference = root.reference.0;
+    let hz = root.pitch.0;
+    match math::to_i32(math::difference(kbm.end.0, 1)) {
+        I32Answer::Is(last) => match math::to_i32(math::sum(reference, root.offset)) {
+            I32Answer::Is(middle) => write_mapping(
+                size,
+                first,
+                last,
+                middle,
+                reference,
+                hz,
+                octave,
+                entries,
+                out,
+            ),
+            I32Answer::Refused(refusal) => SizeAnswer::Refused(refusal),
+        },
+        I32Answer::Refused(refusal) => SizeAnswer::Refused(refusal),
+    }
+}
+
+// The text of a mapping into the lent bytes, and how many it takes. 10 for an unusable table or pitch, 11 where the last or
+// the middle key is outside 32 bits, 12 where the text is longer than the bytes; then nothing is written.
+pub fn export_kbm(kbm: Kbm, map: &[i32], out: &mut [u8]) -> SizeAnswer
+    ensures { λ r. ⌜ saysSize r ≡ sizeOf (exportOf kbm (now (map .entry)) (length (now (out .entry)))) ⌝ }
+    ensures { λ r. ⌜ now (out .exit) ≡ after (exportOf kbm (now (map .entry)) (length (now (out .entry)))) (λ t. t) (now (out .entry)) ⌝ }
+{
+    let count = kbm.count as usize;
+    let root = kbm.root;
+    let hz = root.pitch.0;
+    if kbm::is_table(map, count) {
+        if floats::is_in_pitch(hz) {
+            return write_held(kbm, &map[..count], out);
+        }
+    }
+    SizeAnswer::Refused(NOT_USABLE)
 }
