@@ -1,0 +1,38 @@
+-- The lines of a table's entries, one after another. Assumes nothing.
+use mathlib.Core.Path.{_≡_, refl, sym, ap, _∙_}
+use mathlib.Core.List.{List, [], _∷_, _++_}
+use Prim.Native.Nat.{ℕ, suc, _+_, _*_, _≤_, _<_}
+use native.Mathlib.Numerals.{add-one}
+use native.Mathlib.Omega.{arith}
+use lib.IntN.{ℤ, pos}
+use lib.ListN.{length, drop, getD, length-append}
+use lib.Seq.{sets, drop-cons, drop-length}
+use Rattle.numeral.proofs.PrintTexts.{sets-append}
+use Rattle.kbm.specs.Table.{entryOf, entriesOf}
+use Rattle.kbm_write.specs.Export.{line, linesText, entryText, entryTexts, tableText}
+
+-- the line of the entry at a place of a table
+abbrev pub lineAt : List ℤ → ℕ → List ℕ
+lineAt map i = line (entryText (entryOf (getD map i (pos 0))))
+
+module _ (map : List ℤ) (i : ℕ) (h : i < length map) where
+  -- the lines from a place on: that of its entry, and those from the next place on
+  pub table-step : tableText (drop i map) ≡ lineAt map i ++ tableText (drop (i + 1) map)
+  unfolding linesText entryTexts entriesOf
+  table-step = rw (add-one i, drop-cons map i (pos 0) h)
+
+  pub table-length : length (tableText (drop i map)) ≡ length (lineAt map i) + length (tableText (drop (i + 1) map))
+  table-length = rw table-step (length-append (lineAt map i) (tableText (drop (i + 1) map)))
+
+  -- one entry more is written
+  pub table-sets : (l m : List ℕ) (at next : ℕ) → m ≡ sets l at (lineAt map i) → next ≡ at + length (lineAt map i) → sets m next (tableText (drop (i + 1) map)) ≡ sets l at (tableText (drop i map))
+  table-sets l m at next e p = rw (table-step, e) (sets-append l at next (lineAt map i) (tableText (drop (i + 1) map)) p)
+
+-- past the last entry nothing is left
+module _ (map : List ℤ) (i : ℕ) (h : i ≡ length map) where
+  pub table-end : tableText (drop i map) ≡ []
+  unfolding linesText entryTexts entriesOf
+  table-end = rw (h, drop-length map)
+
+  pub table-ends : length (tableText (drop i map)) ≡ 0
+  table-ends = ap length table-end

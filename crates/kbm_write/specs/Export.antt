@@ -1,0 +1,85 @@
+-- Document 01, "Writing": the bytes that a mapping is written as, "the seven lines (last = end - 1; middle = reference +
+-- offset; 11 if either is outside i32), then entries. .. Every line ends in LF". Assumes nothing.
+use mathlib.Core.Bool.{Bool, false, _&&_}
+use mathlib.Core.List.{List, [], _∷_, _++_}
+use Prim.Native.Nat.{ℕ}
+use lib.Dec.{leb}
+use lib.IntN.{ℤ, pos, _+ℤ_, _-ℤ_}
+use lib.ListN.{length}
+use lib.Ieee.{Float}
+use Rattle.base.specs.Integers.{held}
+use Rattle.base.specs.Numbers.{unusable, no-room}
+use Rattle.base.specs.Said.{Said, gives, refuses, pick, andThen}
+use Rattle.floats.specs.Ranges.{inPitch}
+use Rattle.numeral.specs.PrintText.{textOf, wholeText}
+use Rattle.kbm.specs.Table.{isTable, entriesOf, tableOf}
+use Rattle.kbm.specs.declared.Entry.{Entry}
+use Rattle.kbm.specs.declared.Entry.the-variants.{Mapped, Unmapped}
+use Rattle.kbm.specs.declared.Kbm.{Kbm}
+
+-- a line: its text, and LF
+abbrev pub line : List ℕ → List ℕ
+line t = t ++ (10 ∷ [])
+
+-- lines one after another: "Every line ends in LF"
+unfoldable pub linesText : List (List ℕ) → List ℕ
+linesText [] = []
+linesText (t ∷ ts) = line t ++ linesText ts
+
+-- the first five of the seven lines: size, first and last key, middle and reference key
+abbrev pub keyTexts : ℤ → ℤ → ℤ → ℤ → ℤ → List (List ℕ)
+keyTexts size first last middle reference = wholeText size ∷ wholeText first ∷ wholeText last ∷ wholeText middle ∷ wholeText reference ∷ []
+
+-- the other two: the pitch in Hz with three decimals, the formal octave
+abbrev pub soundTexts : Float → ℤ → List (List ℕ)
+soundTexts pitch octave = textOf 3 false pitch ∷ wholeText octave ∷ []
+
+-- the last key: the one before the end
+abbrev pub lastOf : Kbm → ℤ
+lastOf kbm = kbm .end .0 -ℤ pos 1
+
+-- the middle key: so far above the reference key as the root says
+abbrev pub middleOf : Kbm → ℤ
+middleOf kbm = kbm .root .reference .0 +ℤ kbm .root .offset
+
+-- an entry: its degree, or `x` where it is unmapped
+abbrev pub entryText : Entry → List ℕ
+entryText (Mapped degree) = wholeText degree
+entryText Unmapped = 120 ∷ []
+
+-- the entries, one to a line
+unfoldable pub entryTexts : List Entry → List (List ℕ)
+entryTexts [] = []
+entryTexts (e ∷ es) = entryText e ∷ entryTexts es
+
+-- the lines of a table's entries
+abbrev pub tableText : List ℤ → List ℕ
+tableText map = linesText (entryTexts (entriesOf map))
+
+-- the seven lines, then the entries
+abbrev pub mappingText : ℤ → ℤ → ℤ → ℤ → ℤ → Float → ℤ → List Entry → List ℕ
+mappingText size first last middle reference pitch octave entries =
+    linesText ((keyTexts size first last middle reference ++ soundTexts pitch octave) ++ entryTexts entries)
+
+-- the bytes of a mapping with these entries
+abbrev pub exportText : Kbm → List Entry → List ℕ
+exportText kbm entries =
+    mappingText (pos (kbm .count)) (kbm .start .0) (lastOf kbm) (middleOf kbm) (kbm .root .reference .0) (kbm .root .pitch .0) (kbm .octave) entries
+
+-- a text where so many bytes hold it, else 12
+unfoldable pub fitted : ℕ → List ℕ → Said (List ℕ)
+fitted room t = pick (leb (length t) room) (gives t) (refuses no-room 0)
+
+-- 11 for a last or middle key outside i32; else the text, by its room
+abbrev pub heldText : Kbm → List Entry → ℕ → Said (List ℕ)
+heldText kbm entries room =
+    andThen (held (lastOf kbm)) (λ last. andThen (held (middleOf kbm)) (λ middle. fitted room (exportText kbm entries)))
+
+-- what an export writes into so many bytes: 10 for an unusable table or pitch, before all else
+unfoldable pub exportOf : Kbm → List ℤ → ℕ → Said (List ℕ)
+exportOf kbm map room =
+    pick (isTable (kbm .count) map && inPitch (kbm .root .pitch .0)) (heldText kbm (tableOf (kbm .count) map) room) (refuses unusable 0)
+
+-- the number of bytes written
+abbrev pub sizeOf : Said (List ℕ) → Said ℕ
+sizeOf said = andThen said (λ t. gives (length t))
