@@ -4,6 +4,7 @@ use base::Refusal;
 
 mod integers;
 mod keys;
+mod mappings;
 mod pitches;
 mod powers;
 
