@@ -144,6 +144,34 @@ uint64_t telbijan_ratio_total_cmp(double value, double other, int32_t *order);
    stored; 10 outside 2^-64..2^64. */
 uint64_t telbijan_ratio_nearest_fraction(double value, uint16_t limit, uint16_t *numer, uint16_t *denom, double *deviation, int32_t *octaves);
 
+/* ---- Keyboard mappings for C: a lent table of entries, and beside it the mapping's numbers. An entry is a degree from -32768 to 32767, or -2147483648 for none. */
+
+/* The degree of a key, stored: 10 for a table that cannot be used, 16 outside start..end (end is outside), 17 unmapped, 11
+   where a number passes 32 bits. */
+uint64_t telbijan_scale_degree_of(const int32_t *map, size_t map_length, uint16_t count, int32_t start, int32_t end, int32_t reference, double hz, int32_t offset, int16_t octave, int32_t number, int32_t *degree);
+
+/* The text of a mapping, written into the lent bytes; the number of bytes is stored. 10 for a table or pitch that cannot be
+   used, 11 where the last or the middle key passes 32 bits, 12 where the text is longer than the bytes. */
+uint64_t telbijan_export_kbm(const int32_t *map, size_t map_length, uint16_t count, int32_t start, int32_t end, int32_t reference, double hz, int32_t offset, int16_t octave, uint8_t *out, size_t out_length, size_t *written);
+
+/* Whether a mapping's root can be used: 10 for a pitch outside 2^-10..2^20. */
+uint64_t telbijan_kbm_root(int32_t reference, double hz, int32_t offset);
+
+/* One mapped entry more, at place `count` of a table of `room` places; the new count is stored. 10 for a room or count that
+   is not the table's, 12 with no place left. */
+uint64_t telbijan_push_mapped_key(int32_t *map, size_t map_length, size_t room, size_t count, int16_t degree, size_t *after);
+
+/* One unmapped entry more, in the same way. */
+uint64_t telbijan_push_unmapped_key(int32_t *map, size_t map_length, size_t room, size_t count, size_t *after);
+
+/* The mapping of the entries that were pushed: its count and its formal octave are stored. 10 for a state, table or pitch
+   that cannot be used, 15 for entries and no formal octave, 13 over 65,535 entries. */
+uint64_t telbijan_build_kbm(const int32_t *map, size_t map_length, size_t room, size_t count, int32_t start, int32_t end, int32_t reference, double hz, int32_t offset, bool given, int16_t octave, uint16_t *entries, int16_t *formal);
+
+/* A mapping file, read: its entries go to the first places of the table, and its numbers are stored. The refusals are 1, 2,
+   3, 7, 8, 9, 10, 11 and 12 with their line, 12 and 13 and 14 at the end. */
+uint64_t telbijan_read_kbm(const uint8_t *text, size_t text_length, int32_t *map, size_t map_length, uint16_t *count, int32_t *start, int32_t *end, int32_t *reference, double *hz, int32_t *offset, int16_t *octave);
+
 #ifdef __cplusplus
 }
 #endif

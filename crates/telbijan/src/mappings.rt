@@ -18,6 +18,8 @@ ghost use Rattle.kbm.specs.Builder.{pushed, afterPush, built};
 ghost use Rattle.kbm.specs.Degree.{scaleDegreeOf};
 ghost use Rattle.kbm.specs.Root.{rootOf};
 ghost use Rattle.kbm.specs.declared.Entry.the-variants.{Mapped, Unmapped};
+ghost use Rattle.kbm.specs.Table.{numbersOf};
+ghost use Rattle.kbm_read.specs.Reader.{readOf, entriesIn};
 ghost use Rattle.kbm_write.specs.Export.{exportOf, sizeOf};
 ghost use Rattle.telbijan.specs.Interface.{result, kept, mapped};
 ghost use Rattle.telbijan.specs.Mappings.{rootWith, mappingWith, octaveWith, builderWith, pushingWith};
@@ -230,6 +232,57 @@ pub extern "C" fn telbijan_build_kbm(
             let degrees = kbm.octave;
             *entries = size;
             *formal = degrees;
+            0
+        }
+        KbmAnswer::Refused(refusal) => crate::code_of(refusal),
+    }
+}
+
+// A mapping file, read: its entries go to the first places of the table, and its numbers are stored. The refusals are 1, 2,
+// 3, 7, 8, 9, 10, 11 and 12 with their line, 12 and 13 and 14 at the end.
+#[no_mangle]
+pub extern "C" fn telbijan_read_kbm(
+    text: &[u8],
+    map: &mut [i32],
+    count: &mut u16,
+    start: &mut i32,
+    end: &mut i32,
+    reference: &mut i32,
+    hz: &mut f64,
+    offset: &mut i32,
+    octave: &mut i16,
+) -> u64
+    ensures { λ r. ⌜ r ≡ result (readOf (length (now (map .entry))) (now (text .entry))) ⌝ }
+    ensures { λ _. ⌜ now (map .exit) ≡ after (readOf (length (now (map .entry))) (now (text .entry))) (λ k. numbersOf (entriesIn (k .count) (now (text .entry)))) (now (map .entry)) ⌝ }
+    ensures { λ _. ⌜ now (count .exit) ≡ kept (mapped (λ k. k .count) (readOf (length (now (map .entry))) (now (text .entry)))) (now (count .entry)) ⌝ }
+    ensures { λ _. ⌜ now (start .exit) ≡ kept (mapped (λ k. k .start .0) (readOf (length (now (map .entry))) (now (text .entry)))) (now (start .entry)) ⌝ }
+    ensures { λ _. ⌜ now (end .exit) ≡ kept (mapped (λ k. k .end .0) (readOf (length (now (map .entry))) (now (text .entry)))) (now (end .entry)) ⌝ }
+    ensures { λ _. ⌜ now (reference .exit) ≡ kept (mapped (λ k. k .root .reference .0) (readOf (length (now (map .entry))) (now (text .entry)))) (now (reference .entry)) ⌝ }
+    ensures { λ _. ⌜ now (hz .exit) ≡ kept (mapped (λ k. k .root .pitch .0) (readOf (length (now (map .entry))) (now (text .entry)))) (now (hz .entry)) ⌝ }
+    ensures { λ _. ⌜ now (offset .exit) ≡ kept (mapped (λ k. k .root .offset) (readOf (length (now (map .entry))) (now (text .entry)))) (now (offset .entry)) ⌝ }
+    ensures { λ _. ⌜ now (octave .exit) ≡ kept (mapped (λ k. k .octave) (readOf (length (now (map .entry))) (now (text .entry)))) (now (octave .entry)) ⌝ }
+{
+    match kbm_read::read_kbm(text, map) {
+        KbmAnswer::Is(kbm) => {
+            let size = kbm.count;
+            let first = kbm.start;
+            let from = first.0;
+            let stop = kbm.end;
+            let to = stop.0;
+            let root = kbm.root;
+            let referred = root.reference;
+            let number = referred.0;
+            let sounding = root.pitch;
+            let frequency = sounding.0;
+            let apart = root.offset;
+            let degrees = kbm.octave;
+            *count = size;
+            *start = from;
+            *end = to;
+            *reference = number;
+            *hz = frequency;
+            *offset = apart;
+            *octave = degrees;
             0
         }
         KbmAnswer::Refused(refusal) => crate::code_of(refusal),
