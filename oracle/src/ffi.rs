@@ -12,6 +12,22 @@ mod raw {
         pub fn telbijan_checked_midi_number(number: i32, midi: *mut u8) -> u64;
         pub fn telbijan_num_keys_before(number: i32, other: i32, steps: *mut i32) -> u64;
         pub fn telbijan_plus_steps(number: i32, steps: i32, after: *mut i32) -> u64;
+        pub fn telbijan_read_kbm(
+            text: *const u8, text_length: usize, map: *mut i32, map_length: usize, count: *mut u16, start: *mut i32, end: *mut i32, reference: *mut i32, hz: *mut f64, offset: *mut i32,
+            octave: *mut i16,
+        ) -> u64;
+        pub fn telbijan_scale_degree_of(
+            map: *const i32, map_length: usize, count: u16, start: i32, end: i32, reference: i32, hz: f64, offset: i32, octave: i16, number: i32, degree: *mut i32,
+        ) -> u64;
+        pub fn telbijan_export_kbm(
+            map: *const i32, map_length: usize, count: u16, start: i32, end: i32, reference: i32, hz: f64, offset: i32, octave: i16, out: *mut u8, out_length: usize, written: *mut usize,
+        ) -> u64;
+        pub fn telbijan_kbm_root(reference: i32, hz: f64, offset: i32) -> u64;
+        pub fn telbijan_push_mapped_key(map: *mut i32, map_length: usize, room: usize, count: usize, degree: i16, after: *mut usize) -> u64;
+        pub fn telbijan_push_unmapped_key(map: *mut i32, map_length: usize, room: usize, count: usize, after: *mut usize) -> u64;
+        pub fn telbijan_build_kbm(
+            map: *const i32, map_length: usize, room: usize, count: usize, start: i32, end: i32, reference: i32, hz: f64, offset: i32, given: bool, octave: i16, entries: *mut u16, formal: *mut i16,
+        ) -> u64;
         pub fn telbijan_exp2(x: f64, power: *mut f64) -> u64;
         pub fn telbijan_log2(x: f64, logarithm: *mut f64) -> u64;
         pub fn telbijan_ratio_from_float(value: f64, ratio: *mut f64) -> u64;
@@ -135,6 +151,84 @@ pub fn nearest_fraction(x: f64, limit: u16) -> (Code, Nearest) {
     let (mut numer, mut denom, mut deviation, mut octaves) = (OLD_U16, OLD_U16, OLD_F64, OLD_I32);
     let code = unsafe { raw::telbijan_ratio_nearest_fraction(x, limit, &mut numer, &mut denom, &mut deviation, &mut octaves) };
     (Code(code), (numer, denom, Bits::of(deviation), octaves))
+}
+
+/// A mapping's numbers; its entries stand in a table beside it.
+#[derive(Clone, Copy, Debug, PartialEq)]
+pub struct Mapping {
+    pub count: u16,
+    pub start: i32,
+    pub end: i32,
+    pub reference: i32,
+    pub hz: Bits,
+    pub offset: i32,
+    pub octave: i16,
+}
+
+pub const OLD_I16: i16 = 0x5AA5;
+
+/// What stands behind the pointers of a refused read.
+pub const OLD_MAPPING: Mapping =
+    Mapping { count: OLD_U16, start: OLD_I32, end: OLD_I32, reference: OLD_I32, hz: Bits(Some(OLD_F64.to_bits())), offset: OLD_I32, octave: OLD_I16 };
+
+impl Mapping {
+    pub fn pitch(self) -> f64 {
+        self.hz.0.map_or(f64::NAN, f64::from_bits)
+    }
+}
+
+pub fn read_kbm(text: &[u8], map: &mut [i32]) -> (Code, Mapping) {
+    let (mut count, mut start, mut end, mut reference, mut hz, mut offset, mut octave) = (OLD_U16, OLD_I32, OLD_I32, OLD_I32, OLD_F64, OLD_I32, OLD_I16);
+    let code = unsafe {
+        raw::telbijan_read_kbm(
+            text.as_ptr(), text.len(), map.as_mut_ptr(), map.len(), &mut count, &mut start, &mut end, &mut reference, &mut hz, &mut offset, &mut octave,
+        )
+    };
+    (Code(code), Mapping { count, start, end, reference, hz: Bits::of(hz), offset, octave })
+}
+
+pub fn scale_degree_of(m: Mapping, map: &[i32], key: i32) -> (Code, i32) {
+    let mut degree = OLD_I32;
+    let code =
+        unsafe { raw::telbijan_scale_degree_of(map.as_ptr(), map.len(), m.count, m.start, m.end, m.reference, m.pitch(), m.offset, m.octave, key, &mut degree) };
+    (Code(code), degree)
+}
+
+pub fn export_kbm(m: Mapping, map: &[i32], out: &mut [u8]) -> (Code, usize) {
+    let mut written = usize::MAX;
+    let code = unsafe {
+        raw::telbijan_export_kbm(
+            map.as_ptr(), map.len(), m.count, m.start, m.end, m.reference, m.pitch(), m.offset, m.octave, out.as_mut_ptr(), out.len(), &mut written,
+        )
+    };
+    (Code(code), written)
+}
+
+pub fn kbm_root(reference: i32, hz: f64, offset: i32) -> Code {
+    Code(unsafe { raw::telbijan_kbm_root(reference, hz, offset) })
+}
+
+/// One push into a table of `room` places, of which `count` are filled; a degree, or none.
+pub fn push_key(map: &mut [i32], room: usize, count: usize, degree: Option<i16>) -> (Code, usize) {
+    let mut after = usize::MAX;
+    let code = unsafe {
+        match degree {
+            Some(degree) => raw::telbijan_push_mapped_key(map.as_mut_ptr(), map.len(), room, count, degree, &mut after),
+            None => raw::telbijan_push_unmapped_key(map.as_mut_ptr(), map.len(), room, count, &mut after),
+        }
+    };
+    (Code(code), after)
+}
+
+/// Count and formal octave of a mapping that was built.
+pub fn build_kbm(map: &[i32], room: usize, count: usize, m: Mapping, octave: Option<i16>) -> (Code, (u16, i16)) {
+    let (mut entries, mut formal) = (OLD_U16, OLD_I16);
+    let code = unsafe {
+        raw::telbijan_build_kbm(
+            map.as_ptr(), map.len(), room, count, m.start, m.end, m.reference, m.pitch(), m.offset, octave.is_some(), octave.unwrap_or(0), &mut entries, &mut formal,
+        )
+    };
+    (Code(code), (entries, formal))
 }
 
 /// Inner functions, from the crate `probes`.

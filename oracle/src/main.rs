@@ -10,6 +10,7 @@ mod ffi;
 mod floats;
 mod freeze;
 mod inputs;
+mod kbm;
 mod key;
 mod math;
 mod numerals;
@@ -21,8 +22,7 @@ mod texts;
 use std::process::ExitCode;
 
 fn main() -> ExitCode {
-    // a panic of the Rust is an answer here, and is caught where it is one
-    std::panic::set_hook(Box::new(|_| {}));
+    tally::hear_own_panics();
     let words: Vec<String> = std::env::args().skip(1).collect();
     match words.iter().map(String::as_str).collect::<Vec<_>>()[..] {
         [] => compare(),
@@ -53,6 +53,7 @@ fn compare() -> ExitCode {
     pitch::compare(&mut all);
     texts::compare(&mut all);
     numerals::compare(&mut all);
+    kbm::compare(&mut all);
     powers::report();
     all.verdict()
 }

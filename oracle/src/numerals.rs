@@ -49,7 +49,7 @@ fn integers<T: FromStr + PartialEq + std::fmt::Debug>(all: &mut Report, name: &s
 
 /// Document 01's rule for 9, on a text that Rust reads: an exponent, a word, over 18 digits from the first nonzero digit on, over 18
 /// after the dot.
-fn supported(text: &str) -> bool {
+pub fn supported(text: &str) -> bool {
     let digits: String = text.chars().filter(char::is_ascii_digit).collect();
     let after = text.split_once('.').map_or(0, |(_, part)| part.len());
     text.chars().all(|c| c.is_ascii_digit() || "+-.".contains(c)) && digits.trim_start_matches('0').len() <= 18 && after <= 18

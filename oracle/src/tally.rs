@@ -1,5 +1,7 @@
 //! Counts of what was compared, a line for each function.
 
+use std::cell::Cell;
+use std::collections::BTreeSet;
 use std::process::ExitCode;
 
 /// An answer of the interface: 0, or detail * 256 + number.
@@ -31,15 +33,16 @@ pub struct Report {
 
 impl Report {
     pub fn new() -> Report {
-        println!("{:<28} {:>12} {:>12} {:>12}", "function", "cases", "refusals", "differences");
+        println!("{:<28} {:>12} {:>12} {:>12}  {}", "function", "cases", "refusals", "differences", "numbers met");
         Report { failed: false, lines: 0 }
     }
 
     /// Compares one function: `cases` calls the tally once for each input.
     pub fn function(&mut self, name: &str, cases: impl FnOnce(&mut Tally)) {
-        let mut tally = Tally { name: name.to_string(), cases: 0, refusals: 0, differences: 0 };
+        let mut tally = Tally { name: name.to_string(), cases: 0, refusals: 0, differences: 0, met: BTreeSet::new() };
         cases(&mut tally);
-        println!("{:<28} {:>12} {:>12} {:>12}", name, tally.cases, tally.refusals, tally.differences);
+        let met: Vec<String> = tally.met.iter().map(u64::to_string).collect();
+        println!("{:<28} {:>12} {:>12} {:>12}  {}", name, tally.cases, tally.refusals, tally.differences, met.join(" "));
         self.failed |= tally.differences != 0 || tally.cases == 0;
         self.lines += 1;
     }
@@ -60,6 +63,7 @@ pub struct Tally {
     cases: u64,
     refusals: u64,
     differences: u64,
+    met: BTreeSet<u64>,
 }
 
 impl Tally {
@@ -68,6 +72,7 @@ impl Tally {
         self.cases += 1;
         if theirs.0 != Code::ACCEPTED {
             self.refusals += 1;
+            self.met.insert(theirs.0.0 & 0xff);
         }
         if ours != theirs {
             self.differences += 1;
@@ -78,7 +83,24 @@ impl Tally {
     }
 }
 
+thread_local! {
+    static QUIET: Cell<bool> = const { Cell::new(false) };
+}
+
+/// A panic of the Rust is an answer, and says nothing; one of the comparison is a fault, and says where.
+pub fn hear_own_panics() {
+    let loud = std::panic::take_hook();
+    std::panic::set_hook(Box::new(move |info| {
+        if !QUIET.with(Cell::get) {
+            loud(info);
+        }
+    }));
+}
+
 /// What the Rust answers, or none where it panics.
 pub fn caught<T>(call: impl FnOnce() -> T) -> Option<T> {
-    std::panic::catch_unwind(std::panic::AssertUnwindSafe(call)).ok()
+    QUIET.with(|quiet| quiet.set(true));
+    let answer = std::panic::catch_unwind(std::panic::AssertUnwindSafe(call)).ok();
+    QUIET.with(|quiet| quiet.set(false));
+    answer
 }
