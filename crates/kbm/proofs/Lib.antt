@@ -5,3 +5,5 @@ pub mod Degrees
 pub mod Pushes
 pub mod Language
 pub mod Appends
+pub mod Samples
+pub mod Theorems
