@@ -7,3 +7,4 @@ pub mod Language
 pub mod Appends
 pub mod Samples
 pub mod Theorems
+pub mod Plain
