@@ -12,16 +12,17 @@ use lib.IntN.{ℤ, pos, negsuc}
 use lib.ListN.{length, take, drop, set, length-set}
 use lib.Signed.{leZ}
 use lib.Seq.{take-suc-set, drop-set-lt}
-use borrow.Author.Tests.{eqb-true, leb-true, ltb-true, ltb-false, lt-leb}
+use borrow.Author.Tests.{eqb-true, leb-true, ltb-true, ltb-false, le-leb, lt-leb}
 use Rattle.base.specs.Numbers.{unusable, no-room}
 use Rattle.base.specs.Said.{Said, gives, refuses, pick}
 use Rattle.base.proofs.Integers.{bool-cases}
 use Rattle.kbm.specs.Builder.{fitsTable, withOneMore, pushed, afterPush, Built, pushedAll}
-use Rattle.kbm.specs.Table.{numberOf, inI16, isUnmapped, entryOf, entriesOf, tableOf}
+use Rattle.kbm.specs.Table.{numberOf, inI16, isUnmapped, isEntry, entryOf, areEntries, entriesOf, isTable, tableOf}
 use Rattle.kbm.specs.declared.Entry.{Entry}
 use Rattle.kbm.specs.declared.Entry.the-variants.{Mapped, Unmapped}
 use Rattle.kbm.specs.declared.builder.KbmBuilder.{KbmBuilder}
 use Rattle.kbm.proofs.Entries.{and-both, mag-i16}
+use Rattle.kbm.proofs.Table.{table-entries}
 use Rattle.kbm.proofs.Pushes.{fitting, push-full, push-more, after-push}
 
 -- every entry of the code is one of 16 bits
@@ -53,6 +54,22 @@ unfolding entriesOf
 table-set count map e h f =
     rw (add-one, take-suc-set map count (numberOf e) h, entries-append (take count map) (numberOf e ∷ []), entry-back e f)
 
+entries-both : (xs ys : List ℤ) → areEntries xs ≡ true → areEntries ys ≡ true → areEntries (xs ++ ys) ≡ true
+unfolding areEntries
+entries-both [] ys f g = g
+entries-both (x ∷ xs) ys f g = let tests = and-both (isEntry x) (areEntries xs) f in rw (tests .0) (entries-both xs ys (tests .1) g)
+
+number-usable : (e : Entry) → isI16 e ≡ true → areEntries (numberOf e ∷ []) ≡ true
+unfolding areEntries
+number-usable (Mapped degree) h = rw (not-unmapped degree h, and-both (leZ (negsuc 32767) degree) (leZ degree (pos 32767)) h .0, and-both (leZ (negsuc 32767) degree) (leZ degree (pos 32767)) h .1)
+number-usable Unmapped h = refl
+
+-- and a usable table stays usable
+pub table-set-usable : (count : ℕ) (map : List ℤ) (e : Entry) → count < length map → isI16 e ≡ true → isTable count map ≡ true → isTable (count + 1) (set map count (numberOf e)) ≡ true
+table-set-usable count map e h f t =
+    let fits : leb (suc count) (length (set map count (numberOf e))) ≡ true = le-leb (suc count) (length (set map count (numberOf e))) (rw (length-set map count (numberOf e)) h) in
+    rw (add-one, fits, take-suc-set map count (numberOf e) h) (entries-both (take count map) (numberOf e ∷ []) (table-entries count map t) (number-usable e f))
+
 -- ---- a run of pushes
 -- the same builder with so many entries
 abbrev pub withCount : KbmBuilder → ℕ → KbmBuilder
@@ -64,6 +81,7 @@ pub record Appended (b : KbmBuilder) (map : List ℤ) (es : List Entry) (left : 
   pub counted : left .builder ≡ withCount b (b .count + length es)
   pub others : drop (b .count + length es) (left .table) ≡ drop (b .count + length es) map
   pub places : length (left .table) ≡ length map
+  pub usable : isTable (b .count) map ≡ true → isTable (left .builder .count) (left .table) ≡ true
 
 module _ (b : KbmBuilder) (map : List ℤ) (f : fitsTable b map ≡ true) where
   pub fit-room : b .room ≡ length map
@@ -93,10 +111,11 @@ module _ (b : KbmBuilder) (map : List ℤ) (f : fitsTable b map ≡ true) where
           counted = a .counted ∙ ap (withCount b) n;
           others = rw (← n) (a .others ∙ drop-set-lt (b .count + 1 + length es) map (b .count) (numberOf e) (omega arith));
           places = a .places ∙ length-set map (b .count) (numberOf e);
+          usable = λ t. a .usable (table-set-usable (b .count) map e room i t);
         }
 
 none-appended : (b : KbmBuilder) (map : List ℤ) → Appended b map [] (record { builder = b; table = map })
-none-appended b map = record { entries = sym (append-nil (tableOf (b .count) map)); counted = ap (withCount b) (omega arith); others = refl; places = refl }
+none-appended b map = record { entries = sym (append-nil (tableOf (b .count) map)); counted = ap (withCount b) (omega arith); others = refl; places = refl; usable = λ t. t }
 
 -- with places enough every push is accepted, and the run is appended
 pub run-appends : (es : List Entry) (b : KbmBuilder) (map : List ℤ) → fitsTable b map ≡ true → areI16 es ≡ true → b .count + length es ≤ b .room →

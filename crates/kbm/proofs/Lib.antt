@@ -5,3 +5,6 @@ pub mod Degrees
 pub mod Pushes
 pub mod Language
 pub mod Appends
+pub mod Samples
+pub mod Theorems
+pub mod Plain

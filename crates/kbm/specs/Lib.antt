@@ -4,3 +4,4 @@ pub mod Degree
 pub mod Keys
 pub mod Builder
 pub mod Answers
+pub mod Samples
