@@ -1,7 +1,7 @@
 -- "Builder calls act, push for push, as appending to a plain list": the table's entries after a push are those before and
 -- the new one, and after a run of pushes those before and the run. Assumes nothing.
 use mathlib.Core.Path.{_≡_, refl, sym, _∙_, ap}
-use mathlib.Core.Logic.{_⊎_, inl, inr}
+use mathlib.Core.Logic.{inl, inr}
 use mathlib.Core.Bool.{Bool, true, false, _&&_}
 use mathlib.Core.List.{List, [], _∷_, _++_, append-assoc, append-nil}
 use Prim.Native.Nat.{ℕ, suc, _+_, _≤_, _<_}
@@ -13,17 +13,17 @@ use lib.ListN.{length, take, drop, set, length-set}
 use lib.Signed.{leZ}
 use lib.Seq.{take-suc-set, drop-set-lt}
 use borrow.Author.Tests.{eqb-true, leb-true, ltb-true, ltb-false, le-leb, lt-leb}
-use Rattle.base.specs.Numbers.{unusable, no-room}
-use Rattle.base.specs.Said.{Said, gives, refuses, pick}
+use Rattle.base.specs.Numbers.{no-room}
+use Rattle.base.specs.Said.{gives, refuses}
 use Rattle.base.proofs.Integers.{bool-cases}
-use Rattle.kbm.specs.Builder.{fitsTable, withOneMore, pushed, afterPush, Built, pushedAll}
+use Rattle.kbm.specs.Builder.{fitsTable, withOneMore, Built, pushedAll}
 use Rattle.kbm.specs.Table.{numberOf, inI16, isUnmapped, isEntry, entryOf, areEntries, entriesOf, isTable, tableOf}
 use Rattle.kbm.specs.declared.Entry.{Entry}
 use Rattle.kbm.specs.declared.Entry.the-variants.{Mapped, Unmapped}
 use Rattle.kbm.specs.declared.builder.KbmBuilder.{KbmBuilder}
 use Rattle.kbm.proofs.Entries.{and-both, mag-i16}
 use Rattle.kbm.proofs.Table.{table-entries}
-use Rattle.kbm.proofs.Pushes.{fitting, push-full, push-more, after-push}
+use Rattle.kbm.proofs.Pushes.{fitting, push-full, push-more}
 
 -- every entry of the code is one of 16 bits
 abbrev pub isI16 : Entry → Bool

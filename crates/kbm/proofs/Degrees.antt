@@ -2,7 +2,7 @@
 use mathlib.Core.Path.{_≡_, refl, sym, _∙_, ap}
 use mathlib.Core.Bool.{true, false}
 use mathlib.Core.List.{List, [], _∷_}
-use Prim.Native.Nat.{ℕ, zero, suc, _<_}
+use Prim.Native.Nat.{ℕ, _<_}
 use native.Mathlib.Omega.{arith}
 use lib.IntN.{ℤ, pos, _+ℤ_, _*ℤ_}
 use lib.ListN.{length, getD}
@@ -11,7 +11,7 @@ use mir.Syntax.{w16, w32, w64}
 use mir.Val.{SFits, toZ, ofZ}
 use mir.Facts.{toZ-ofZ}
 use Rattle.base.specs.Integers.{Divides, floorDiv, floorMod, held}
-use Rattle.base.specs.Said.{Said, gives, refuses}
+use Rattle.base.specs.Said.{Said, gives}
 use Rattle.base.proofs.Division.{divides-one}
 use Rattle.base.proofs.Integers.{floor-mod-lt}
 use Rattle.key.specs.declared.PianoKey.{PianoKey}

@@ -1,22 +1,21 @@
 -- What a key has, as document 01 says it, is what `scale_degree_of` answers: each case of `Has`, and no other.
 -- Assumes nothing.
-use mathlib.Core.Path.{_≡_, refl, sym, _∙_, ap}
+use mathlib.Core.Path.{_≡_, refl, sym, _∙_}
 use mathlib.Core.Logic.{_↔_, _⊎_, inl, inr}
 use mathlib.Core.Bool.{Bool, true, false}
-use mathlib.Core.List.{List, [], _∷_}
+use mathlib.Core.List.{List}
 use Prim.Native.Nat.{ℕ, zero, suc}
 use native.Mathlib.Omega.{arith}
 use lib.IntN.{ℤ, _+ℤ_, _*ℤ_}
-use lib.ListN.{length, getD}
+use lib.ListN.{length}
 use Rattle.base.specs.Integers.{floorDiv, floorMod, inI32, held}
 use Rattle.base.specs.Numbers.{overflow, key-out-of-range, unmapped-key}
 use Rattle.base.specs.Said.{Said, gives, refuses, pick, andThen}
 use Rattle.base.proofs.Division.{floor-divides}
 use Rattle.base.proofs.Integers.{bool-cases}
 use Rattle.key.specs.declared.PianoKey.{PianoKey}
-use Rattle.kbm.specs.Degree.{degreeOfEntry, degreeAt, degreeOf, scaleDegreeOf}
+use Rattle.kbm.specs.Degree.{degreeOfEntry, degreeAt, degreeOf}
 use Rattle.kbm.specs.Keys.{within, distance, Reaches, Has}
-use Rattle.kbm.specs.Table.{isTable, tableOf}
 use Rattle.kbm.specs.declared.Entry.{Entry}
 use Rattle.kbm.specs.declared.Entry.the-variants.{Mapped, Unmapped}
 use Rattle.kbm.specs.declared.Kbm.{Kbm}

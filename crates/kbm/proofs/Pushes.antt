@@ -1,18 +1,16 @@
 -- What a push and a build come to, by the tests that the code makes. Assumes nothing.
-use mathlib.Core.Path.{_≡_, refl, sym, _∙_, ap}
-use mathlib.Core.Bool.{Bool, true, false}
+use mathlib.Core.Path.{_≡_, sym, ap}
+use mathlib.Core.Bool.{true, false}
 use mathlib.Core.List.{List}
-use Prim.Native.Nat.{ℕ, _≤_, _<_}
+use Prim.Native.Nat.{_≤_, _<_}
 use native.Mathlib.Omega.{arith}
-use lib.Dec.{eqb, leb, ltb}
 use lib.IntN.{ℤ}
 use lib.ListN.{length}
 use borrow.Author.Tests.{eq-eqb, ne-eqb, lt-ltb, le-ltb, le-leb, lt-leb}
 use Rattle.base.specs.Numbers.{unusable, no-room}
 use Rattle.base.specs.Said.{Said, gives, refuses}
-use Rattle.kbm.specs.Builder.{fitsTable, withOneMore, pushed, tableAfter, afterPush, isReady}
-use Rattle.kbm.specs.Root.{isRoot}
-use Rattle.kbm.specs.Table.{numberOf, isTable}
+use Rattle.kbm.specs.Builder.{fitsTable, withOneMore, pushed, tableAfter, afterPush}
+use Rattle.kbm.specs.Table.{numberOf}
 use Rattle.kbm.specs.declared.Entry.{Entry}
 use Rattle.kbm.specs.declared.builder.KbmBuilder.{KbmBuilder}
 

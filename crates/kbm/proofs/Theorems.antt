@@ -1,19 +1,17 @@
 -- What the calls on a mapping come to, and that each has one result. Document 01, "Keys" and "What is taken", 5.
 -- Assumes nothing.
-use mathlib.Core.Path.{_≡_, refl, sym, _∙_, ap}
+use mathlib.Core.Path.{_≡_, refl, sym, _∙_}
 use mathlib.Core.Logic.{_↔_, _⊎_, inl, inr}
 use mathlib.Core.Bool.{Bool, true, false, _&&_}
-use mathlib.Core.List.{List, []}
+use mathlib.Core.List.{List}
 use Prim.Native.Nat.{ℕ, _≤_}
 use native.Mathlib.Omega.{arith}
 use lib.Dec.{leb, ltb}
 use lib.IntN.{ℤ, pos}
-use lib.ListN.{length}
 use borrow.Author.Tests.{leb-true, ltb-false}
 use Rattle.base.specs.Integers.{inI32}
 use Rattle.base.specs.Numbers.{unusable, overflow}
 use Rattle.base.specs.Said.{Said, gives, refuses, pick}
-use Rattle.base.proofs.Integers.{bool-cases}
 use Rattle.base.proofs.Said.{One, Split, one-result, one-plain, one-answer}
 use Rattle.key.specs.declared.PianoKey.{PianoKey}
 use Rattle.pitch.specs.declared.Pitch.{Pitch}

@@ -48,11 +48,12 @@ unfoldable pub pushed : KbmBuilder → List ℤ → Said KbmBuilder
 pushed b map =
     pick (fitsTable b map) (pick (ltb (b .count) (b .room)) (gives (withOneMore b)) (refuses no-room 0)) (refuses unusable 0)
 
--- the table after a push: the entry's number at the next place; a refusal leaves it as it was
+-- a number set at a place where a push is accepted; a refusal leaves the table as it was
 abbrev pub tableAfter : Said KbmBuilder → List ℤ → ℕ → ℤ → List ℤ
 tableAfter (gives b) map place number = set map place number
 tableAfter (refuses n detail) map place number = map
 
+-- the table after the push of an entry
 abbrev pub afterPush : KbmBuilder → List ℤ → Entry → List ℤ
 afterPush b map entry = tableAfter (pushed b map) map (b .count) (numberOf entry)
 

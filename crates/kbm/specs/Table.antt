@@ -1,9 +1,9 @@
 -- A mapping's lent table, as the interface fixes it: the number of each entry, and what a table must be to be used ("Before
 -- all else a call on lent tables gives 10 unless the count fits them, items are usable"). Assumes nothing.
-use mathlib.Core.Bool.{Bool, true, false, _&&_, _||_}
+use mathlib.Core.Bool.{Bool, true, _&&_, _||_}
 use mathlib.Core.List.{List, [], _∷_}
 use Prim.Native.Nat.{ℕ}
-use lib.Dec.{leb, eqb}
+use lib.Dec.{leb}
 use lib.IntN.{ℤ, pos, negsuc}
 use lib.ListN.{length, take}
 use lib.Signed.{leZ}
@@ -46,6 +46,7 @@ unfoldable pub areEntries : List ℤ → Bool
 areEntries [] = true
 areEntries (z ∷ zs) = isEntry z && areEntries zs
 
+-- the entries of these numbers
 unfoldable pub entriesOf : List ℤ → List Entry
 entriesOf [] = []
 entriesOf (z ∷ zs) = entryOf z ∷ entriesOf zs

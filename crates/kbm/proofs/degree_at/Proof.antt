@@ -1,11 +1,7 @@
 -- `degree_at` meets its contract: the distance with no entries, else the entry reached and the quotient's formal octaves.
 -- Assumes nothing.
 use borrow.Author.Needs.{needs}
-use mathlib.Core.Path.{_≡_, sym, _∙_}
-use lib.IntN.{pos}
-use lib.ListN.{getD}
-use mir.Syntax.{w32}
-use mir.Val.{SFits}
+use mathlib.Core.Path.{sym, _∙_}
 use Rattle.kbm.proofs.Degrees.{degree-zero, place-room, read-usable, degree-of-read, held-shifted}
 use Rattle.kbm.proofs.degree_at.Statement.{statement}
 use Rattle.kbm.proofs.degree_at.Tie as tie

@@ -1,9 +1,5 @@
 -- `entry_of` meets its contract: an entry's number that is not `UNMAPPED` is one of 16 bits.
 -- Assumes nothing.
-use mathlib.Core.Path.{_≡_}
-use mathlib.Core.Bool.{true}
-use mir.Facts.{toZ-ofZ}
-use Rattle.kbm.specs.Table.{isEntry}
 use Rattle.kbm.proofs.Entries.{mapped-cast, entry-some, entry-none}
 use Rattle.kbm.proofs.entry_of.Statement.{statement}
 use Rattle.kbm.proofs.entry_of.Tie as tie

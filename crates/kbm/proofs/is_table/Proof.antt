@@ -1,6 +1,5 @@
 -- `is_table` meets its contract. The invariant: the places up to i hold entries, so what is left decides.
 -- The measure is the number of places left. Assumes nothing.
-use mathlib.Core.Path.{sym, _∙_}
 use Prim.Native.Nat.{_-_}
 use borrow.Author.Needs.{needs}
 use native.Mathlib.Omega.{arith}

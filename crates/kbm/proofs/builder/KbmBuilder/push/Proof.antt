@@ -1,7 +1,7 @@
 -- `KbmBuilder::push` meets its contract: the entry's number goes to the next place, and a refusal writes nothing.
 -- Assumes nothing.
 use borrow.Author.Needs.{needs}
-use mathlib.Core.Path.{sym, _∙_}
+use mathlib.Core.Path.{sym}
 use mir.Facts.{toZ-ofZ}
 use mir.Syntax.{w32}
 use Rattle.kbm.proofs.Pushes.{push-other, push-past, push-full, push-more, after-push}

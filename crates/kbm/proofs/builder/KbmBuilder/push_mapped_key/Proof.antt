@@ -1,7 +1,6 @@
 -- `KbmBuilder::push_mapped_key` meets its contract: the push of that entry.
 -- Assumes nothing.
 use borrow.Author.Needs.{needs}
-use mathlib.Core.Path.{sym, _∙_}
 use mir.Facts.{toZ-ofZ}
 use Rattle.kbm.proofs.builder.KbmBuilder.push_mapped_key.Statement.{statement}
 use Rattle.kbm.proofs.builder.KbmBuilder.push_mapped_key.Tie as tie
