@@ -29,3 +29,7 @@ module _ {X A : Type 0} (says : X → Said A) {s : Said A} {x x′ : X} (told : 
 
   pub stays-part : {B : Type 0} (part : A → B) (r : Refusal) (old : B) → says x′ ≡ refusal r → old ≡ kept (mapped part s) old
   stays-part part r old gave = ap (λ s. kept (mapped part s) old) (sym gave ∙ said)
+
+-- what a `store_..` call made of an answer, of which told says what it says: n is its result, v what is stored, by `keep`
+pub handed-on : {X A B : Type 0} (says : X → Said A) (keep : Said A → B) (x : X) {s : Said A} {n : ℕ} {v : B} → says x ≡ s → (n ≡ result (says x)) × (v ≡ keep (says x)) → (n ≡ result s) × (v ≡ keep s)
+handed-on says keep x told e = (e .0 ∙ ap result told, e .1 ∙ ap keep told)

@@ -1,7 +1,5 @@
 // math.rs for C: division rounded down, and the odd part.
 use math::DivisionAnswer;
-use math::I32Answer;
-use math::U32Answer;
 ghost use mathlib.Core.Path.{_≡_};
 ghost use Rattle.math.specs.Division.{quotientOf, remainderOf, divisionOf};
 ghost use Rattle.math.specs.OddPart.{oddPart};
@@ -13,13 +11,7 @@ pub extern "C" fn telbijan_i32_div_u(numer: i32, denom: u32, quotient: &mut i32)
     ensures { λ r. ⌜ r ≡ result (quotientOf numer denom) ⌝ }
     ensures { λ _. ⌜ now (quotient .exit) ≡ kept (quotientOf numer denom) (now (quotient .entry)) ⌝ }
 {
-    match math::i32_div_u(numer, denom) {
-        I32Answer::Is(q) => {
-            *quotient = q;
-            0
-        }
-        I32Answer::Refused(refusal) => crate::code_of(refusal),
-    }
+    crate::store::store_i32(math::i32_div_u(numer, denom), quotient)
 }
 
 // What the quotient leaves, stored; 10 for denominator 0.
@@ -28,13 +20,7 @@ pub extern "C" fn telbijan_i32_rem_u(numer: i32, denom: u32, remainder: &mut u32
     ensures { λ r. ⌜ r ≡ result (remainderOf numer denom) ⌝ }
     ensures { λ _. ⌜ now (remainder .exit) ≡ kept (remainderOf numer denom) (now (remainder .entry)) ⌝ }
 {
-    match math::i32_rem_u(numer, denom) {
-        U32Answer::Is(left) => {
-            *remainder = left;
-            0
-        }
-        U32Answer::Refused(refusal) => crate::code_of(refusal),
-    }
+    crate::store::store_u32(math::i32_rem_u(numer, denom), remainder)
 }
 
 // Quotient and remainder, both stored; 10 for denominator 0.

@@ -1,8 +1,5 @@
 // key.rs for C: a key goes as its MIDI number.
-use key::KeyAnswer;
-use key::MidiAnswer;
 use key::PianoKey;
-use math::I32Answer;
 ghost use mathlib.Core.Path.{_≡_};
 ghost use Rattle.key.specs.Keys.{key, keyAfter, stepsBetween, midiOf};
 ghost use Rattle.telbijan.specs.Interface.{result, kept, mapped};
@@ -13,13 +10,7 @@ pub extern "C" fn telbijan_checked_midi_number(number: i32, midi: &mut u8) -> u6
     ensures { λ r. ⌜ r ≡ result (midiOf (key number)) ⌝ }
     ensures { λ _. ⌜ now (midi .exit) ≡ kept (midiOf (key number)) (now (midi .entry)) ⌝ }
 {
-    match PianoKey(number).checked_midi_number() {
-        MidiAnswer::Is(checked) => {
-            *midi = checked;
-            0
-        }
-        MidiAnswer::Refused(refusal) => crate::code_of(refusal),
-    }
+    crate::store::store_midi(PianoKey(number).checked_midi_number(), midi)
 }
 
 // How many keys lie from one key up to another, stored; 11 outside 32 bits.
@@ -28,13 +19,7 @@ pub extern "C" fn telbijan_num_keys_before(number: i32, other: i32, steps: &mut 
     ensures { λ r. ⌜ r ≡ result (stepsBetween (key number) (key other)) ⌝ }
     ensures { λ _. ⌜ now (steps .exit) ≡ kept (stepsBetween (key number) (key other)) (now (steps .entry)) ⌝ }
 {
-    match PianoKey(number).num_keys_before(PianoKey(other)) {
-        I32Answer::Is(between) => {
-            *steps = between;
-            0
-        }
-        I32Answer::Refused(refusal) => crate::code_of(refusal),
-    }
+    crate::store::store_i32(PianoKey(number).num_keys_before(PianoKey(other)), steps)
 }
 
 // The key that many steps after a key, stored; 11 outside 32 bits.
@@ -43,12 +28,5 @@ pub extern "C" fn telbijan_plus_steps(number: i32, steps: i32, after: &mut i32) 
     ensures { λ r. ⌜ r ≡ result (keyAfter (key number) steps) ⌝ }
     ensures { λ _. ⌜ now (after .exit) ≡ kept (mapped (λ k. k .0) (keyAfter (key number) steps)) (now (after .entry)) ⌝ }
 {
-    match PianoKey(number).plus_steps(steps) {
-        KeyAnswer::Is(reached) => {
-            let number = reached.0;
-            *after = number;
-            0
-        }
-        KeyAnswer::Refused(refusal) => crate::code_of(refusal),
-    }
+    crate::store::store_key(PianoKey(number).plus_steps(steps), after)
 }

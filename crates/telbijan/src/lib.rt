@@ -7,6 +7,7 @@ mod keys;
 mod mappings;
 mod pitches;
 mod powers;
+mod store;
 
 ghost use mathlib.Core.Path.{_≡_};
 ghost use Rattle.telbijan.specs.Interface.{code};

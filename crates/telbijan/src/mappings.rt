@@ -1,5 +1,4 @@
 // Keyboard mappings for C: a lent table of entries, and beside it the mapping's numbers. An entry is a degree from -32768 to 32767, or -2147483648 for none.
-use kbm::DegreeAnswer;
 use kbm::Kbm;
 use kbm::KbmAnswer;
 use kbm::KbmRoot;
@@ -68,14 +67,7 @@ pub extern "C" fn telbijan_scale_degree_of(
     ensures { λ _. ⌜ now (degree .exit) ≡ kept (scaleDegreeOf (mappingWith count start end reference hz offset octave) (now (map .entry)) (key number)) (now (degree .entry)) ⌝ }
 {
     let kbm = mapping(count, start, end, reference, hz, offset, octave);
-    match kbm::scale_degree_of(kbm, map, PianoKey(number)) {
-        DegreeAnswer::Is(answer) => {
-            let found = answer.0;
-            *degree = found;
-            0
-        }
-        DegreeAnswer::Refused(refusal) => crate::code_of(refusal),
-    }
+    crate::store::store_degree(kbm::scale_degree_of(kbm, map, PianoKey(number)), degree)
 }
 
 // The text of a mapping, written into the lent bytes; the number of bytes is stored. 10 for a table or pitch that cannot be

@@ -1,12 +1,8 @@
 // pitch.rs for C: a ratio goes as its number, and a pitch as its number of Hz.
-use floats::FloatAnswer;
-use pitch::BoolAnswer;
 use pitch::Order;
 use pitch::OrderAnswer;
 use pitch::Pitch;
-use pitch::PitchAnswer;
 use pitch::Ratio;
-use pitch::RatioAnswer;
 use pitch::nearest::NearestAnswer;
 ghost use mathlib.Core.Path.{_≡_};
 ghost use Rattle.pitch.specs.NearestFraction.{nearestFraction};
@@ -21,14 +17,7 @@ pub extern "C" fn telbijan_ratio_from_float(value: f64, ratio: &mut f64) -> u64
     ensures { λ r. ⌜ r ≡ result (fromFloat value) ⌝ }
     ensures { λ _. ⌜ now (ratio .exit) ≡ kept (fromFloat value) (now (ratio .entry)) ⌝ }
 {
-    match Ratio::from_float(value) {
-        RatioAnswer::Is(answer) => {
-            let number = answer.0;
-            *ratio = number;
-            0
-        }
-        RatioAnswer::Refused(refusal) => crate::code_of(refusal),
-    }
+    crate::store::store_ratio(Ratio::from_float(value), ratio)
 }
 
 // The ratio of so many octaves; 18 outside -900..900.
@@ -37,14 +26,7 @@ pub extern "C" fn telbijan_ratio_from_octaves(octaves: f64, ratio: &mut f64) -> 
     ensures { λ r. ⌜ r ≡ result (fromOctaves octaves) ⌝ }
     ensures { λ _. ⌜ now (ratio .exit) ≡ kept (fromOctaves octaves) (now (ratio .entry)) ⌝ }
 {
-    match Ratio::from_octaves(octaves) {
-        RatioAnswer::Is(answer) => {
-            let number = answer.0;
-            *ratio = number;
-            0
-        }
-        RatioAnswer::Refused(refusal) => crate::code_of(refusal),
-    }
+    crate::store::store_ratio(Ratio::from_octaves(octaves), ratio)
 }
 
 // The ratio of so many semitones; 18.
@@ -53,14 +35,7 @@ pub extern "C" fn telbijan_ratio_from_semitones(semitones: f64, ratio: &mut f64)
     ensures { λ r. ⌜ r ≡ result (fromSemitones semitones) ⌝ }
     ensures { λ _. ⌜ now (ratio .exit) ≡ kept (fromSemitones semitones) (now (ratio .entry)) ⌝ }
 {
-    match Ratio::from_semitones(semitones) {
-        RatioAnswer::Is(answer) => {
-            let number = answer.0;
-            *ratio = number;
-            0
-        }
-        RatioAnswer::Refused(refusal) => crate::code_of(refusal),
-    }
+    crate::store::store_ratio(Ratio::from_semitones(semitones), ratio)
 }
 
 // The ratio of so many cents; 18.
@@ -69,14 +44,7 @@ pub extern "C" fn telbijan_ratio_from_cents(cents: f64, ratio: &mut f64) -> u64
     ensures { λ r. ⌜ r ≡ result (fromCents cents) ⌝ }
     ensures { λ _. ⌜ now (ratio .exit) ≡ kept (fromCents cents) (now (ratio .entry)) ⌝ }
 {
-    match Ratio::from_cents(cents) {
-        RatioAnswer::Is(answer) => {
-            let number = answer.0;
-            *ratio = number;
-            0
-        }
-        RatioAnswer::Refused(refusal) => crate::code_of(refusal),
-    }
+    crate::store::store_ratio(Ratio::from_cents(cents), ratio)
 }
 
 // The ratio from the first pitch to the second; 10, 18.
@@ -85,14 +53,7 @@ pub extern "C" fn telbijan_ratio_between_pitches(first: f64, second: f64, ratio:
     ensures { λ r. ⌜ r ≡ result (betweenPitches first second) ⌝ }
     ensures { λ _. ⌜ now (ratio .exit) ≡ kept (betweenPitches first second) (now (ratio .entry)) ⌝ }
 {
-    match Ratio::between_pitches(Pitch(first), Pitch(second)) {
-        RatioAnswer::Is(answer) => {
-            let number = answer.0;
-            *ratio = number;
-            0
-        }
-        RatioAnswer::Refused(refusal) => crate::code_of(refusal),
-    }
+    crate::store::store_ratio(Ratio::between_pitches(Pitch(first), Pitch(second)), ratio)
 }
 
 // One ratio on top of another; 10, 18.
@@ -101,14 +62,7 @@ pub extern "C" fn telbijan_ratio_stretched_by(value: f64, stretch: f64, ratio: &
     ensures { λ r. ⌜ r ≡ result (stretchedBy value stretch) ⌝ }
     ensures { λ _. ⌜ now (ratio .exit) ≡ kept (stretchedBy value stretch) (now (ratio .entry)) ⌝ }
 {
-    match Ratio(value).stretched_by(Ratio(stretch)) {
-        RatioAnswer::Is(answer) => {
-            let number = answer.0;
-            *ratio = number;
-            0
-        }
-        RatioAnswer::Refused(refusal) => crate::code_of(refusal),
-    }
+    crate::store::store_ratio(Ratio(value).stretched_by(Ratio(stretch)), ratio)
 }
 
 // How far a ratio is from another; 10, 18.
@@ -117,14 +71,7 @@ pub extern "C" fn telbijan_ratio_deviation_from(value: f64, reference: f64, rati
     ensures { λ r. ⌜ r ≡ result (deviationFrom value reference) ⌝ }
     ensures { λ _. ⌜ now (ratio .exit) ≡ kept (deviationFrom value reference) (now (ratio .entry)) ⌝ }
 {
-    match Ratio(value).deviation_from(Ratio(reference)) {
-        RatioAnswer::Is(answer) => {
-            let number = answer.0;
-            *ratio = number;
-            0
-        }
-        RatioAnswer::Refused(refusal) => crate::code_of(refusal),
-    }
+    crate::store::store_ratio(Ratio(value).deviation_from(Ratio(reference)), ratio)
 }
 
 // So many times the interval; 10, 18.
@@ -133,14 +80,7 @@ pub extern "C" fn telbijan_ratio_repeated(value: f64, times: f64, ratio: &mut f6
     ensures { λ r. ⌜ r ≡ result (repeated value times) ⌝ }
     ensures { λ _. ⌜ now (ratio .exit) ≡ kept (repeated value times) (now (ratio .entry)) ⌝ }
 {
-    match Ratio(value).repeated(times) {
-        RatioAnswer::Is(answer) => {
-            let number = answer.0;
-            *ratio = number;
-            0
-        }
-        RatioAnswer::Refused(refusal) => crate::code_of(refusal),
-    }
+    crate::store::store_ratio(Ratio(value).repeated(times), ratio)
 }
 
 // One of so many equal parts of the interval; 10, 18.
@@ -153,14 +93,7 @@ pub extern "C" fn telbijan_ratio_divided_into_equal_steps(
     ensures { λ r. ⌜ r ≡ result (dividedInto value steps) ⌝ }
     ensures { λ _. ⌜ now (ratio .exit) ≡ kept (dividedInto value steps) (now (ratio .entry)) ⌝ }
 {
-    match Ratio(value).divided_into_equal_steps(steps) {
-        RatioAnswer::Is(answer) => {
-            let number = answer.0;
-            *ratio = number;
-            0
-        }
-        RatioAnswer::Refused(refusal) => crate::code_of(refusal),
-    }
+    crate::store::store_ratio(Ratio(value).divided_into_equal_steps(steps), ratio)
 }
 
 // How many steps make the interval, infinite or a NaN for a step of 1.0; 10.
@@ -173,13 +106,7 @@ pub extern "C" fn telbijan_ratio_num_equal_steps_of_size(
     ensures { λ r. ⌜ r ≡ result (stepsOfSize value step) ⌝ }
     ensures { λ _. ⌜ now (count .exit) ≡ kept (stepsOfSize value step) (now (count .entry)) ⌝ }
 {
-    match Ratio(value).num_equal_steps_of_size(Ratio(step)) {
-        FloatAnswer::Is(answer) => {
-            *count = answer;
-            0
-        }
-        FloatAnswer::Refused(refusal) => crate::code_of(refusal),
-    }
+    crate::store::store_float(Ratio(value).num_equal_steps_of_size(Ratio(step)), count)
 }
 
 // The octaves of a ratio; 10.
@@ -188,13 +115,7 @@ pub extern "C" fn telbijan_ratio_as_octaves(value: f64, octaves: &mut f64) -> u6
     ensures { λ r. ⌜ r ≡ result (asOctaves value) ⌝ }
     ensures { λ _. ⌜ now (octaves .exit) ≡ kept (asOctaves value) (now (octaves .entry)) ⌝ }
 {
-    match Ratio(value).as_octaves() {
-        FloatAnswer::Is(answer) => {
-            *octaves = answer;
-            0
-        }
-        FloatAnswer::Refused(refusal) => crate::code_of(refusal),
-    }
+    crate::store::store_float(Ratio(value).as_octaves(), octaves)
 }
 
 // The semitones of a ratio; 10.
@@ -203,13 +124,7 @@ pub extern "C" fn telbijan_ratio_as_semitones(value: f64, semitones: &mut f64) -
     ensures { λ r. ⌜ r ≡ result (asSemitones value) ⌝ }
     ensures { λ _. ⌜ now (semitones .exit) ≡ kept (asSemitones value) (now (semitones .entry)) ⌝ }
 {
-    match Ratio(value).as_semitones() {
-        FloatAnswer::Is(answer) => {
-            *semitones = answer;
-            0
-        }
-        FloatAnswer::Refused(refusal) => crate::code_of(refusal),
-    }
+    crate::store::store_float(Ratio(value).as_semitones(), semitones)
 }
 
 // The cents of a ratio; 10.
@@ -218,13 +133,7 @@ pub extern "C" fn telbijan_ratio_as_cents(value: f64, cents: &mut f64) -> u64
     ensures { λ r. ⌜ r ≡ result (asCents value) ⌝ }
     ensures { λ _. ⌜ now (cents .exit) ≡ kept (asCents value) (now (cents .entry)) ⌝ }
 {
-    match Ratio(value).as_cents() {
-        FloatAnswer::Is(answer) => {
-            *cents = answer;
-            0
-        }
-        FloatAnswer::Refused(refusal) => crate::code_of(refusal),
-    }
+    crate::store::store_float(Ratio(value).as_cents(), cents)
 }
 
 // The interval turned over; 10, 18.
@@ -233,14 +142,7 @@ pub extern "C" fn telbijan_ratio_inv(value: f64, ratio: &mut f64) -> u64
     ensures { λ r. ⌜ r ≡ result (inverse value) ⌝ }
     ensures { λ _. ⌜ now (ratio .exit) ≡ kept (inverse value) (now (ratio .entry)) ⌝ }
 {
-    match Ratio(value).inv() {
-        RatioAnswer::Is(answer) => {
-            let number = answer.0;
-            *ratio = number;
-            0
-        }
-        RatioAnswer::Refused(refusal) => crate::code_of(refusal),
-    }
+    crate::store::store_ratio(Ratio(value).inv(), ratio)
 }
 
 // The interval upwards; 10, 18.
@@ -249,14 +151,7 @@ pub extern "C" fn telbijan_ratio_abs(value: f64, ratio: &mut f64) -> u64
     ensures { λ r. ⌜ r ≡ result (absolute value) ⌝ }
     ensures { λ _. ⌜ now (ratio .exit) ≡ kept (absolute value) (now (ratio .entry)) ⌝ }
 {
-    match Ratio(value).abs() {
-        RatioAnswer::Is(answer) => {
-            let number = answer.0;
-            *ratio = number;
-            0
-        }
-        RatioAnswer::Refused(refusal) => crate::code_of(refusal),
-    }
+    crate::store::store_ratio(Ratio(value).abs(), ratio)
 }
 
 // The pitch of a number in Hz; 10 outside 2^-900..2^900.
@@ -265,14 +160,7 @@ pub extern "C" fn telbijan_pitch_from_hz(value: f64, hz: &mut f64) -> u64
     ensures { λ r. ⌜ r ≡ result (fromHz value) ⌝ }
     ensures { λ _. ⌜ now (hz .exit) ≡ kept (fromHz value) (now (hz .entry)) ⌝ }
 {
-    match Pitch::from_hz(value) {
-        PitchAnswer::Is(answer) => {
-            let number = answer.0;
-            *hz = number;
-            0
-        }
-        PitchAnswer::Refused(refusal) => crate::code_of(refusal),
-    }
+    crate::store::store_pitch(Pitch::from_hz(value), hz)
 }
 
 // The pitch that much higher; 10, 18.
@@ -281,14 +169,7 @@ pub extern "C" fn telbijan_pitch_times_ratio(value: f64, ratio: f64, hz: &mut f6
     ensures { λ r. ⌜ r ≡ result (pitchTimes value ratio) ⌝ }
     ensures { λ _. ⌜ now (hz .exit) ≡ kept (pitchTimes value ratio) (now (hz .entry)) ⌝ }
 {
-    match Pitch(value).times(Ratio(ratio)) {
-        PitchAnswer::Is(answer) => {
-            let number = answer.0;
-            *hz = number;
-            0
-        }
-        PitchAnswer::Refused(refusal) => crate::code_of(refusal),
-    }
+    crate::store::store_pitch(Pitch(value).times(Ratio(ratio)), hz)
 }
 
 // The pitch that much lower; 10, 18.
@@ -297,14 +178,7 @@ pub extern "C" fn telbijan_pitch_over_ratio(value: f64, ratio: f64, hz: &mut f64
     ensures { λ r. ⌜ r ≡ result (pitchOver value ratio) ⌝ }
     ensures { λ _. ⌜ now (hz .exit) ≡ kept (pitchOver value ratio) (now (hz .entry)) ⌝ }
 {
-    match Pitch(value).over(Ratio(ratio)) {
-        PitchAnswer::Is(answer) => {
-            let number = answer.0;
-            *hz = number;
-            0
-        }
-        PitchAnswer::Refused(refusal) => crate::code_of(refusal),
-    }
+    crate::store::store_pitch(Pitch(value).over(Ratio(ratio)), hz)
 }
 
 // Whether a ratio is as good as a unison; 10.
@@ -313,13 +187,7 @@ pub extern "C" fn telbijan_ratio_is_negligible(value: f64, negligible: &mut bool
     ensures { λ r. ⌜ r ≡ result (isNegligible value) ⌝ }
     ensures { λ _. ⌜ now (negligible .exit) ≡ kept (isNegligible value) (now (negligible .entry)) ⌝ }
 {
-    match Ratio(value).is_negligible() {
-        BoolAnswer::Is(answer) => {
-            *negligible = answer;
-            0
-        }
-        BoolAnswer::Refused(refusal) => crate::code_of(refusal),
-    }
+    crate::store::store_bool(Ratio(value).is_negligible(), negligible)
 }
 
 // -1, 0 or 1: a lower ratio, the same, or a higher one.

@@ -1,5 +1,4 @@
 // E and L for C: the power of two and its logarithm, the same on every machine.
-use floats::FloatAnswer;
 ghost use mathlib.Core.Path.{_≡_};
 ghost use Rattle.explog.specs.Rules.{E, L};
 ghost use Rattle.telbijan.specs.Interface.{result, kept};
@@ -10,13 +9,7 @@ pub extern "C" fn telbijan_exp2(x: f64, power: &mut f64) -> u64
     ensures { λ r. ⌜ r ≡ result (E x) ⌝ }
     ensures { λ _. ⌜ now (power .exit) ≡ kept (E x) (now (power .entry)) ⌝ }
 {
-    match explog::exp2(x) {
-        FloatAnswer::Is(value) => {
-            *power = value;
-            0
-        }
-        FloatAnswer::Refused(refusal) => crate::code_of(refusal),
-    }
+    crate::store::store_float(explog::exp2(x), power)
 }
 
 // L(x), the base 2 logarithm, stored; 18 outside 2^-900..2^900.
@@ -25,11 +18,5 @@ pub extern "C" fn telbijan_log2(x: f64, logarithm: &mut f64) -> u64
     ensures { λ r. ⌜ r ≡ result (L x) ⌝ }
     ensures { λ _. ⌜ now (logarithm .exit) ≡ kept (L x) (now (logarithm .entry)) ⌝ }
 {
-    match explog::log2(x) {
-        FloatAnswer::Is(value) => {
-            *logarithm = value;
-            0
-        }
-        FloatAnswer::Refused(refusal) => crate::code_of(refusal),
-    }
+    crate::store::store_float(explog::log2(x), logarithm)
 }

@@ -1,48 +1,20 @@
 -- `telbijan_ratio_from_cents` meets its contract: what `from_cents` answers, stored or coded. Assumes nothing.
-use mathlib.Core.Path.{_≡_, refl}
 use borrow.Author.Needs.{needs}
 use denote.Ref.{now}
-use Rattle.pitch.specs.Ratios.{fromCents}
 use Rattle.pitch.specs.Answers.{saysRatio}
-use Rattle.telbijan.proofs.Interface.{accepted, refused, stays, stored}
+use Rattle.telbijan.specs.Interface.{kept}
+use Rattle.telbijan.proofs.Interface.{handed-on}
 use Rattle.telbijan.proofs.pitches.telbijan_ratio_from_cents.Statement.{statement}
 use Rattle.telbijan.proofs.pitches.telbijan_ratio_from_cents.Tie as tie
 
 from-cents-requires : tie.Need-from-cents-requires
 from-cents-requires c κs = search needs
 
-enum-known-answer : tie.Need-enum-known-answer
-enum-known-answer c = search needs
-
-enum-known-refusal : tie.Need-enum-known-refusal
-enum-known-refusal c = search needs
-
-code-of-requires : tie.Need-code-of-requires
-code-of-requires c κs = search needs
-
--- the callee's contract, of this function's own arguments
-told : (c : tie.After-from-cents) → saysRatio (c .from-cents .result) ≡ fromCents (c .before .args .cents)
-told c = c .from-cents .ensures
+store-ratio-requires : tie.Need-store-ratio-requires
+store-ratio-requires c κs = search needs
 
 returns : tie.Need-returns
-returns c =
-    let call = c .before .before .before in
-    let is = c .before .answer .given .1 in
-    (accepted saysRatio (told call) is refl, stored saysRatio (told call) is (now (call .before .args .ratio)) refl refl)
-
-returns-2 : tie.Need-returns-2
-returns-2 c =
-    let call = c .before .before .before .before in
-    let is = c .before .before .refusal .given .1 in
-    (refused saysRatio (told call) is _ refl (c .code-of .ensures), stays saysRatio (told call) is _ (now (call .before .args .ratio)) refl)
+returns c = handed-on saysRatio (λ s. kept s (now (c .before .before .before .args .ratio))) (c .before .before .from-cents .result) (c .before .before .from-cents .ensures) (c .store-ratio .ensures)
 
 pub telbijan-ratio-from-cents-spec : {M : Type 1} → statement M
-telbijan-ratio-from-cents-spec =
-    tie.close
-    (tie.spec
-    from-cents-requires
-    enum-known-answer
-    enum-known-refusal
-    code-of-requires
-    returns
-    returns-2)
+telbijan-ratio-from-cents-spec = tie.close (tie.spec from-cents-requires store-ratio-requires returns)

@@ -1,48 +1,20 @@
 -- `telbijan_exp2` meets its contract: what `exp2` answers, stored or coded. Assumes nothing.
-use mathlib.Core.Path.{_≡_, refl}
 use borrow.Author.Needs.{needs}
 use denote.Ref.{now}
-use Rattle.explog.specs.Rules.{E}
 use Rattle.floats.specs.Answers.{saysFloat}
-use Rattle.telbijan.proofs.Interface.{accepted, refused, stays, stored}
+use Rattle.telbijan.specs.Interface.{kept}
+use Rattle.telbijan.proofs.Interface.{handed-on}
 use Rattle.telbijan.proofs.powers.telbijan_exp2.Statement.{statement}
 use Rattle.telbijan.proofs.powers.telbijan_exp2.Tie as tie
 
 exp2-requires : tie.Need-exp2-requires
 exp2-requires c κs = search needs
 
-enum-known-value : tie.Need-enum-known-value
-enum-known-value c = search needs
-
-enum-known-refusal : tie.Need-enum-known-refusal
-enum-known-refusal c = search needs
-
-code-of-requires : tie.Need-code-of-requires
-code-of-requires c κs = search needs
-
--- the callee's contract, of this function's own arguments
-told : (c : tie.After-exp2) → saysFloat (c .exp2 .result) ≡ E (c .before .args .x)
-told c = c .exp2 .ensures
+store-float-requires : tie.Need-store-float-requires
+store-float-requires c κs = search needs
 
 returns : tie.Need-returns
-returns c =
-    let call = c .before .before .before in
-    let is = c .before .value .given .1 in
-    (accepted saysFloat (told call) is refl, stored saysFloat (told call) is (now (call .before .args .power)) refl refl)
-
-returns-2 : tie.Need-returns-2
-returns-2 c =
-    let call = c .before .before .before .before in
-    let is = c .before .before .refusal .given .1 in
-    (refused saysFloat (told call) is _ refl (c .code-of .ensures), stays saysFloat (told call) is _ (now (call .before .args .power)) refl)
+returns c = handed-on saysFloat (λ s. kept s (now (c .before .before .before .args .power))) (c .before .before .exp2 .result) (c .before .before .exp2 .ensures) (c .store-float .ensures)
 
 pub telbijan-exp2-spec : {M : Type 1} → statement M
-telbijan-exp2-spec =
-    tie.close
-    (tie.spec
-    exp2-requires
-    enum-known-value
-    enum-known-refusal
-    code-of-requires
-    returns
-    returns-2)
+telbijan-exp2-spec = tie.close (tie.spec exp2-requires store-float-requires returns)

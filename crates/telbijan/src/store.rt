@@ -1,0 +1,138 @@
+// An answer for C: its value is stored and the result is 0, or the result is the code of its refusal and nothing is stored.
+use floats::FloatAnswer;
+use kbm::DegreeAnswer;
+use key::KeyAnswer;
+use key::MidiAnswer;
+use math::I32Answer;
+use math::U32Answer;
+use pitch::BoolAnswer;
+use pitch::PitchAnswer;
+use pitch::RatioAnswer;
+ghost use mathlib.Core.Path.{_≡_};
+ghost use Rattle.floats.specs.Answers.{saysFloat};
+ghost use Rattle.kbm.specs.Answers.{saysDegree};
+ghost use Rattle.key.specs.Answers.{saysMidi, saysKey};
+ghost use Rattle.math.specs.Answers.{saysI32, saysU32};
+ghost use Rattle.pitch.specs.Answers.{saysRatio, saysPitch, saysBool};
+ghost use Rattle.telbijan.specs.Interface.{result, kept, mapped};
+
+pub fn store_i32(answer: I32Answer, out: &mut i32) -> u64
+    ensures { λ r. ⌜ r ≡ result (saysI32 answer) ⌝ }
+    ensures { λ _. ⌜ now (out .exit) ≡ kept (saysI32 answer) (now (out .entry)) ⌝ }
+{
+    match answer {
+        I32Answer::Is(value) => {
+            *out = value;
+            0
+        }
+        I32Answer::Refused(refusal) => crate::code_of(refusal),
+    }
+}
+
+pub fn store_u32(answer: U32Answer, out: &mut u32) -> u64
+    ensures { λ r. ⌜ r ≡ result (saysU32 answer) ⌝ }
+    ensures { λ _. ⌜ now (out .exit) ≡ kept (saysU32 answer) (now (out .entry)) ⌝ }
+{
+    match answer {
+        U32Answer::Is(value) => {
+            *out = value;
+            0
+        }
+        U32Answer::Refused(refusal) => crate::code_of(refusal),
+    }
+}
+
+pub fn store_midi(answer: MidiAnswer, out: &mut u8) -> u64
+    ensures { λ r. ⌜ r ≡ result (saysMidi answer) ⌝ }
+    ensures { λ _. ⌜ now (out .exit) ≡ kept (saysMidi answer) (now (out .entry)) ⌝ }
+{
+    match answer {
+        MidiAnswer::Is(value) => {
+            *out = value;
+            0
+        }
+        MidiAnswer::Refused(refusal) => crate::code_of(refusal),
+    }
+}
+
+pub fn store_key(answer: KeyAnswer, out: &mut i32) -> u64
+    ensures { λ r. ⌜ r ≡ result (saysKey answer) ⌝ }
+    ensures { λ _. ⌜ now (out .exit) ≡ kept (mapped (λ k. k .0) (saysKey answer)) (now (out .entry)) ⌝ }
+{
+    match answer {
+        KeyAnswer::Is(value) => {
+            let number = value.0;
+            *out = number;
+            0
+        }
+        KeyAnswer::Refused(refusal) => crate::code_of(refusal),
+    }
+}
+
+pub fn store_float(answer: FloatAnswer, out: &mut f64) -> u64
+    ensures { λ r. ⌜ r ≡ result (saysFloat answer) ⌝ }
+    ensures { λ _. ⌜ now (out .exit) ≡ kept (saysFloat answer) (now (out .entry)) ⌝ }
+{
+    match answer {
+        FloatAnswer::Is(value) => {
+            *out = value;
+            0
+        }
+        FloatAnswer::Refused(refusal) => crate::code_of(refusal),
+    }
+}
+
+pub fn store_ratio(answer: RatioAnswer, out: &mut f64) -> u64
+    ensures { λ r. ⌜ r ≡ result (saysRatio answer) ⌝ }
+    ensures { λ _. ⌜ now (out .exit) ≡ kept (saysRatio answer) (now (out .entry)) ⌝ }
+{
+    match answer {
+        RatioAnswer::Is(value) => {
+            let number = value.0;
+            *out = number;
+            0
+        }
+        RatioAnswer::Refused(refusal) => crate::code_of(refusal),
+    }
+}
+
+pub fn store_pitch(answer: PitchAnswer, out: &mut f64) -> u64
+    ensures { λ r. ⌜ r ≡ result (saysPitch answer) ⌝ }
+    ensures { λ _. ⌜ now (out .exit) ≡ kept (saysPitch answer) (now (out .entry)) ⌝ }
+{
+    match answer {
+        PitchAnswer::Is(value) => {
+            let number = value.0;
+            *out = number;
+            0
+        }
+        PitchAnswer::Refused(refusal) => crate::code_of(refusal),
+    }
+}
+
+pub fn store_bool(answer: BoolAnswer, out: &mut bool) -> u64
+    ensures { λ r. ⌜ r ≡ result (saysBool answer) ⌝ }
+    ensures { λ _. ⌜ now (out .exit) ≡ kept (saysBool answer) (now (out .entry)) ⌝ }
+{
+    match answer {
+        BoolAnswer::Is(value) => {
+            *out = value;
+            0
+        }
+        BoolAnswer::Refused(refusal) => crate::code_of(refusal),
+    }
+}
+
+pub fn store_degree(answer: DegreeAnswer, out: &mut i32) -> u64
+    ensures { λ r. ⌜ r ≡ result (saysDegree answer) ⌝ }
+    ensures { λ _. ⌜ now (out .exit) ≡ kept (saysDegree answer) (now (out .entry)) ⌝ }
+{
+    match answer {
+        DegreeAnswer::Is(value) => {
+            let number = value.0;
+            *out = number;
+            0
+        }
+        DegreeAnswer::Refused(refusal) => crate::code_of(refusal),
+    }
+}
