@@ -7,7 +7,7 @@ use Rattle.base.specs.Said.{gives, refuses}
 use Rattle.key.specs.Keys.{key}
 use Rattle.pitch.specs.declared.Pitch.{Pitch}
 use Rattle.kbm.specs.Degree.{degreeAt, scaleDegreeOf}
-use Rattle.kbm.specs.Samples.{Samples, steep}
+use Rattle.kbm.specs.Samples.{Samples, steep, Shown}
 use Rattle.kbm.specs.Table.{areEntries, entriesOf}
 
 -- for middle 62, which is offset 2, as for any other
@@ -22,3 +22,7 @@ steep-low pitch = refl
 pub steep-high : (pitch : Pitch) → scaleDegreeOf (steep pitch) (negℤ (pos 1) ∷ []) (key (pos 65536)) ≡ refuses 11 0
 unfolding scaleDegreeOf degreeAt areEntries entriesOf held
 steep-high pitch = refl
+
+pub shown-holds : (pitch : Pitch) → Shown pitch
+unfolding scaleDegreeOf degreeAt areEntries entriesOf held
+shown-holds pitch = record { at9 = refl; at10 = refl; at60 = refl; at61 = refl; at62 = refl; at67 = refl; at99 = refl; at100 = refl }

@@ -1,7 +1,8 @@
 // A mapping built step by step beside a lent table: the Rust's `KbmBuilder`. Document 01, "What is taken", 5.
 //
 // The state goes by value. It fits a table of `room` places, of which it has filled `count`; with any other table it is
-// refused (10). A refused push leaves the table as it was.
+// refused (10). A refused push leaves the table as it was. `new(root, &map)`, then `push_mapped_key(&mut map, 0)`, then
+// `formal_octave(12)`, then `build(&map)` is a mapping of one entry, 0, for keys 0..127.
 use crate::Entry;
 use crate::Kbm;
 use crate::KbmAnswer;

@@ -220,6 +220,7 @@ fn degree_from(
 }
 
 // The degree of a key: 10 for a table that cannot be used, 16 outside the range, 11 for the distance, 17 unmapped, 11.
+// Entries 0, x, 2, octave 5, keys 0..127, reference 60: key 59 has degree -3, key 61 is 17, key 128 is 16.
 pub fn scale_degree_of(kbm: Kbm, map: &[i32], key: PianoKey) -> DegreeAnswer
     ensures { λ r. ⌜ saysDegree r ≡ scaleDegreeOf kbm (now (map .entry)) key ⌝ }
 {
