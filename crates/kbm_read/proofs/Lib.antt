@@ -2,3 +2,5 @@ pub mod Takes
 pub mod Walks
 pub mod Fills
 pub mod Leaves
+pub mod Fields
+pub mod Places
