@@ -4,3 +4,5 @@ pub mod Fills
 pub mod Leaves
 pub mod Fields
 pub mod Places
+pub mod Leads
+pub mod Follows
