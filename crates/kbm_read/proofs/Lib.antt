@@ -6,3 +6,7 @@ pub mod Fields
 pub mod Places
 pub mod Leads
 pub mod Follows
+pub mod Ends
+pub mod Language
+pub mod Tables
+pub mod Theorems
