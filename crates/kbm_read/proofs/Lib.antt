@@ -10,3 +10,4 @@ pub mod Ends
 pub mod Language
 pub mod Tables
 pub mod Theorems
+pub mod Samples
