@@ -275,3 +275,7 @@ one-reading s x y es fs t u =
     let b = accepts (length es + length fs) s y fs .1 (u, omega arith) in
     let k : x ≡ y = same-value x y (sym (a .0) ∙ b .0) in
     (k, sym (a .1) ∙ ap (λ z. entriesIn (z .count) s) k ∙ b .1)
+
+-- ONE EARLIEST FAULT: number and detail are one
+pub one-fault : (room : ℕ) (s : List ℕ) (m n c d : ℕ) → FaultText room s m c → FaultText room s n d → (m ≡ n) × (c ≡ d)
+one-fault room s m n c d t u = same-refuses (sym (refuses-fault room s m c .1 t) ∙ refuses-fault room s n d .1 u)
