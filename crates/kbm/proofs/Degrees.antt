@@ -10,8 +10,9 @@ use lib.Signed.{leZ, ltZ}
 use mir.Syntax.{w16, w32, w64}
 use mir.Val.{SFits, toZ, ofZ}
 use mir.Facts.{toZ-ofZ}
-use Rattle.base.specs.Integers.{floorDiv, floorMod, held}
+use Rattle.base.specs.Integers.{Divides, floorDiv, floorMod, held}
 use Rattle.base.specs.Said.{Said, gives, refuses}
+use Rattle.base.proofs.Division.{divides-one}
 use Rattle.base.proofs.Integers.{floor-mod-lt}
 use Rattle.key.specs.declared.PianoKey.{PianoKey}
 use Rattle.kbm.specs.Degree.{degreeOfEntry, degreeAt, inRange}
@@ -31,6 +32,12 @@ pub degree-some : (d octave : ℤ) (es : List Entry) → 0 < length es → degre
 unfolding degreeAt
 degree-some d octave [] h = absurd (omega (arith, h))
 degree-some d octave (e ∷ es) h = refl
+
+-- by any q and r that divide the distance: there are no others
+pub degree-by : {d q : ℤ} {r : ℕ} (octave : ℤ) (es : List Entry) → Divides d (length es) q r → degreeAt d octave es ≡ degreeOfEntry (getD es r Unmapped) q octave
+degree-by {d} {q} {r} octave es by =
+    let parts = divides-one by in
+    rw (parts .0, parts .1) (degree-some d octave es (omega (arith, by .rest)))
 
 module _ (count : ℕ) (map : List ℤ) (t : isTable count map ≡ true) {d : ℤ} (fd : SFits w32 d) where
   -- the code's answer for no entries

@@ -11,7 +11,7 @@ use lib.IntN.{ℤ, pos}
 use lib.ListN.{length, getD, take, drop, drop-of-length-le}
 use lib.Seq.{drop-cons, getD-take, length-take-le}
 use borrow.Author.Tests.{le-leb, lt-leb, leb-true}
-use Rattle.kbm.specs.Table.{isEntry, entryOf, areEntries, entriesOf, isTable, tableOf}
+use Rattle.kbm.specs.Table.{numbersOf, isEntry, entryOf, areEntries, entriesOf, isTable, tableOf}
 use Rattle.kbm.specs.declared.Entry.{Entry}
 use Rattle.kbm.specs.declared.Entry.the-variants.{Unmapped}
 use Rattle.kbm.proofs.Entries.{and-both}
@@ -51,6 +51,11 @@ module _ {count : ℕ} {map : List ℤ} {i : ℕ} (s : Left count map i) where
     stop e = rw (le-leb count (length map) (s .room), s .same ∙ (rw e at next))
 
 -- ---- what stands at a place
+pub length-numbers : (es : List Entry) → length (numbersOf es) ≡ length es
+unfolding numbersOf
+length-numbers [] = refl
+length-numbers (e ∷ es) = ap suc (length-numbers es)
+
 pub length-entries : (zs : List ℤ) → length (entriesOf zs) ≡ length zs
 unfolding entriesOf
 length-entries [] = refl

@@ -1,4 +1,7 @@
 pub mod Table
 pub mod Root
 pub mod Degree
+pub mod Keys
+pub mod Builder
 pub mod Answers
+pub mod Samples

@@ -7,14 +7,17 @@ use key::Degree;
 use key::PianoKey;
 use math::I32Answer;
 use pitch::Pitch;
+
+pub mod builder;
+
 ghost use mathlib.Core.Path.{_≡_};
 ghost use mathlib.Core.Bool.{true};
 ghost use lib.IntN.{_+ℤ_, _*ℤ_};
 ghost use Rattle.base.specs.Integers.{held};
 ghost use Rattle.kbm.specs.Answers.{saysRoot, saysDegree};
 ghost use Rattle.kbm.specs.Degree.{inRange, degreeAt, degreeFrom, scaleDegreeOf};
-ghost use Rattle.kbm.specs.Root.{rootOf};
-ghost use Rattle.kbm.specs.Table.{isEntry, entryOf, isTable, tableOf};
+ghost use Rattle.kbm.specs.Root.{rootOf, isRoot};
+ghost use Rattle.kbm.specs.Table.{numberOf, isEntry, entryOf, isTable, tableOf};
 
 // The number that stands for an unmapped entry in a lent table.
 pub const UNMAPPED: i32 = -2147483648;
@@ -58,7 +61,7 @@ pub enum DegreeAnswer {
 }
 
 // 10: a lent table, a state or a pitch cannot be used.
-const NOT_USABLE: Refusal = Refusal {
+pub const NOT_USABLE: Refusal = Refusal {
     number: base::UNUSABLE,
     detail: 0,
 };
@@ -74,6 +77,14 @@ const NO_DEGREE: Refusal = Refusal {
     number: base::UNMAPPED_KEY,
     detail: 0,
 };
+
+// Whether the pitch of a root lies in 2^-10..2^20.
+pub fn is_root(root: KbmRoot) -> bool
+    ensures { λ r. ⌜ r ≡ isRoot root ⌝ }
+{
+    let pitch = root.pitch;
+    floats::is_in_pitch(pitch.0)
+}
 
 impl KbmRoot {
     // The root of a reference key, its pitch and the steps up to the middle key; 10 for a pitch outside 2^-10..2^20.
@@ -103,6 +114,16 @@ fn is_entry(z: i32) -> bool
         return z <= 32767;
     }
     false
+}
+
+// The number of an entry.
+pub fn number_of(entry: Entry) -> i32
+    ensures { λ r. ⌜ r ≡ numberOf entry ⌝ }
+{
+    match entry {
+        Entry::Mapped(degree) => degree as i32,
+        Entry::Unmapped => UNMAPPED,
+    }
 }
 
 // The entry of its number.
