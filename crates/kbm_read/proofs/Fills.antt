@@ -1,0 +1,116 @@
+-- The laws of the second pass: what stands in the table after each entry, and after the padding. Assumes nothing.
+use mathlib.Core.Path.{_≡_, refl, sym, _∙_, ap}
+use mathlib.Core.Bool.{Bool, true, false}
+use mathlib.Core.List.{List, [], _∷_, _++_, append-assoc, append-nil}
+use Prim.Native.Nat.{ℕ, zero, suc, _+_, _-_, _≤_, _<_}
+use native.Mathlib.Numerals.{add-one}
+use native.Mathlib.Omega.{arith}
+use lib.Dec.{ltb}
+use lib.IntN.{ℤ}
+use lib.ListN.{length, drop, set, length-append}
+use borrow.Author.Tests.{ltb-true}
+use Rattle.base.specs.Said.{pick}
+use Rattle.base.specs.Tables.{over}
+use Rattle.kbm.proofs.Table.{length-numbers}
+use Rattle.kbm.specs.Table.{unmapped, numberOf, numbersOf}
+use Rattle.kbm.specs.declared.Entry.{Entry}
+use Rattle.kbm.specs.declared.Entry.the-variants.{Unmapped}
+use Rattle.text.specs.Reading.{Meaning, invalid, dropped, content}
+use Rattle.kbm_read.specs.Reader.{entryIn, foundEntry, withFound, foundIn, givenFrom, unmappedOnes, padded}
+use Rattle.kbm_read.specs.declared.EntryRead.{EntryRead}
+use Rattle.kbm_read.specs.declared.EntryRead.the-variants as entry
+use Rattle.kbm_read.specs.declared.Found.{Found}
+use Rattle.kbm_read.specs.declared.Found.the-variants as found
+
+-- ONE ENTRY MORE, after those that are written
+pub over-snoc : {A : Type 0} (d xs : List A) (y : A) → length xs < length d → set (over d xs) (length xs) y ≡ over d (xs ++ y ∷ [])
+over-snoc [] xs y h = absurd (omega arith)
+over-snoc (x ∷ d) [] y h = refl
+over-snoc (x ∷ d) (a ∷ xs) y h = ap (λ l. a ∷ l) (over-snoc d xs y (omega arith))
+
+pub numbers-append : (es fs : List Entry) → numbersOf (es ++ fs) ≡ numbersOf es ++ numbersOf fs
+unfolding numbersOf
+numbers-append [] fs = refl
+numbers-append (e ∷ es) fs = ap (λ l. numberOf e ∷ l) (numbers-append es fs)
+
+numbers-one : (e : Entry) → numbersOf (e ∷ []) ≡ numberOf e ∷ []
+unfolding numbersOf
+numbers-one e = refl
+
+-- a required line is one of some
+pub required-some : (n : ℕ) (m : Meaning) → found.Required ≡ foundIn n m → 0 < n
+required-some n invalid e = let z : _≡_ {A = ℕ} 0 1 = cc in absurd (omega arith)
+required-some n dropped e = let z : _≡_ {A = ℕ} 0 1 = cc in absurd (omega arith)
+required-some n (content m t) e = go (ltb 0 n) refl (entryIn t) e
+  where
+    go : (b : Bool) → ltb 0 n ≡ b → (r : EntryRead) → found.Required ≡ pick b found.Required (foundEntry r) → 0 < n
+    go true p r q = ltb-true 0 n p
+    go false p (entry.Is x) q = let z : _≡_ {A = ℕ} 0 1 = cc in absurd (omega arith)
+    go false p entry.IsNot q = let z : _≡_ {A = ℕ} 0 1 = cc in absurd (omega arith)
+
+-- THE SECOND PASS ON LISTS: of what the lines say, ms, `rest` is left, with `left` required lines in it; the entries `done`, n of
+-- them, stand in the table, which was `old`
+pub record Filled (ms : List Meaning) (old : List ℤ) (left : ℕ) (rest : List Meaning) (map : List ℤ) (n : ℕ) : Type 0 where
+  pub done : List Entry
+  pub whole : givenFrom 7 ms ≡ done ++ givenFrom left rest
+  pub count : n ≡ length done
+  pub table : map ≡ over old (numbersOf done)
+
+module _ (ms : List Meaning) (old : List ℤ) where
+  pub filled-none : Filled ms old 7 ms old 0
+  unfolding numbersOf
+  filled-none = record { done = []; whole = refl; count = refl; table = refl }
+
+  module _ {left : ℕ} {rest : List Meaning} {map : List ℤ} {n : ℕ} (f : Filled ms old left rest map n) where
+    pub filled-end : rest ≡ [] → (n ≡ length (givenFrom 7 ms)) × (map ≡ over old (numbersOf (givenFrom 7 ms)))
+    unfolding givenFrom
+    filled-end q =
+        let e : givenFrom 7 ms ≡ f .done = f .whole ∙ rw q (append-nil (f .done)) in
+        (rw e (f .count), rw e (f .table))
+
+    module _ {m : Meaning} {rest′ : List Meaning} (q : rest ≡ m ∷ rest′) {x : Found} (p : x ≡ foundIn left m) where
+      left-turn : {y : Found} → x ≡ y → givenFrom 7 ms ≡ f .done ++ withFound y left (λ n′. givenFrom n′ rest′)
+      unfolding givenFrom
+      left-turn g = f .whole ∙ rw (q, ← p, g)
+
+      pub filled-nothing : x ≡ found.Nothing → Filled ms old left rest′ map n
+      filled-nothing g = record { done = f .done; whole = left-turn g; count = f .count; table = f .table }
+
+      pub filled-required : x ≡ found.Required → Filled ms old (left - 1) rest′ map n
+      filled-required g = record { done = f .done; whole = left-turn g; count = f .count; table = f .table }
+
+      module _ {e : Entry} (g : x ≡ found.Is e) (fits : length (givenFrom 7 ms) ≤ length old) where
+        pub filled-place : n < length old
+        filled-place = omega (arith, f .count, ap length (left-turn g), length-append (f .done) (e ∷ givenFrom left rest′))
+
+        pub filled-entry : Filled ms old left rest′ (set map n (numberOf e)) (n + 1)
+        filled-entry =
+            let xs = numbersOf (f .done) in
+            let i : n ≡ length xs = f .count ∙ sym (length-numbers (f .done)) in
+            let place = filled-place in
+            let t : set map n (numberOf e) ≡ over old (xs ++ numberOf e ∷ []) = rw (f .table, i) (over-snoc old xs (numberOf e) (omega arith)) in
+            record {
+              done = f .done ++ e ∷ [];
+              whole = left-turn g ∙ sym (append-assoc (f .done) (e ∷ []) (givenFrom left rest′));
+              count = omega (arith, f .count, length-append (f .done) (e ∷ []));
+              table = t ∙ ap (over old) (sym (numbers-append (f .done) (e ∷ []) ∙ ap (λ l. xs ++ l) (numbers-one e)));
+            }
+
+-- THE PADDING
+pub pad-end : (to i : ℕ) (map : List ℤ) → to ≤ i → padded (to - i) i map ≡ map
+unfolding padded
+pad-end to i map h = let e : to - i ≡ 0 = omega arith in rw e
+
+pub pad-step : (to i : ℕ) (map : List ℤ) → i < to → padded (to - i) i map ≡ padded (to - (i + 1)) (i + 1) (set map i unmapped)
+unfolding padded
+pad-step to i map h = let e : to - i ≡ suc (to - (i + 1)) = omega arith in rw e
+
+-- unmapped entries after those that are written
+pub pad-over : (d xs : List ℤ) (c : ℕ) → length xs + c ≤ length d → padded c (length xs) (over d xs) ≡ over d (xs ++ numbersOf (unmappedOnes c))
+unfolding padded unmappedOnes numbersOf
+pad-over d xs zero h = rw (append-nil xs)
+pad-over d xs (suc c) h =
+    let ys = xs ++ unmapped ∷ [] in
+    let l : length xs + 1 ≡ length ys = omega (arith, length-append xs (unmapped ∷ [])) in
+    let s : set (over d xs) (length xs) unmapped ≡ over d ys = over-snoc d xs unmapped (omega arith) in
+    rw (s, l) (pad-over d ys c (omega arith)) ∙ ap (over d) (append-assoc xs (unmapped ∷ []) (numbersOf (unmappedOnes c)))

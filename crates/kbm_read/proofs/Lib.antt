@@ -1,0 +1,4 @@
+pub mod Takes
+pub mod Walks
+pub mod Fills
+pub mod Leaves

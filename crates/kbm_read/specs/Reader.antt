@@ -1,0 +1,227 @@
+-- Document 01, "Mapping": what the reader computes, by what the lines of the text say. `Language` says what a mapping file is,
+-- `proofs/Language` that the two agree. Assumes nothing.
+use mathlib.Core.Bool.{Bool, true, false}
+use mathlib.Core.List.{List, [], _∷_, _++_}
+use Prim.Native.Nat.{ℕ, zero, suc, _+_, _-_, _^_}
+use lib.Dec.{leb, ltb, eqb}
+use lib.Ieee.{Float, binary64, ofBits}
+use lib.IntN.{ℤ, pos, natAbs, _+ℤ_, _-ℤ_}
+use lib.ListN.{length, set}
+use lib.Signed.{leZ}
+use Rattle.base.specs.Numbers.{not-utf8, line-missing, int-value, float-value, keyboard-mapping, unsupported-numeral, unusable, overflow, no-room, too-large, inconsistent-count}
+use Rattle.base.specs.Said.{Said, gives, refuses, refusal, pick, andThen}
+use Rattle.floats.specs.Ranges.{inPitch}
+use Rattle.kbm.specs.Table.{unmapped}
+use Rattle.kbm.specs.declared.Entry.{Entry}
+use Rattle.kbm.specs.declared.Entry.the-variants.{Mapped, Unmapped}
+use Rattle.kbm.specs.declared.Kbm.{Kbm}
+use Rattle.key.specs.Keys.{key}
+use Rattle.numeral.specs.DecimalAnswers.{saysDecimal}
+use Rattle.numeral.specs.DecimalScan.{readDecimal}
+use Rattle.numeral.specs.Integer.{Int, value, none, readInt}
+use Rattle.numeral.specs.declared.decimal.DecimalAnswer.{DecimalAnswer}
+use Rattle.numeral.specs.declared.decimal.DecimalAnswer.the-variants as decimal
+use Rattle.text.specs.Cut.{lines}
+use Rattle.text.specs.ReadLine.{meanings, strictly}
+use Rattle.text.specs.Reading.{Meaning, invalid, dropped, content}
+use Rattle.kbm_read.specs.declared.Due.{Due}
+use Rattle.kbm_read.specs.declared.Due.the-variants as due
+use Rattle.kbm_read.specs.declared.EntryRead.{EntryRead}
+use Rattle.kbm_read.specs.declared.EntryRead.the-variants as entry
+use Rattle.kbm_read.specs.declared.Found.{Found}
+use Rattle.kbm_read.specs.declared.Found.the-variants as found
+use Rattle.kbm_read.specs.declared.Head.{Head}
+use Rattle.kbm_read.specs.declared.State.{State}
+use Rattle.kbm_read.specs.declared.Step.{Step}
+use Rattle.kbm_read.specs.declared.Step.the-variants as step
+
+-- what a step says
+abbrev pub saysStep : Step → Said State
+saysStep (step.Is s) = gives s
+saysStep (step.Refused r) = refusal r
+
+-- an integer, or 3 at its line
+abbrev pub intAt : ℕ → Int → Said ℤ
+intAt k (value z) = gives z
+intAt k none = refuses int-value k
+
+-- the next line that is due, with what was said so far
+abbrev pub goesOn : Due → Head → Said State
+goesOn d h = gives (record { due = d; head = h; count = 0 })
+
+-- what each required line, number k with token t, adds to what was said
+abbrev pub takeSize : ℕ → List ℕ → Head → Said State
+takeSize k t h =
+    andThen (intAt k (readInt false (2 ^ 16) t)) (λ z. goesOn due.FirstKey
+    (record { size = natAbs z; first = h .first; end = h .end; middle = h .middle; reference = h .reference; hz = h .hz; octave = h .octave }))
+
+abbrev pub takeFirst : ℕ → List ℕ → Head → Said State
+takeFirst k t h =
+    andThen (intAt k (readInt true (2 ^ 31) t)) (λ z. goesOn due.LastKey
+    (record { size = h .size; first = z; end = h .end; middle = h .middle; reference = h .reference; hz = h .hz; octave = h .octave }))
+
+-- the last key: 11 for the largest
+abbrev pub takeLast : ℕ → List ℕ → Head → Said State
+takeLast k t h =
+    andThen (intAt k (readInt true (2 ^ 31) t)) (λ z. pick (leZ (pos 2147483647) z) (refuses overflow k) (goesOn due.MiddleKey
+    (record { size = h .size; first = h .first; end = z +ℤ pos 1; middle = h .middle; reference = h .reference; hz = h .hz; octave = h .octave })))
+
+abbrev pub takeMiddle : ℕ → List ℕ → Head → Said State
+takeMiddle k t h =
+    andThen (intAt k (readInt true (2 ^ 15) t)) (λ z. goesOn due.ReferenceKey
+    (record { size = h .size; first = h .first; end = h .end; middle = z; reference = h .reference; hz = h .hz; octave = h .octave }))
+
+abbrev pub takeReference : ℕ → List ℕ → Head → Said State
+takeReference k t h =
+    andThen (intAt k (readInt true (2 ^ 15) t)) (λ z. goesOn due.ReferencePitch
+    (record { size = h .size; first = h .first; end = h .end; middle = h .middle; reference = z; hz = h .hz; octave = h .octave }))
+
+-- why a decimal is refused
+abbrev pub decimalRefused : ℕ → DecimalAnswer → Said State
+decimalRefused k (decimal.Is v) = refuses float-value k
+decimalRefused k decimal.Unsupported = refuses unsupported-numeral k
+decimalRefused k decimal.Bad = refuses float-value k
+
+-- the reference pitch: 7, 9, and 10 outside 2^-10..2^20
+abbrev pub pitchSaid : ℕ → Head → DecimalAnswer → Said State
+pitchSaid k h x =
+    andThen (saysDecimal float-value k x) (λ v. pick (inPitch v) (goesOn due.Octave
+    (record { size = h .size; first = h .first; end = h .end; middle = h .middle; reference = h .reference; hz = v; octave = h .octave }))
+    (refuses unusable k))
+
+abbrev pub takePitch : ℕ → List ℕ → Head → Said State
+takePitch k t h = pitchSaid k h (readDecimal t)
+
+abbrev pub takeOctave : ℕ → List ℕ → Head → Said State
+takeOctave k t h =
+    andThen (intAt k (readInt true (2 ^ 15) t)) (λ z. goesOn due.Entries
+    (record { size = h .size; first = h .first; end = h .end; middle = h .middle; reference = h .reference; hz = h .hz; octave = z }))
+
+-- t is `x` (120) or `X` (88)
+abbrev pub isCross : List ℕ → Bool
+isCross [] = false
+isCross (b ∷ []) = pick (eqb b 120) true (eqb b 88)
+isCross (b ∷ c ∷ t) = false
+
+-- a degree, where the token is one
+abbrev pub degreeIn : Int → EntryRead
+degreeIn (value z) = entry.Is (Mapped z)
+degreeIn none = entry.IsNot
+
+-- the entry that a token is
+unfoldable pub entryIn : List ℕ → EntryRead
+entryIn t = pick (isCross t) (entry.Is Unmapped) (degreeIn (readInt true (2 ^ 15) t))
+
+-- an entry takes a place: 8, and 12 where there is none
+abbrev pub placed : ℕ → ℕ → State → EntryRead → Said State
+placed room k s (entry.Is e) = pick (leb room (s .count)) (refuses no-room k) (gives (record { due = due.Entries; head = s .head; count = s .count + 1 }))
+placed room k s entry.IsNot = refuses keyboard-mapping k
+
+abbrev pub takeEntry : ℕ → ℕ → List ℕ → State → Said State
+takeEntry room k t s = placed room k s (entryIn t)
+
+-- the token of the line that is due
+abbrev pub takeDue : ℕ → ℕ → List ℕ → State → Due → Said State
+takeDue room k t s due.Size = takeSize k t (s .head)
+takeDue room k t s due.FirstKey = takeFirst k t (s .head)
+takeDue room k t s due.LastKey = takeLast k t (s .head)
+takeDue room k t s due.MiddleKey = takeMiddle k t (s .head)
+takeDue room k t s due.ReferenceKey = takeReference k t (s .head)
+takeDue room k t s due.ReferencePitch = takePitch k t (s .head)
+takeDue room k t s due.Octave = takeOctave k t (s .head)
+takeDue room k t s due.Entries = takeEntry room k t s
+
+unfoldable pub takeToken : ℕ → ℕ → List ℕ → State → Said State
+takeToken room k t s = takeDue room k t s (s .due)
+
+-- what line k says
+abbrev pub takeMeaning : ℕ → ℕ → Meaning → State → Said State
+takeMeaning room k invalid s = refuses not-utf8 k
+takeMeaning room k dropped s = gives s
+takeMeaning room k (content m t) s = takeToken room k t s
+
+-- which required line is missing, counted from 1; 0 for none
+abbrev pub whichOf : Due → ℕ
+whichOf due.Size = 1
+whichOf due.FirstKey = 2
+whichOf due.LastKey = 3
+whichOf due.MiddleKey = 4
+whichOf due.ReferenceKey = 5
+whichOf due.ReferencePitch = 6
+whichOf due.Octave = 7
+whichOf due.Entries = 0
+
+-- the mapping of the required lines
+abbrev pub mappingOf : Head → Kbm
+mappingOf h =
+    record {
+      root = record { reference = key (h .reference); pitch = record { 0 = h .hz }; offset = h .middle -ℤ h .reference };
+      start = key (h .first);
+      end = key (h .end);
+      octave = h .octave;
+      count = h .size;
+    }
+
+-- after the last line: 2; 12 where the added entries have no place; 13; 14
+unfoldable pub finished : ℕ → State → Said Kbm
+finished room s =
+    pick (ltb 0 (whichOf (s .due))) (refuses line-missing (whichOf (s .due)))
+    (pick (ltb room (s .head .size)) (refuses no-room 0)
+    (pick (ltb 65535 (s .count)) (refuses too-large 0)
+    (pick (ltb (s .head .size) (s .count)) (refuses inconsistent-count 0)
+    (gives (mappingOf (s .head))))))
+
+-- before the first line
+abbrev pub start : State
+start = record { due = due.Size; head = record { size = 0; first = pos 0; end = pos 0; middle = pos 0; reference = pos 0; hz = ofBits binary64 0; octave = pos 0 }; count = 0 }
+
+-- the lines from number k on, after what was said
+unfoldable pub walk : ℕ → ℕ → State → List Meaning → Said Kbm
+walk room k s [] = finished room s
+walk room k s (m ∷ ms) = andThen (takeMeaning room k m s) (λ s′. walk room (k + 1) s′ ms)
+
+-- what the lines of a text say
+abbrev pub saidIn : List ℕ → List Meaning
+saidIn text = meanings strictly (lines text)
+
+-- THE READER: the mapping that a text is, where the table has so many places; or a refusal
+abbrev pub readOf : ℕ → List ℕ → Said Kbm
+readOf room text = walk room 1 start (saidIn text)
+
+-- an entry, where the token is one
+abbrev pub foundEntry : EntryRead → Found
+foundEntry (entry.Is e) = found.Is e
+foundEntry entry.IsNot = found.Nothing
+
+-- what a line gives the table, where n required lines are still to come
+abbrev pub foundIn : ℕ → Meaning → Found
+foundIn n invalid = found.Nothing
+foundIn n dropped = found.Nothing
+foundIn n (content m t) = pick (ltb 0 n) found.Required (foundEntry (entryIn t))
+
+abbrev pub withFound : Found → ℕ → (ℕ → List Entry) → List Entry
+withFound (found.Is e) n go = e ∷ go n
+withFound found.Required n go = go (n - 1)
+withFound found.Nothing n go = go n
+
+-- the entries that lines give, after n required ones
+unfoldable pub givenFrom : ℕ → List Meaning → List Entry
+givenFrom n [] = []
+givenFrom n (m ∷ ms) = withFound (foundIn n m) n (λ n′. givenFrom n′ ms)
+
+abbrev pub givenIn : List ℕ → List Entry
+givenIn text = givenFrom 7 (saidIn text)
+
+-- so many unmapped entries
+unfoldable pub unmappedOnes : ℕ → List Entry
+unmappedOnes zero = []
+unmappedOnes (suc n) = Unmapped ∷ unmappedOnes n
+
+-- the entries of a mapping of that size: missing ones are added as unmapped
+abbrev pub entriesIn : ℕ → List ℕ → List Entry
+entriesIn size text = givenIn text ++ unmappedOnes (size - length (givenIn text))
+
+-- the table with so many unmapped entries from place i on
+unfoldable pub padded : ℕ → ℕ → List ℤ → List ℤ
+padded zero i map = map
+padded (suc n) i map = padded n (i + 1) (set map i unmapped)
