@@ -1,20 +1,26 @@
 -- The line of a refusal: its parts, its length, and where it stands. Assumes nothing.
 use mathlib.Core.Path.{_≡_, refl, sym, ap, _∙_}
+use mathlib.Core.Bool.{Bool, true, false}
 use mathlib.Core.List.{List, [], _∷_, _++_}
 use Prim.Native.Nat.{ℕ, _+_, _≤_, _<_}
 use native.Mathlib.Nat.{zero-add}
 use native.Mathlib.Omega.{arith}
-use lib.IntN.{pos}
+use lib.Dec.{ltb}
+use lib.IntN.{ℤ, pos}
+use borrow.Author.Tests.{ltb-false}
 use lib.ListN.{length, drop, length-append}
 use lib.Seq.{sets, sets-eq}
-use Rattle.base.specs.Said.{Said, gives, refuses, refusal}
+use Rattle.base.specs.Numbers.{no-room}
+use Rattle.base.specs.Said.{Said, gives, refuses, refusal, pick, andThen}
 use Rattle.base.specs.Tables.{over, after}
 use Rattle.base.specs.declared.Refusal.{Refusal}
-use Rattle.kbm_write.specs.Export.{sizeOf}
+use Rattle.kbm_read.specs.Reader.{readOf}
+use Rattle.kbm_write.specs.Export.{exportOf, sizeOf}
 use Rattle.kbm_write.proofs.Lines.{whole-short}
+use Rattle.kbm_write.proofs.Room.{Fitting, pick-fitting, then-fitting, export-fitting}
 use Rattle.numeral.specs.PrintText.{wholeText}
 use Rattle.numeral.proofs.PrintTexts.{sets-append}
-use Rattle.kbm_copy.specs.Copy.{capped, wordText, numberText, refusedText, printedOf}
+use Rattle.kbm_copy.specs.Copy.{capped, wordText, numberText, refusedText, tableAfter, copyOf, printedOf, printedIn}
 
 -- a text written from the first byte on
 pub sets-over : (l t : List ℕ) → length t ≤ length l → sets l 0 t ≡ over l t
@@ -49,3 +55,30 @@ module _ (l : List ℕ) {m : List ℕ} where
       let a : number ≡ r .number = cc in
       let b : detail ≡ r .detail = cc in
       (rw (a, b), f)
+
+-- what is printed has room
+refused-short : (number detail : ℕ) → length (refusedText number detail) ≤ 72
+refused-short number detail = omega (arith, refused-length number detail, number-short number 32, number-short (capped detail) 10)
+
+pub printed-short : (text : List ℕ) (map : List ℤ) (room : ℕ) → length (printedIn text map room) ≤ room
+unfolding printedIn copyOf
+printed-short text map room = go (ltb room 72) refl
+  where
+    fits : Fitting room (copyOf text map room)
+    fits =
+        pick-fitting room (ltb 65536 (length text)) (refuses no-room 0) (andThen (readOf (length map) text) (λ kbm. exportOf kbm (tableAfter text map (kbm .count)) room)) tt
+        (then-fitting room (readOf (length map) text) (λ kbm. exportOf kbm (tableAfter text map (kbm .count)) room) (λ kbm. export-fitting kbm (tableAfter text map (kbm .count)) room))
+
+    short : (s : Said (List ℕ)) → Fitting room s → 72 ≤ room → length (printedOf s) ≤ room
+    short (gives t) f h = f
+    short (refuses number detail) f h = omega (arith, refused-short number detail, h)
+
+    go : (b : Bool) → ltb room 72 ≡ b → length (pick b [] (printedOf (copyOf text map room))) ≤ room
+    go true e = omega arith
+    go false e = short (copyOf text map room) fits (omega (arith, ltb-false room 72 e))
+
+-- so whoever prints it is told that its length is within the lent bytes
+pub bounded : (text : List ℕ) (map : List ℤ) (out : List ℕ) {r : ℕ} {m : List ℕ}
+    → (r ≡ length (printedIn text map (length out))) × (m ≡ over out (printedIn text map (length out)))
+    → ((r ≡ length (printedIn text map (length out))) × (r ≤ length out)) × (m ≡ over out (printedIn text map (length out)))
+bounded text map out h = ((h .0, rw (h .0) (printed-short text map (length out))), h .1)

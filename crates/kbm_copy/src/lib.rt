@@ -91,7 +91,7 @@ fn write_refusal(number: u32, detail: usize, out: &mut [u8]) -> usize
 
 // What is printed for a text, from the first byte of `out` on, and how many bytes it takes; nothing where fewer than 72 are lent.
 pub fn print_copy(text: &[u8], map: &mut [i32], out: &mut [u8]) -> usize
-    ensures { λ r. ⌜ r ≡ length (printedIn (now (text .entry)) (now (map .entry)) (length (now (out .entry)))) ⌝ }
+    ensures { λ r. ⌜ (r ≡ length (printedIn (now (text .entry)) (now (map .entry)) (length (now (out .entry))))) × (r ≤ length (now (out .entry))) ⌝ }
     ensures { λ r. ⌜ now (out .exit) ≡ over (now (out .entry)) (printedIn (now (text .entry)) (now (map .entry)) (length (now (out .entry)))) ⌝ }
 {
     if out.len() < 72 {

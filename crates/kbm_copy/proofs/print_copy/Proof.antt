@@ -6,14 +6,16 @@ use lib.ListN.{length}
 use borrow.Author.Tests.{lt-ltb, le-ltb}
 use Rattle.kbm_write.specs.Answers.{saysSize}
 use Rattle.kbm_copy.specs.Copy.{copyOf, printedIn}
-use Rattle.kbm_copy.proofs.Texts.{copied-text, copied-not}
+use Rattle.kbm_copy.proofs.Texts.{copied-text, copied-not, bounded}
 use borrow.Author.Needs.{needs}
 use Rattle.kbm_copy.proofs.print_copy.Statement.{statement}
 use Rattle.kbm_copy.proofs.print_copy.Tie as tie
 
 returns : tie.Need-returns
 unfolding printedIn
-returns c = rw (lt-ltb (length (now (c .before .before .before .args .out))) 72 (c .if1 .taken)) (refl, refl)
+returns c =
+    let s = c .before .before .before in
+    bounded (now (s .args .text)) (now (s .args .map)) (now (s .args .out)) (rw (lt-ltb (length (now (s .args .out))) 72 (c .if1 .taken)) (refl, refl))
 
 copy-requires : tie.Need-copy-requires
 copy-requires c κs = search needs
@@ -38,8 +40,8 @@ unfolding printedIn
 returns-2 c =
     let y = c .before .before .before .before .before .before in
     let s = c .before .before .before .before .before .before .before .before .before .before .before .before in
-    rw (le-ltb (length (now (s .args .out))) 72 (c .before .before .before .before .before .before .before .before .before .if1 .left))
-    (copied-text (now (s .args .out)) (copyOf (now (s .args .text)) (now (s .args .map)) (length (now (s .args .out)))) (ap saysSize (sym (c .before .n .given .1)) ∙ y .copy .ensures .0) (y .copy .ensures .1))
+    bounded (now (s .args .text)) (now (s .args .map)) (now (s .args .out)) (rw (le-ltb (length (now (s .args .out))) 72 (c .before .before .before .before .before .before .before .before .before .if1 .left))
+    (copied-text (now (s .args .out)) (copyOf (now (s .args .text)) (now (s .args .map)) (length (now (s .args .out)))) (ap saysSize (sym (c .before .n .given .1)) ∙ y .copy .ensures .0) (y .copy .ensures .1)))
 
 same-length-3 : tie.Need-same-length-3
 same-length-3 c = search needs
@@ -53,7 +55,7 @@ returns-3 c =
     let y = c .before .before .before .before .before .before .before .before .before .before in
     let s = c .before .before .before .before .before .before .before .before .before .before .before .before .before .before .before .before in
     let h = copied-not (now (s .args .out)) (copyOf (now (s .args .text)) (now (s .args .map)) (length (now (s .args .out)))) (ap saysSize (sym (c .before .before .before .before .before .refusal .given .1)) ∙ y .copy .ensures .0) (y .copy .ensures .1) in
-    rw (le-ltb (length (now (s .args .out))) 72 (c .before .before .before .before .before .before .before .before .before .before .before .before .before .if1 .left), h .0) (rw (h .1) at (c .before .before .write-refusal .ensures))
+    bounded (now (s .args .text)) (now (s .args .map)) (now (s .args .out)) (rw (le-ltb (length (now (s .args .out))) 72 (c .before .before .before .before .before .before .before .before .before .before .before .before .before .if1 .left), h .0) (rw (h .1) at (c .before .before .write-refusal .ensures)))
 
 pub print-copy-spec : {M : Type 1} → statement M
 print-copy-spec =

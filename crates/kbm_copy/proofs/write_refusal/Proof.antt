@@ -42,8 +42,8 @@ returns c =
     let h = refused-length (s .args .number) (s .args .detail) in (
       omega (arith, h, w .write-word .ensures .0, n .write-number .ensures .0, e .0),
       refused-written (s .args .number) (s .args .detail) l (w .write-word .last .0) (n .write-number .last .1 .1 .0) (d .write-number2 .last .1 .1 .0) (w .write-word .result) (n .write-number .result)
-      (w .write-word .ensures .1) (w .write-word .ensures .0) (n .write-number .ensures .1) (n .write-number .ensures .0) (e .1)
-      ∙ sets-over l (refusedText (s .args .number) (s .args .detail)) (omega (arith, h, number-short (s .args .number) 32, number-short (capped (s .args .detail)) 10, s .pre)),
+          (w .write-word .ensures .1) (w .write-word .ensures .0) (n .write-number .ensures .1) (n .write-number .ensures .0) (e .1)
+          ∙ sets-over l (refusedText (s .args .number) (s .args .detail)) (omega (arith, h, number-short (s .args .number) 32, number-short (capped (s .args .detail)) 10, s .pre)),
     )
 
 pub write-refusal-spec : {M : Type 1} → statement M
