@@ -29,10 +29,10 @@ use Rattle.kbm_write.specs.Export.{line, linesText, entryText}
 pub length-line : (t : List ℕ) → length (line t) ≡ length t + 1
 length-line t = length-append t (10 ∷ [])
 
--- a text is written at a place with room for its line
-module _ (l : List ℕ) (at : ℕ) (t : List ℕ) {p : Placed} (told : p ≡ placed l at t) (h : at + length (line t) ≤ length l) where
+-- a text is written at a place with room for it and for the byte that ends it
+module _ (l : List ℕ) (at : ℕ) (t : List ℕ) (b : ℕ) {p : Placed} (told : p ≡ placed l at t) (h : at + length (t ++ (b ∷ [])) ≤ length l) where
   roomy : room l at t ≡ true
-  roomy = le-leb (at + length t) (length l) (omega (arith, length-line t, h))
+  roomy = le-leb (at + length t) (length l) (omega (arith, length-append t (b ∷ []), h))
 
   -- so there was room
   pub not-full : p ≡ Full → ⊥
@@ -47,8 +47,8 @@ module _ (l : List ℕ) (at : ℕ) (t : List ℕ) {p : Placed} (told : p ≡ pla
       let q : At (at + length t) ≡ At next = rw roomy at (sym told ∙ e) in
       cc
 
-  pub line-end : {next : ℕ} → p ≡ At next → next + 1 ≡ at + length (line t)
-  line-end e = omega (arith, reached e, length-line t)
+  pub line-end : {next : ℕ} → p ≡ At next → next + 1 ≡ at + length (t ++ (b ∷ []))
+  line-end e = omega (arith, reached e, length-append t (b ∷ []))
 
   module _ {m : List ℕ} (w : m ≡ written l at t) where
     text-written : m ≡ sets l at t
@@ -57,13 +57,13 @@ module _ (l : List ℕ) (at : ℕ) (t : List ℕ) {p : Placed} (told : p ≡ pla
     pub length-kept : length m ≡ length l
     length-kept = rw text-written (length-sets l at t)
 
-    -- LF has its place there
+    -- the last byte has its place there
     pub line-fits : {next : ℕ} → p ≡ At next → next < length m
-    line-fits e = omega (arith, length-kept, reached e, length-line t, h)
+    line-fits e = omega (arith, length-kept, reached e, length-append t (b ∷ []), h)
 
     -- and with it the line is written
-    pub line-written : {next : ℕ} → p ≡ At next → set m next 10 ≡ sets l at (line t)
-    line-written {next} e = rw text-written (sets-append l at next t (10 ∷ []) (reached e))
+    pub line-written : {next : ℕ} → p ≡ At next → set m next b ≡ sets l at (t ++ (b ∷ []))
+    line-written {next} e = rw text-written (sets-append l at next t (b ∷ []) (reached e))
 
 -- a usable pitch is one that is printed
 pub pitch-limited : (x : Float) → inPitch x ≡ true → T (limited x)

@@ -1,6 +1,6 @@
 -- The whole text: how its four runs of lines make it, and what is answered by its room. Assumes nothing.
 use mathlib.Core.Path.{_≡_, refl, sym, ap, _∙_}
-use mathlib.Core.Bool.{Bool, true, false}
+use mathlib.Core.Bool.{Bool, true, false, _&&_}
 use mathlib.Core.List.{List, [], _∷_, _++_, append-assoc}
 use Prim.Native.Nat.{ℕ, _+_, _≤_, _<_}
 use native.Mathlib.Nat.{zero-add}
@@ -9,14 +9,16 @@ use lib.Dec.{leb, leb→le}
 use lib.IntN.{ℤ}
 use lib.ListN.{length, take, drop, length-append}
 use lib.Seq.{sets, sets-eq}
-use borrow.Author.Tests.{le-leb, lt-leb}
+use borrow.Author.Tests.{le-leb, lt-leb, leb-true}
 use Rattle.base.specs.Integers.{inI32, held}
-use Rattle.base.specs.Numbers.{overflow, no-room}
-use Rattle.base.specs.Said.{Said, gives, refuses, pick}
+use Rattle.base.specs.Numbers.{unusable, overflow, no-room}
+use Rattle.base.specs.Said.{Said, gives, refuses, pick, andThen}
 use Rattle.base.specs.Tables.{after}
 use Rattle.floats.proofs.Ranges.{and-true}
-use Rattle.kbm.specs.Table.{isTable, areEntries}
-use Rattle.kbm_write.specs.Export.{line, linesText, fitted, sizeOf}
+use Rattle.floats.specs.Ranges.{inPitch}
+use Rattle.kbm.specs.Table.{isTable, areEntries, tableOf}
+use Rattle.kbm.specs.declared.Kbm.{Kbm}
+use Rattle.kbm_write.specs.Export.{line, linesText, lastOf, middleOf, exportText, fitted, heldText, exportOf, sizeOf}
 use Rattle.kbm_write.proofs.Lines.{lines-append}
 
 -- keys, pitch, formal octave, entries
@@ -54,3 +56,32 @@ held-is d {z} e = go (inI32 d) e
 -- a usable table has its count of places
 pub table-fits : (count : ℕ) (map : List ℤ) → isTable count map ≡ true → count ≤ length map
 table-fits count map h = leb→le count (length map) (and-true (leb count (length map)) (areEntries (take count map)) h .0)
+
+-- a text that is given has room
+abbrev pub Fitting : ℕ → Said (List ℕ) → Type 0
+Fitting room (gives t) = length t ≤ room
+Fitting room (refuses number detail) = Unit {0}
+
+pub pick-fitting : (room : ℕ) (b : Bool) (x y : Said (List ℕ)) → Fitting room x → Fitting room y → Fitting room (pick b x y)
+pick-fitting room true x y f g = f
+pick-fitting room false x y f g = g
+
+pub then-fitting : {A : Type 0} (room : ℕ) (s : Said A) (f : A → Said (List ℕ)) → ((a : A) → Fitting room (f a)) → Fitting room (andThen s f)
+then-fitting room (gives a) f h = h a
+then-fitting room (refuses number detail) f h = tt
+
+fitted-fitting : (room : ℕ) (t : List ℕ) → Fitting room (fitted room t)
+unfolding fitted
+fitted-fitting room t = go (leb (length t) room) refl
+  where
+    go : (b : Bool) → leb (length t) room ≡ b → Fitting room (pick b (gives t) (refuses no-room 0))
+    go true e = leb-true (length t) room e
+    go false e = tt
+
+pub export-fitting : (kbm : Kbm) (map : List ℤ) (room : ℕ) → Fitting room (exportOf kbm map room)
+unfolding exportOf
+export-fitting kbm map room =
+    let t = exportText kbm (tableOf (kbm .count) map) in
+    pick-fitting room (isTable (kbm .count) map && inPitch (kbm .root .pitch .0)) (heldText kbm (tableOf (kbm .count) map) room) (refuses unusable 0)
+    (then-fitting room (held (lastOf kbm)) (λ last. andThen (held (middleOf kbm)) (λ middle. fitted room t))
+    (λ last. then-fitting room (held (middleOf kbm)) (λ middle. fitted room t) (λ middle. fitted-fitting room t))) tt

@@ -1,0 +1,33 @@
+-- The numbers of a mapping are of their types, as those of every value in the program are: what a round trip starts from.
+-- Assumes nothing.
+use mathlib.Core.Path.{_≡_}
+use mathlib.Core.Bool.{true}
+use mathlib.Core.List.{List, [], _∷_}
+use Prim.Native.Nat.{ℕ, _≤_}
+use lib.ListN.{length}
+use Rattle.base.specs.Integers.{inI32}
+use Rattle.floats.specs.Ranges.{inPitch}
+use Rattle.kbm.specs.Table.{inI16}
+use Rattle.kbm.specs.declared.Entry.{Entry}
+use Rattle.kbm.specs.declared.Entry.the-variants.{Mapped, Unmapped}
+use Rattle.kbm.specs.declared.Kbm.{Kbm}
+use Rattle.kbm_write.specs.Export.{lastOf, middleOf}
+
+-- each degree is an i16
+abbrev pub Degrees : List Entry → Type 0
+Degrees [] = Unit {0}
+Degrees (Mapped degree ∷ es) = (inI16 degree ≡ true) × Degrees es
+Degrees (Unmapped ∷ es) = Degrees es
+
+-- keys and octave are of their types, the pitch is usable, last and middle key are keys, and the entries are as many as the count
+pub record Typed (kbm : Kbm) (es : List Entry) : Type 0 where
+  pub start : inI32 (kbm .start .0) ≡ true
+  pub end : inI32 (kbm .end .0) ≡ true
+  pub reference : inI32 (kbm .root .reference .0) ≡ true
+  pub pitch : inPitch (kbm .root .pitch .0) ≡ true
+  pub octave : inI16 (kbm .octave) ≡ true
+  pub size : kbm .count ≤ 65535
+  pub last : inI32 (lastOf kbm) ≡ true
+  pub middle : inI32 (middleOf kbm) ≡ true
+  pub degrees : Degrees es
+  pub counted : length es ≡ kbm .count
