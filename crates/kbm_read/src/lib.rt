@@ -22,6 +22,7 @@ use text::lines::next_line;
 ghost use mathlib.Core.Path.{_≡_};
 ghost use Prim.Native.Nat.{ℕ, _-_, _≤_};
 ghost use lib.ListN.{length};
+ghost use Rattle.base.specs.Said.{refuses};
 ghost use Rattle.base.specs.Tables.{over, after};
 ghost use Rattle.kbm.specs.Answers.{saysKbm};
 ghost use Rattle.kbm.specs.Table.{numberOf, numbersOf};
@@ -84,15 +85,22 @@ const LARGEST: i32 = 2147483647;
 // The most entries that a mapping can have.
 const MOST: usize = 65535;
 
+// The line is refused with this number.
+fn refused(number: u32, line: usize) -> Step
+    ensures { λ r. ⌜ saysStep r ≡ refuses number line ⌝ }
+{
+    Step::Refused(Refusal {
+        number,
+        detail: line,
+    })
+}
+
 // The size of the map, a u16; 3.
 fn take_size(token: &[u8], line: usize, mut head: Head) -> Step
     ensures { λ r. ⌜ saysStep r ≡ takeSize line (now (token .entry)) head ⌝ }
 {
     let U16::Is(size) = read_u16(token) else {
-        return Step::Refused(Refusal {
-            number: base::INT_VALUE,
-            detail: line,
-        });
+        return refused(base::INT_VALUE, line);
     };
     head.size = size;
     Step::Is(State {
@@ -107,10 +115,7 @@ fn take_first(token: &[u8], line: usize, mut head: Head) -> Step
     ensures { λ r. ⌜ saysStep r ≡ takeFirst line (now (token .entry)) head ⌝ }
 {
     let I32::Is(first) = read_i32(token) else {
-        return Step::Refused(Refusal {
-            number: base::INT_VALUE,
-            detail: line,
-        });
+        return refused(base::INT_VALUE, line);
     };
     head.first = first;
     Step::Is(State {
@@ -125,16 +130,10 @@ fn take_last(token: &[u8], line: usize, mut head: Head) -> Step
     ensures { λ r. ⌜ saysStep r ≡ takeLast line (now (token .entry)) head ⌝ }
 {
     let I32::Is(last) = read_i32(token) else {
-        return Step::Refused(Refusal {
-            number: base::INT_VALUE,
-            detail: line,
-        });
+        return refused(base::INT_VALUE, line);
     };
     if LARGEST <= last {
-        return Step::Refused(Refusal {
-            number: base::OVERFLOW,
-            detail: line,
-        });
+        return refused(base::OVERFLOW, line);
     }
     head.end = last + 1;
     Step::Is(State {
@@ -149,10 +148,7 @@ fn take_middle(token: &[u8], line: usize, mut head: Head) -> Step
     ensures { λ r. ⌜ saysStep r ≡ takeMiddle line (now (token .entry)) head ⌝ }
 {
     let I16::Is(middle) = read_i16(token) else {
-        return Step::Refused(Refusal {
-            number: base::INT_VALUE,
-            detail: line,
-        });
+        return refused(base::INT_VALUE, line);
     };
     head.middle = middle;
     Step::Is(State {
@@ -167,10 +163,7 @@ fn take_reference(token: &[u8], line: usize, mut head: Head) -> Step
     ensures { λ r. ⌜ saysStep r ≡ takeReference line (now (token .entry)) head ⌝ }
 {
     let I16::Is(reference) = read_i16(token) else {
-        return Step::Refused(Refusal {
-            number: base::INT_VALUE,
-            detail: line,
-        });
+        return refused(base::INT_VALUE, line);
     };
     head.reference = reference;
     Step::Is(State {
@@ -185,18 +178,9 @@ fn decimal_refused(answer: DecimalAnswer, line: usize) -> Step
     ensures { λ r. ⌜ saysStep r ≡ decimalRefused line answer ⌝ }
 {
     match answer {
-        DecimalAnswer::Unsupported => Step::Refused(Refusal {
-            number: base::UNSUPPORTED_NUMERAL,
-            detail: line,
-        }),
-        DecimalAnswer::Bad => Step::Refused(Refusal {
-            number: base::FLOAT_VALUE,
-            detail: line,
-        }),
-        DecimalAnswer::Is(_) => Step::Refused(Refusal {
-            number: base::FLOAT_VALUE,
-            detail: line,
-        }),
+        DecimalAnswer::Unsupported => refused(base::UNSUPPORTED_NUMERAL, line),
+        DecimalAnswer::Bad => refused(base::FLOAT_VALUE, line),
+        DecimalAnswer::Is(_) => refused(base::FLOAT_VALUE, line),
     }
 }
 
@@ -216,10 +200,7 @@ fn take_pitch(token: &[u8], line: usize, mut head: Head) -> Step
             count: 0,
         });
     }
-    Step::Refused(Refusal {
-        number: base::UNUSABLE,
-        detail: line,
-    })
+    refused(base::UNUSABLE, line)
 }
 
 // The formal octave, an i16; 3.
@@ -227,10 +208,7 @@ fn take_octave(token: &[u8], line: usize, mut head: Head) -> Step
     ensures { λ r. ⌜ saysStep r ≡ takeOctave line (now (token .entry)) head ⌝ }
 {
     let I16::Is(octave) = read_i16(token) else {
-        return Step::Refused(Refusal {
-            number: base::INT_VALUE,
-            detail: line,
-        });
+        return refused(base::INT_VALUE, line);
     };
     head.octave = octave;
     Step::Is(State {
@@ -263,17 +241,11 @@ fn take_entry(token: &[u8], line: usize, room: usize, state: State) -> Step
     ensures { λ r. ⌜ saysStep r ≡ takeEntry room line (now (token .entry)) state ⌝ }
 {
     let EntryRead::Is(_) = read_entry(token) else {
-        return Step::Refused(Refusal {
-            number: base::KEYBOARD_MAPPING,
-            detail: line,
-        });
+        return refused(base::KEYBOARD_MAPPING, line);
     };
     let count = state.count;
     if room <= count {
-        return Step::Refused(Refusal {
-            number: base::NO_ROOM,
-            detail: line,
-        });
+        return refused(base::NO_ROOM, line);
     }
     let head = state.head;
     Step::Is(State {
@@ -306,10 +278,7 @@ fn take_line(text: &[u8], says: LineSays, line: usize, room: usize, state: State
     ensures { λ r. ⌜ saysStep r ≡ takeMeaning room line (shown (now (text .entry)) says) state ⌝ }
 {
     match says {
-        LineSays::NotUtf8 => Step::Refused(Refusal {
-            number: base::NOT_UTF8,
-            detail: line,
-        }),
+        LineSays::NotUtf8 => refused(base::NOT_UTF8, line),
         LineSays::Dropped => Step::Is(state),
         LineSays::Content {
             start,

@@ -27,8 +27,11 @@ part-take-token-end c = token-within _ (c .before .before .before .before .pre) 
 take-token-requires : tie.Need-take-token-requires
 take-token-requires c κs = search needs
 
+refused-requires : tie.Need-refused-requires
+refused-requires c κs = search needs
+
 returns : tie.Need-returns
-returns c = meaning-step _ _ _ _ (c .enum-told .given .1)
+returns c = c .refused .ensures ∙ meaning-step _ _ _ _ (c .before .enum-told .given .1)
 
 returns-2 : tie.Need-returns-2
 returns-2 c = meaning-step _ _ _ _ (c .enum-told2 .given .1)
@@ -37,4 +40,4 @@ returns-3 : tie.Need-returns-3
 returns-3 c = c .take-token .ensures ∙ meaning-step _ _ _ _ (c .before .before .before .says .given .1)
 
 pub take-line-spec : {M : Type 1} → statement M
-take-line-spec = tie.close (tie.spec enum-told enum-told-2 enum-known-says sub-take-token part-take-token-start part-take-token-end take-token-requires returns returns-2 returns-3)
+take-line-spec = tie.close (tie.spec enum-told refused-requires enum-told-2 enum-known-says sub-take-token part-take-token-start part-take-token-end take-token-requires returns returns-2 returns-3)

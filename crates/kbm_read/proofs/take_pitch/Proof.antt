@@ -24,8 +24,11 @@ is-in-pitch-requires c κs = search needs
 returns-2 : tie.Need-returns-2
 returns-2 c = pitch-is _ _ (c .before .before .before .before .before .before .before .args .head) (c .before .before .before .before .before .read-decimal .ensures) (c .before .before .before .answer .given .1) (c .before .is-in-pitch .ensures) (c .if1 .taken)
 
+refused-requires : tie.Need-refused-requires
+refused-requires c κs = search needs
+
 returns-3 : tie.Need-returns-3
-returns-3 c = pitch-out _ _ (c .before .before .before .before .before .before .before .args .head) (c .before .before .before .before .before .read-decimal .ensures) (c .before .before .before .answer .given .1) (c .before .is-in-pitch .ensures) (c .if1 .left)
+returns-3 c = c .refused .ensures ∙ pitch-out _ _ (c .before .before .before .before .before .before .before .before .args .head) (c .before .before .before .before .before .before .read-decimal .ensures) (c .before .before .before .before .answer .given .1) (c .before .before .is-in-pitch .ensures) (c .before .if1 .left)
 
 pub take-pitch-spec : {M : Type 1} → statement M
-take-pitch-spec = tie.close (tie.spec read-decimal-requires enum-known-answer decimal-refused-requires returns is-in-pitch-requires returns-2 returns-3)
+take-pitch-spec = tie.close (tie.spec read-decimal-requires enum-known-answer decimal-refused-requires returns is-in-pitch-requires returns-2 refused-requires returns-3)
