@@ -16,7 +16,8 @@ use Rattle.kbm.specs.Table.{unmapped, numberOf, numbersOf}
 use Rattle.kbm.specs.declared.Entry.{Entry}
 use Rattle.kbm.specs.declared.Entry.the-variants.{Unmapped}
 use Rattle.text.specs.Reading.{Meaning, invalid, dropped, content}
-use Rattle.kbm_read.specs.Reader.{entryIn, foundEntry, withFound, foundIn, givenFrom, unmappedOnes, padded}
+use Rattle.kbm_read.specs.Language.{blanks}
+use Rattle.kbm_read.specs.Reader.{entryIn, foundEntry, withFound, foundIn, givenFrom, padded}
 use Rattle.kbm_read.specs.declared.EntryRead.{EntryRead}
 use Rattle.kbm_read.specs.declared.EntryRead.the-variants as entry
 use Rattle.kbm_read.specs.declared.Found.{Found}
@@ -106,11 +107,11 @@ unfolding padded
 pad-step to i map h = let e : to - i ≡ suc (to - (i + 1)) = omega arith in rw e
 
 -- unmapped entries after those that are written
-pub pad-over : (d xs : List ℤ) (c : ℕ) → length xs + c ≤ length d → padded c (length xs) (over d xs) ≡ over d (xs ++ numbersOf (unmappedOnes c))
-unfolding padded unmappedOnes numbersOf
+pub pad-over : (d xs : List ℤ) (c : ℕ) → length xs + c ≤ length d → padded c (length xs) (over d xs) ≡ over d (xs ++ numbersOf (blanks c))
+unfolding padded blanks numbersOf
 pad-over d xs zero h = rw (append-nil xs)
 pad-over d xs (suc c) h =
     let ys = xs ++ unmapped ∷ [] in
     let l : length xs + 1 ≡ length ys = omega (arith, length-append xs (unmapped ∷ [])) in
     let s : set (over d xs) (length xs) unmapped ≡ over d ys = over-snoc d xs unmapped (omega arith) in
-    rw (s, l) (pad-over d ys c (omega arith)) ∙ ap (over d) (append-assoc xs (unmapped ∷ []) (numbersOf (unmappedOnes c)))
+    rw (s, l) (pad-over d ys c (omega arith)) ∙ ap (over d) (append-assoc xs (unmapped ∷ []) (numbersOf (blanks c)))

@@ -10,7 +10,8 @@ use Rattle.base.specs.Tables.{over, after}
 use Rattle.kbm.proofs.Table.{length-numbers}
 use Rattle.kbm.specs.Table.{numbersOf}
 use Rattle.kbm.specs.declared.Kbm.{Kbm}
-use Rattle.kbm_read.specs.Reader.{readOf, givenIn, entriesIn, unmappedOnes, padded}
+use Rattle.kbm_read.specs.Language.{blanks}
+use Rattle.kbm_read.specs.Reader.{readOf, givenIn, entriesIn, padded}
 use Rattle.kbm_read.proofs.Walks.{read-counts}
 use Rattle.kbm_read.proofs.Fills.{numbers-append, pad-over}
 
@@ -35,6 +36,6 @@ module _ (text : List ℕ) (old : List ℤ) {x : Kbm} (e : readOf (length old) t
       let more = x .count - length given in
       let i : n ≡ length xs = p ∙ sym l in
       let m : x .count - n ≡ more = ap (λ k. x .count - k) p in
-      let s : padded (x .count - n) n mid ≡ over old (xs ++ numbersOf (unmappedOnes more)) =
+      let s : padded (x .count - n) n mid ≡ over old (xs ++ numbersOf (blanks more)) =
       rw (m, q, i) (pad-over old xs more (omega (arith, l, c .0, c .1))) in
-      rw e (r ∙ s ∙ ap (over old) (sym (numbers-append given (unmappedOnes more))))
+      rw e (r ∙ s ∙ ap (over old) (sym (numbers-append given (blanks more))))

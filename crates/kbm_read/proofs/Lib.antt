@@ -2,3 +2,12 @@ pub mod Takes
 pub mod Walks
 pub mod Fills
 pub mod Leaves
+pub mod Fields
+pub mod Places
+pub mod Leads
+pub mod Follows
+pub mod Ends
+pub mod Language
+pub mod Tables
+pub mod Theorems
+pub mod Samples

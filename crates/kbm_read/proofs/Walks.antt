@@ -103,7 +103,7 @@ goes-pitch k h decimal.Unsupported e = no-value e
 goes-pitch k h decimal.Bad e = no-value e
 
 -- what s counts, and the entries that ms gives after it
-abbrev Total : State → List Meaning → ℕ
+abbrev pub Total : State → List Meaning → ℕ
 Total s ms = s .count + length (givenFrom (toCome (s .due)) ms)
 
 -- a line that is taken keeps the total
@@ -137,7 +137,7 @@ due-counts room k m t s s′ ms due.ReferencePitch z e = required-counts s s′ 
 due-counts room k m t s s′ ms due.Octave z e = required-counts s s′ ms (goes-int k (readInt true (2 ^ 15) t) _ e) tt z
 due-counts room k m t s s′ ms due.Entries z e = entry-counts s s′ ms room k (entryIn t) e
 
-meaning-counts : (room k : ℕ) (m : Meaning) (s s′ : State) (ms : List Meaning) → Early (s .due) (s .count) → takeMeaning room k m s ≡ gives s′ →
+pub meaning-counts : (room k : ℕ) (m : Meaning) (s s′ : State) (ms : List Meaning) → Early (s .due) (s .count) → takeMeaning room k m s ≡ gives s′ →
     (Total s (m ∷ ms) ≡ Total s′ ms) × Early (s′ .due) (s′ .count)
 unfolding takeToken givenFrom
 meaning-counts room k invalid s s′ ms z e = no-value e

@@ -24,6 +24,7 @@ use Rattle.numeral.specs.declared.decimal.DecimalAnswer.the-variants as decimal
 use Rattle.text.specs.Cut.{lines}
 use Rattle.text.specs.ReadLine.{meanings, strictly}
 use Rattle.text.specs.Reading.{Meaning, invalid, dropped, content}
+use Rattle.kbm_read.specs.Language.{added}
 use Rattle.kbm_read.specs.declared.Due.{Due}
 use Rattle.kbm_read.specs.declared.Due.the-variants as due
 use Rattle.kbm_read.specs.declared.EntryRead.{EntryRead}
@@ -212,14 +213,9 @@ givenFrom n (m ∷ ms) = withFound (foundIn n m) n (λ n′. givenFrom n′ ms)
 abbrev pub givenIn : List ℕ → List Entry
 givenIn text = givenFrom 7 (saidIn text)
 
--- so many unmapped entries
-unfoldable pub unmappedOnes : ℕ → List Entry
-unmappedOnes zero = []
-unmappedOnes (suc n) = Unmapped ∷ unmappedOnes n
-
 -- the entries of a mapping of that size: missing ones are added as unmapped
 abbrev pub entriesIn : ℕ → List ℕ → List Entry
-entriesIn size text = givenIn text ++ unmappedOnes (size - length (givenIn text))
+entriesIn size text = added size (givenIn text)
 
 -- the table with so many unmapped entries from place i on
 unfoldable pub padded : ℕ → ℕ → List ℤ → List ℤ

@@ -1,0 +1,64 @@
+-- Worked mapping files, computed: document 01's example of `kbmcopy`, and faults of it. Assumes nothing.
+use mathlib.Core.Path.{_≡_, refl}
+use mathlib.Core.List.{List, [], _∷_, _++_}
+use Prim.Native.Nat.{ℕ}
+use lib.Ieee.{binary64, ofBits, round, le}
+use lib.IntN.{pos}
+use Rattle.base.specs.Said.{gives, refuses}
+use Rattle.kbm.specs.declared.Entry.the-variants.{Mapped, Unmapped}
+use Rattle.kbm.specs.declared.Kbm.{Kbm}
+use Rattle.key.specs.Keys.{key}
+use Rattle.numeral.specs.DecimalScan.{spelled, scanOf, readDecimal}
+use Rattle.numeral.specs.DecimalScan as decimals
+use Rattle.numeral.specs.Integer.{scan, magnitudeOf, readSigned}
+use Rattle.text.specs.Cut.{lines}
+use Rattle.text.specs.ReadLine.{tokenLength, meaningBy, meanings}
+use Rattle.text.specs.Trim.{widthBy, run}
+use Rattle.text.specs.Utf8Machine.{leadOf, stepOf}
+use Rattle.text.specs.Utf8Machine as utf8
+use Rattle.kbm_read.specs.Language.{blanks}
+use Rattle.kbm_read.specs.Reader.{entryIn, takeToken, finished, walk, readOf, givenFrom, entriesIn}
+
+-- `3`, `0`, `127`, `62`, `60`, `261.6256`, `5`, each with LF
+abbrev seven : List ℕ
+seven = 51 ∷ 10 ∷ 48 ∷ 10 ∷ 49 ∷ 50 ∷ 55 ∷ 10 ∷ 54 ∷ 50 ∷ 10 ∷ 54 ∷ 48 ∷ 10 ∷ 50 ∷ 54 ∷ 49 ∷ 46 ∷ 54 ∷ 50 ∷ 53 ∷ 54 ∷ 10 ∷ 53 ∷ 10 ∷ []
+
+-- what they say
+abbrev example : Kbm
+example =
+    record {
+      root = record { reference = key (pos 60); pitch = record { 0 = ofBits binary64 0x4070_5A02_7525_460B }; offset = pos 2 };
+      start = key (pos 0);
+      end = key (pos 128);
+      octave = pos 5;
+      count = 3;
+    }
+
+pub record Samples : Type 0 where
+  -- with `0`, `X` after them it is read, and one entry is added as unmapped
+  pub mapping : readOf 8 (seven ++ 48 ∷ 10 ∷ 88 ∷ 10 ∷ []) ≡ gives example
+  pub entries : entriesIn 3 (seven ++ 48 ∷ 10 ∷ 88 ∷ 10 ∷ []) ≡ Mapped (pos 0) ∷ Unmapped ∷ Unmapped ∷ []
+  -- with room for two the added entry has no place
+  pub no-place : readOf 2 (seven ++ 48 ∷ 10 ∷ 88 ∷ 10 ∷ []) ≡ refuses 12 0
+  -- `0`, `y`: the ninth line is no entry; and a comment before it counts
+  pub broken : readOf 8 (seven ++ 48 ∷ 10 ∷ 121 ∷ 10 ∷ []) ≡ refuses 8 9
+  pub counted : readOf 8 (33 ∷ 10 ∷ seven ++ 48 ∷ 10 ∷ 121 ∷ 10 ∷ []) ≡ refuses 8 10
+  -- four entries for three are 14, but a bad line after them comes first
+  pub too-many : readOf 8 (seven ++ 48 ∷ 10 ∷ 48 ∷ 10 ∷ 48 ∷ 10 ∷ 48 ∷ 10 ∷ []) ≡ refuses 14 0
+  pub bad-first : readOf 8 (seven ++ 48 ∷ 10 ∷ 48 ∷ 10 ∷ 48 ∷ 10 ∷ 48 ∷ 10 ∷ 121 ∷ []) ≡ refuses 8 12
+  -- a text without lines lacks the first required line
+  pub nothing : readOf 8 [] ≡ refuses 2 1
+
+pub samples : Samples
+unfolding lines meaningBy meanings tokenLength widthBy run leadOf stepOf utf8.runOf scan magnitudeOf readSigned decimals.runOf spelled scanOf readDecimal entryIn takeToken finished walk givenFrom blanks round ofBits le
+samples =
+    record {
+      mapping = refl;
+      entries = refl;
+      no-place = refl;
+      broken = refl;
+      counted = refl;
+      too-many = refl;
+      bad-first = refl;
+      nothing = refl;
+    }
