@@ -1,3 +1,4 @@
 pub mod Texts
 pub mod Walk
 pub mod RoundTrip
+pub mod Theorems

@@ -77,8 +77,8 @@ printed-short text map room = go (ltb room 72) refl
     go true e = omega arith
     go false e = short (copyOf text map room) fits (omega (arith, ltb-false room 72 e))
 
--- so whoever prints it is told that its length is within the lent bytes
-pub bounded : (text : List ℕ) (map : List ℤ) (out : List ℕ) {r : ℕ} {m : List ℕ}
-    → (r ≡ length (printedIn text map (length out))) × (m ≡ over out (printedIn text map (length out)))
-    → ((r ≡ length (printedIn text map (length out))) × (r ≤ length out)) × (m ≡ over out (printedIn text map (length out)))
-bounded text map out h = ((h .0, rw (h .0) (printed-short text map (length out))), h .1)
+-- so whoever prints it is told that its length is within the lent bytes; and the table, beside
+pub bounded : (text : List ℕ) (map : List ℤ) (out : List ℕ) {r : ℕ} {m : List ℕ} {Table : Type 0}
+    → (r ≡ length (printedIn text map (length out))) × (m ≡ over out (printedIn text map (length out))) → Table
+    → ((r ≡ length (printedIn text map (length out))) × (r ≤ length out)) × ((m ≡ over out (printedIn text map (length out))) × Table)
+bounded text map out h t = ((h .0, rw (h .0) (printed-short text map (length out))), (h .1, t))

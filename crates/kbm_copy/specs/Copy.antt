@@ -7,7 +7,7 @@ use lib.IntN.{ℤ, pos}
 use lib.ListN.{length}
 use Rattle.base.specs.Numbers.{no-room}
 use Rattle.base.specs.Said.{Said, gives, refuses, pick, andThen}
-use Rattle.base.specs.Tables.{over}
+use Rattle.base.specs.Tables.{over, after}
 use Rattle.numeral.specs.PrintText.{wholeText}
 use Rattle.kbm.specs.Table.{numbersOf}
 use Rattle.kbm_read.specs.Reader.{readOf, entriesIn}
@@ -22,6 +22,10 @@ unfoldable pub copyOf : List ℕ → List ℤ → ℕ → Said (List ℕ)
 copyOf text map room =
     pick (ltb 65536 (length text)) (refuses no-room 0)
     (andThen (readOf (length map) text) (λ kbm. exportOf kbm (tableAfter text map (kbm .count)) room))
+
+-- the table after: the entries of a mapping that was read
+unfoldable pub mapAfter : List ℕ → List ℤ → List ℤ
+mapAfter text map = pick (ltb 65536 (length text)) map (after (readOf (length map) text) (λ kbm. numbersOf (entriesIn (kbm .count) text)) map)
 
 -- a detail is a line of a text of at most 65,536 bytes; a greater one than 32 bits hold would be written as the greatest
 abbrev pub capped : ℕ → ℕ
@@ -47,3 +51,6 @@ printedOf (refuses number detail) = refusedText number detail
 -- the same, into so many bytes: nothing into fewer than 72, which any refusal needs
 unfoldable pub printedIn : List ℕ → List ℤ → ℕ → List ℕ
 printedIn text map room = pick (ltb room 72) [] (printedOf (copyOf text map room))
+
+abbrev pub mapIn : List ℕ → List ℤ → ℕ → List ℤ
+mapIn text map room = pick (ltb room 72) map (mapAfter text map)

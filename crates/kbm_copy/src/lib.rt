@@ -11,7 +11,7 @@ ghost use lib.Seq.{sets};
 ghost use Rattle.base.specs.Tables.{over, after};
 ghost use Rattle.kbm_write.specs.Answers.{saysSize};
 ghost use Rattle.kbm_write.specs.Export.{sizeOf};
-ghost use Rattle.kbm_copy.specs.Copy.{copyOf, capped, wordText, numberText, refusedText, printedIn};
+ghost use Rattle.kbm_copy.specs.Copy.{copyOf, capped, wordText, numberText, refusedText, mapAfter, printedIn, mapIn};
 
 // The longest text that is read: "input over 65,536 bytes gives `refused 12 0`".
 pub const LONGEST: usize = 65536;
@@ -22,11 +22,12 @@ const TOO_LONG: Refusal = Refusal {
     detail: 0,
 };
 
-// The export of the mapping that the text is, in `out`, and how many bytes it takes. 12 for a text over 65,536 bytes, then the
-// reader's refusals, then the export's.
+// The export of the mapping that the text is, in `out`, and how many bytes it takes; its entries are left in `map`. 12 for a text
+// over 65,536 bytes, then the reader's refusals, then the export's (those leave the entries that were read).
 pub fn copy(text: &[u8], map: &mut [i32], out: &mut [u8]) -> SizeAnswer
     ensures { λ r. ⌜ saysSize r ≡ sizeOf (copyOf (now (text .entry)) (now (map .entry)) (length (now (out .entry)))) ⌝ }
     ensures { λ r. ⌜ now (out .exit) ≡ after (copyOf (now (text .entry)) (now (map .entry)) (length (now (out .entry)))) (λ t. t) (now (out .entry)) ⌝ }
+    ensures { λ r. ⌜ now (map .exit) ≡ mapAfter (now (text .entry)) (now (map .entry)) ⌝ }
 {
     if LONGEST < text.len() {
         return SizeAnswer::Refused(TOO_LONG);
@@ -93,6 +94,7 @@ fn write_refusal(number: u32, detail: usize, out: &mut [u8]) -> usize
 pub fn print_copy(text: &[u8], map: &mut [i32], out: &mut [u8]) -> usize
     ensures { λ r. ⌜ (r ≡ length (printedIn (now (text .entry)) (now (map .entry)) (length (now (out .entry))))) × (r ≤ length (now (out .entry))) ⌝ }
     ensures { λ r. ⌜ now (out .exit) ≡ over (now (out .entry)) (printedIn (now (text .entry)) (now (map .entry)) (length (now (out .entry)))) ⌝ }
+    ensures { λ r. ⌜ now (map .exit) ≡ mapIn (now (text .entry)) (now (map .entry)) (length (now (out .entry))) ⌝ }
 {
     if out.len() < 72 {
         return 0;

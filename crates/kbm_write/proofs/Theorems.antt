@@ -26,10 +26,14 @@ size-split : Split OfSize.Is OfSize.Refused
 size-split (OfSize.Is n) = inl (n, refl)
 size-split (OfSize.Refused r) = inr (r, refl)
 
+-- what is said determines the answer
+pub size-one : (s : Said ℕ) → One saysSize s
+size-one = one-plain size-split saysSize (λ n. refl) (λ r. refl)
+
 -- one result, and one state of the lent bytes
 module _ (kbm : Kbm) (map : List ℤ) (out : List ℕ) where
   pub export-kbm-one : One saysSize (sizeOf (exportOf kbm map (length out)))
-  export-kbm-one = one-plain size-split saysSize (λ n. refl) (λ r. refl) (sizeOf (exportOf kbm map (length out)))
+  export-kbm-one = size-one (sizeOf (exportOf kbm map (length out)))
 
   pub export-kbm-bytes : One (λ l. l) (after (exportOf kbm map (length out)) (λ t. t) out)
   export-kbm-bytes = one-result (after (exportOf kbm map (length out)) (λ t. t) out)

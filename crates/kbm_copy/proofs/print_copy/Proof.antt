@@ -15,7 +15,8 @@ returns : tie.Need-returns
 unfolding printedIn
 returns c =
     let s = c .before .before .before in
-    bounded (now (s .args .text)) (now (s .args .map)) (now (s .args .out)) (rw (lt-ltb (length (now (s .args .out))) 72 (c .if1 .taken)) (refl, refl))
+    let e = lt-ltb (length (now (s .args .out))) 72 (c .if1 .taken) in
+    bounded (now (s .args .text)) (now (s .args .map)) (now (s .args .out)) (rw e (refl, refl)) (rw e)
 
 copy-requires : tie.Need-copy-requires
 copy-requires c κs = search needs
@@ -40,8 +41,9 @@ unfolding printedIn
 returns-2 c =
     let y = c .before .before .before .before .before .before in
     let s = c .before .before .before .before .before .before .before .before .before .before .before .before in
-    bounded (now (s .args .text)) (now (s .args .map)) (now (s .args .out)) (rw (le-ltb (length (now (s .args .out))) 72 (c .before .before .before .before .before .before .before .before .before .if1 .left))
-    (copied-text (now (s .args .out)) (copyOf (now (s .args .text)) (now (s .args .map)) (length (now (s .args .out)))) (ap saysSize (sym (c .before .n .given .1)) ∙ y .copy .ensures .0) (y .copy .ensures .1)))
+    let e = le-ltb (length (now (s .args .out))) 72 (c .before .before .before .before .before .before .before .before .before .if1 .left) in
+    bounded (now (s .args .text)) (now (s .args .map)) (now (s .args .out)) (rw e
+    (copied-text (now (s .args .out)) (copyOf (now (s .args .text)) (now (s .args .map)) (length (now (s .args .out)))) (ap saysSize (sym (c .before .n .given .1)) ∙ y .copy .ensures .0) (y .copy .ensures .1 .0))) (rw e (y .copy .ensures .1 .1))
 
 same-length-3 : tie.Need-same-length-3
 same-length-3 c = search needs
@@ -54,8 +56,9 @@ unfolding printedIn
 returns-3 c =
     let y = c .before .before .before .before .before .before .before .before .before .before in
     let s = c .before .before .before .before .before .before .before .before .before .before .before .before .before .before .before .before in
-    let h = copied-not (now (s .args .out)) (copyOf (now (s .args .text)) (now (s .args .map)) (length (now (s .args .out)))) (ap saysSize (sym (c .before .before .before .before .before .refusal .given .1)) ∙ y .copy .ensures .0) (y .copy .ensures .1) in
-    bounded (now (s .args .text)) (now (s .args .map)) (now (s .args .out)) (rw (le-ltb (length (now (s .args .out))) 72 (c .before .before .before .before .before .before .before .before .before .before .before .before .before .if1 .left), h .0) (rw (h .1) at (c .before .before .write-refusal .ensures)))
+    let h = copied-not (now (s .args .out)) (copyOf (now (s .args .text)) (now (s .args .map)) (length (now (s .args .out)))) (ap saysSize (sym (c .before .before .before .before .before .refusal .given .1)) ∙ y .copy .ensures .0) (y .copy .ensures .1 .0) in
+    let e = le-ltb (length (now (s .args .out))) 72 (c .before .before .before .before .before .before .before .before .before .before .before .before .before .if1 .left) in
+    bounded (now (s .args .text)) (now (s .args .map)) (now (s .args .out)) (rw (e, h .0) (rw (h .1) at (c .before .before .write-refusal .ensures))) (rw e (y .copy .ensures .1 .1))
 
 pub print-copy-spec : {M : Type 1} → statement M
 print-copy-spec =
