@@ -28,7 +28,9 @@ use Rattle.kbm.specs.Table.{inI16, isUnmapped, isEntry, entryOf, areEntries, en
 use Rattle.kbm.specs.declared.Entry.{Entry}
 use Rattle.kbm.specs.declared.Kbm.{Kbm}
 use Rattle.kbm.proofs.Entries.{mag-i16}
-use Rattle.kbm_read.specs.Reader.{takeToken, walk, start, mappingOf, readOf, givenFrom, unmappedOnes, entriesIn}
+use Rattle.kbm_read.specs.Reader.{takeToken, walk, start, mappingOf, readOf, givenFrom, entriesIn}
+use Rattle.kbm_read.specs.Language.{blanks, MappingText}
+use Rattle.kbm_read.proofs.Language.{accepts}
 use Rattle.kbm_read.proofs.Walks.{no-value}
 use Rattle.kbm_write.specs.Again.{nearestThree, ComesBack}
 use Rattle.kbm_write.specs.Export.{lastOf, middleOf, entryTexts, exportText}
@@ -152,8 +154,18 @@ module _ (kbm : Kbm) (es : List Entry) (y : Typed kbm es) where
 
   -- and its entries are the same in any case
   pub entries-back : entriesIn (kbm .count) (exportText kbm es) ≡ es
-  unfolding unmappedOnes
+  unfolding blanks
   entries-back =
       let g : givenFrom 7 (selves (exportTexts kbm es)) ≡ es = head-given (wholeText (pos (kbm .count))) (wholeText (kbm .start .0)) (wholeText (lastOf kbm)) (wholeText (middleOf kbm)) (wholeText (kbm .root .reference .0)) (textOf 3 false hz) (wholeText (kbm .octave)) (entryTexts es) ∙ entries-given es (y .degrees) in
       let z : kbm .count - length es ≡ 0 = omega (arith, y .counted) in
       rw (export-found kbm es, g, z) (append-nil es)
+
+  -- OVER THE LANGUAGE: the export is a mapping file of that mapping with those entries exactly when the mapping comes back
+  pub export-in-language : MappingText (exportText kbm es) kbm es ↔ ComesBack kbm
+  export-in-language =
+      let room = kbm .count in
+      let all : room ≤ room = omega arith in
+      let a = accepts room (exportText kbm es) kbm es in (
+        λ m. round-trip room all .0 (a .1 (m, omega (arith, y .counted)) .0),
+        λ c. a .0 (comes-back room all c, entries-back) .0,
+      )

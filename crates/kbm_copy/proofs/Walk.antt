@@ -25,7 +25,7 @@ use Rattle.kbm.specs.declared.Entry.{Entry}
 use Rattle.kbm.specs.declared.Entry.the-variants.{Mapped, Unmapped}
 use Rattle.kbm.specs.declared.Kbm.{Kbm}
 use Rattle.kbm.proofs.Entries.{mag-i16}
-use Rattle.kbm_read.specs.Reader.{isCross, entryIn, takeToken, finished, walk, start, mappingOf, givenFrom, unmappedOnes}
+use Rattle.kbm_read.specs.Reader.{isCross, entryIn, takeToken, finished, walk, start, mappingOf, givenFrom}
 use Rattle.kbm_read.specs.declared.Due.the-variants as due
 use Rattle.kbm_read.specs.declared.EntryRead.the-variants as entry
 use Rattle.kbm_read.specs.declared.Head.{Head}
