@@ -37,7 +37,7 @@ use Rattle.kbm_write.specs.Export.{lastOf, middleOf, entryTexts, exportText}
 use Rattle.kbm_write.proofs.ExportLines.{exportTexts, export-found}
 use Rattle.kbm_write.proofs.Plain.{selves}
 use Rattle.kbm_write.proofs.Printed.{size-reads, reads-only, pitch-reads}
-use Rattle.kbm_copy.specs.Typed.{Degrees, Typed}
+use Rattle.kbm_write.specs.Typed.{Degrees, Typed}
 use Rattle.kbm_copy.proofs.Walk.{whole-value, headIs, head-read, entries-read, ends-read, entries-given, head-given}
 
 -- an i16 by its magnitude

@@ -32,7 +32,7 @@ use Rattle.kbm_read.specs.declared.Head.{Head}
 use Rattle.kbm_write.specs.Export.{entryText, entryTexts}
 use Rattle.kbm_write.proofs.Plain.{selves}
 use Rattle.kbm_write.proofs.Printed.{signed-reads}
-use Rattle.kbm_copy.specs.Typed.{Degrees}
+use Rattle.kbm_write.specs.Typed.{Degrees}
 
 -- a printed integer of a type with a sign is read as that integer
 pub whole-value : (top : ℕ) (z : ℤ) → 0 < top → mag z < top → top < 10 ^ 18 → readInt true top (wholeText z) ≡ value z

@@ -21,7 +21,7 @@ module _ (kbm : Kbm) (es : List Entry) where
       (keyTexts (pos (kbm .count)) (kbm .start .0) (lastOf kbm) (middleOf kbm) (kbm .root .reference .0) ++ soundTexts (kbm .root .pitch .0) (kbm .octave))
       ++ entryTexts es
 
-  export-words : Words exportTexts
+  pub export-words : Words exportTexts
   export-words = (
     whole-word (pos (kbm .count)),
     (

@@ -6,3 +6,5 @@ pub mod Samples
 pub mod Plain
 pub mod Printed
 pub mod ExportLines
+pub mod Published
+pub mod Typed

@@ -84,7 +84,7 @@ entry-words (Mapped d ∷ es) = (whole-word d, entry-words es)
 entry-words (Unmapped ∷ es) = (record { some = omega arith; each = ((omega arith, omega arith), tt) }, entry-words es)
 
 -- a printed integer is an integer of its value
-integer-form : (minus : Bool) (n : ℕ) → n < 10 ^ 18 → FixedText 0 minus false n (integerText minus n)
+pub integer-form : (minus : Bool) (n : ℕ) → n < 10 ^ 18 → FixedText 0 minus false n (integerText minus n)
 integer-form minus n h = let e = div-one n in rw e at (fixed-text 0 minus false n (rw e h))
 
 module _ (n : ℕ) {t : List ℕ} (minus : Bool) (f : FixedText 0 minus false n t) where

@@ -1,5 +1,5 @@
--- The numbers of a mapping are of their types, as those of every value in the program are: what a round trip starts from.
--- Assumes nothing.
+-- The numbers of a mapping are of their types, as those of every value in the program are: what the theorems on
+-- exports start from. Assumes nothing.
 use mathlib.Core.Path.{_≡_}
 use mathlib.Core.Bool.{true}
 use mathlib.Core.List.{List, [], _∷_}

@@ -1,0 +1,152 @@
+-- THE EXPORT IN THE PUBLISHED FORMAT: what is written is a mapping file as Scala's pages have it, with the same seven numbers (the
+-- frequency with three decimals) and the same entries. Assumes nothing.
+use mathlib.Core.Path.{_≡_, refl, sym, ap, _∙_}
+use mathlib.Core.Bool.{Bool, true, false}
+use mathlib.Core.List.{List, [], _∷_, _++_, append-nil}
+use mathlib.Core.Logic.{_⊎_, inl, inr}
+use Prim.Native.Nat.{ℕ, suc, _+_, _^_, _≤_, _<_}
+use native.Mathlib.Omega.{arith}
+use lib.IntN.{ℤ, pos, negsuc, _+ℤ_, _-ℤ_, _*ℤ_}
+use lib.ListN.{length, getD}
+use lib.Ieee.{Float}
+use lib.Signed.{mag}
+use Rattle.base.specs.Integers.{floorDiv, floorMod}
+use Rattle.base.specs.Said.{gives}
+use Rattle.base.proofs.Division.{floor-divides}
+use Rattle.base.proofs.Integers.{mag-in}
+use Rattle.base.proofs.Said.{same-value}
+use Rattle.floats.specs.Ranges.{inPitch}
+use Rattle.floats.specs.Units.{negative}
+use Rattle.floats.proofs.Ranges.{Within, within-fin, pitch-says}
+use Rattle.numeral.specs.DecimalText as Decimal
+use Rattle.numeral.specs.PrintForm.{FixedText}
+use Rattle.numeral.specs.PrintText.{scaledOf, textOf, wholeText, signText}
+use Rattle.numeral.proofs.PrintForm.{printed}
+use Rattle.kbm.specs.Degree.{degreeOfEntry, degreeAt}
+use Rattle.kbm.specs.declared.Entry.{Entry}
+use Rattle.kbm.specs.declared.Entry.the-variants.{Mapped, Unmapped}
+use Rattle.kbm.specs.declared.Kbm.{Kbm}
+use Rattle.kbm.proofs.Entries.{mag-i16}
+use Rattle.kbm_write.specs.Export.{lastOf, middleOf, entryText, entryTexts, exportText}
+use Rattle.kbm_write.specs.Published as P
+use Rattle.kbm_write.specs.Typed.{Degrees, Typed}
+use Rattle.kbm_write.proofs.ExportLines.{exportTexts, export-lines, export-words}
+use Rattle.kbm_write.proofs.Lines.{pitch-limited}
+use Rattle.kbm_write.proofs.Plain.{Word, Words}
+use Rattle.kbm_write.proofs.Room.{held-is}
+use Rattle.kbm_write.proofs.Printed.{integer-form, digits-of}
+
+-- no word is a comment
+no-comment : (t : List ℕ) → Word t → P.Comment t → ⊥
+no-comment [] w c = c
+no-comment (b ∷ t) w c = omega (arith, c, w .each .0)
+
+all-kept : (ts : List (List ℕ)) → Words ts → P.Kept ts ts
+all-kept [] w = P.Kept.none
+all-kept (t ∷ ts) w = P.Kept.kept (no-comment t (w .0)) (all-kept ts (w .1))
+
+-- a value alone stands on its line
+alone : (t : List ℕ) → P.Stands t t
+alone t = record { before = []; rest = []; whole = sym (append-nil t); blank = tt; ends = tt }
+
+-- a printed integer is a whole number
+whole-number : (z : ℤ) → mag z < 2147483648 → P.Whole (wholeText z) z
+whole-number (pos n) h =
+    let f = integer-form false n (omega arith) in
+    P.Whole.plain n (rw (f .text) (digits-of n false f)) refl
+whole-number (negsuc n) h =
+    let f = integer-form true (suc n) (omega arith) in
+    P.Whole.minus (f .whole ++ f .part) (suc n) (f .text) (digits-of (suc n) true f) refl
+
+number : (z : ℤ) → mag z < 2147483648 → P.Number (wholeText z) z
+number z h = record { token = wholeText z; stands = alone (wholeText z); value = whole-number z h }
+
+-- a printed pitch is a frequency of so many thousandths
+not-negative : (x : Float) → inPitch x ≡ true → negative x ≡ false
+unfolding negative
+not-negative x h = go (pitch-says x h)
+  where
+    go : {y : Float} → Within 10 20 y → negative y ≡ false
+    go (within-fin m e p l h) = refl
+
+frequency : (x : Float) → inPitch x ≡ true → P.Frequency (textOf 3 false x) (scaledOf 3 x) 3
+frequency x h =
+    let f = printed 3 false x (pitch-limited x h) .is in
+    let e : textOf 3 false x ≡ f .whole ++ (46 ∷ f .part) = f .text ∙ ap (λ (s : Bool). signText s false ++ (f .whole ++ (46 ∷ f .part))) (not-negative x h) in
+    record {
+      token = textOf 3 false x;
+      stands = alone (textOf 3 false x);
+      value =
+          record {
+            whole = f .whole;
+            part = f .part;
+            digits = record { first = f .first; second = f .second; some = omega (arith, f .some); writes = inl e };
+            value = sym (f .value);
+            places = sym (f .places);
+          };
+    }
+
+-- each entry is a degree or a cross
+degrees : (es : List Entry) → Degrees es → P.Degrees (entryTexts es) es
+unfolding entryTexts
+degrees [] d = tt
+degrees (Mapped z ∷ es) d = ((wholeText z, alone (wholeText z), P.Degree.degree z (whole-number z (omega (arith, mag-i16 z (d .0))))), degrees es (d .1))
+degrees (Unmapped ∷ es) d = ((120 ∷ [], alone (120 ∷ []), P.Degree.cross refl), degrees es d)
+
+-- what a mapping says in the published format
+abbrev pub publishedOf : Kbm → List Entry → P.Mapping
+publishedOf kbm es =
+    record {
+      size = kbm .count;
+      first = kbm .start .0;
+      last = lastOf kbm;
+      middle = middleOf kbm;
+      reference = kbm .root .reference .0;
+      hertz = scaledOf 3 (kbm .root .pitch .0);
+      places = 3;
+      octave = kbm .octave;
+      given = es;
+    }
+
+-- the bytes that the export writes are a text of the published format, with that mapping as its meaning
+pub export-published : (kbm : Kbm) (es : List Entry) → Typed kbm es → P.PublishedText (exportText kbm es) (publishedOf kbm es)
+export-published kbm es y =
+    record {
+      l1 = wholeText (pos (kbm .count));
+      l2 = wholeText (kbm .start .0);
+      l3 = wholeText (lastOf kbm);
+      l4 = wholeText (middleOf kbm);
+      l5 = wholeText (kbm .root .reference .0);
+      l6 = textOf 3 false (kbm .root .pitch .0);
+      l7 = wholeText (kbm .octave);
+      parts = exportTexts kbm es;
+      rest = entryTexts es;
+      lines = export-lines kbm es;
+      keeps = all-kept (exportTexts kbm es) (export-words kbm es);
+      size = number (pos (kbm .count)) (omega (arith, y .size));
+      first = number (kbm .start .0) (mag-in (kbm .start .0) (y .start));
+      last = number (lastOf kbm) (mag-in (lastOf kbm) (y .last));
+      middle = number (middleOf kbm) (mag-in (middleOf kbm) (y .middle));
+      reference = number (kbm .root .reference .0) (mag-in (kbm .root .reference .0) (y .reference));
+      frequency = frequency (kbm .root .pitch .0) (y .pitch);
+      octave = number (kbm .octave) (omega (arith, mag-i16 (kbm .octave) (y .octave)));
+      degrees = degrees es (y .degrees);
+      most = omega (arith, y .counted);
+    }
+
+-- document 01's degree, with the distance counted from the middle key, is the one that a key sounds as published. (01 counts from the
+-- reference key: the two agree where the root's offset is 0.)
+pub sounds : (kbm : Kbm) (es : List Entry) → length es ≡ kbm .count → (key degree : ℤ) → degreeAt (key -ℤ middleOf kbm) (kbm .octave) es ≡ gives degree → P.Sounds (publishedOf kbm es) key degree
+unfolding degreeAt
+sounds kbm [] n key degree e = P.Sounds.linear (sym n) (sym (same-value (key -ℤ middleOf kbm) degree e))
+sounds kbm (a ∷ es) n key degree e = go (getD (a ∷ es) r Unmapped) refl e
+  where
+    d : ℤ
+    d = key -ℤ middleOf kbm
+
+    r : ℕ
+    r = floorMod d (length (a ∷ es))
+
+    go : (f : Entry) → getD (a ∷ es) r Unmapped ≡ f → degreeOfEntry f (floorDiv d (length (a ∷ es))) (kbm .octave) ≡ gives degree → P.Sounds (publishedOf kbm (a ∷ es)) key degree
+    go Unmapped g h = let z : _≡_ {A = ℕ} 0 1 = cc in absurd (omega arith)
+    go (Mapped z) g h = P.Sounds.pattern (floorDiv d (length (a ∷ es))) r z (rw (← n) (floor-divides d (length (a ∷ es)) (omega arith))) g (held-is (z +ℤ floorDiv d (length (a ∷ es)) *ℤ kbm .octave) h)
