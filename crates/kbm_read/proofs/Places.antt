@@ -1,5 +1,5 @@
 -- The walk over the lines by what is still required: the same as the reader's, in the language's terms. Assumes nothing.
-use mathlib.Core.Path.{_≡_, refl, sym, _∙_, ap}
+use mathlib.Core.Path.{_≡_, refl, _∙_, ap}
 use mathlib.Core.Bool.{Bool, true, false}
 use mathlib.Core.List.{List, [], _∷_}
 use Prim.Native.Nat.{ℕ, _+_, _-_, _^_}
@@ -19,7 +19,7 @@ use Rattle.numeral.specs.declared.decimal.DecimalAnswer.{DecimalAnswer}
 use Rattle.numeral.specs.declared.decimal.DecimalAnswer.the-variants as decimal
 use Rattle.text.specs.Reading.{Meaning, invalid, dropped, content}
 use Rattle.kbm_read.specs.Language.{Required, Value, required}
-use Rattle.kbm_read.specs.Reader.{intAt, goesOn, pitchSaid, placed, entryIn, takeDue, takeToken, takeMeaning, whichOf, mappingOf, finished, start, walk}
+use Rattle.kbm_read.specs.Reader.{intAt, goesOn, placed, entryIn, takeDue, takeToken, takeMeaning, whichOf, mappingOf, finished, start, walk}
 use Rattle.kbm_read.specs.declared.Due.{Due}
 use Rattle.kbm_read.specs.declared.Due.the-variants as due
 use Rattle.kbm_read.specs.declared.EntryRead.{EntryRead}

@@ -1,21 +1,19 @@
 -- The laws of the first pass: a turn, the end of the text, and how many entries an accepted text gives. Assumes nothing.
-use mathlib.Core.Path.{_≡_, refl, sym, _∙_, ap}
+use mathlib.Core.Path.{_≡_, refl, sym, ap}
 use mathlib.Core.Bool.{Bool, true, false}
 use mathlib.Core.List.{List, [], _∷_}
-use Prim.Native.Nat.{ℕ, suc, _+_, _-_, _^_, _≤_, _<_}
+use Prim.Native.Nat.{ℕ, suc, _+_, _^_, _≤_}
 use native.Mathlib.Omega.{arith}
 use lib.Dec.{ltb, leb}
-use lib.Ieee.{Float}
 use lib.IntN.{ℤ, pos}
 use lib.ListN.{length, drop, drop-of-length-le}
 use lib.Signed.{leZ}
 use borrow.Author.Tests.{ltb-false}
 use Rattle.base.proofs.Said.{same-value}
-use Rattle.base.specs.Numbers.{line-missing, float-value, unusable, overflow, no-room, too-large, inconsistent-count}
+use Rattle.base.specs.Numbers.{line-missing, unusable, overflow, no-room, too-large, inconsistent-count}
 use Rattle.base.specs.Said.{Said, gives, refuses, pick, andThen}
 use Rattle.floats.specs.Ranges.{inPitch}
 use Rattle.kbm.specs.declared.Kbm.{Kbm}
-use Rattle.numeral.specs.DecimalAnswers.{saysDecimal}
 use Rattle.numeral.specs.DecimalScan.{readDecimal}
 use Rattle.numeral.specs.Integer.{Int, value, none, readInt}
 use Rattle.numeral.specs.declared.decimal.DecimalAnswer.{DecimalAnswer}
@@ -23,7 +21,7 @@ use Rattle.numeral.specs.declared.decimal.DecimalAnswer.the-variants as decimal
 use Rattle.text.specs.Cut.{lines}
 use Rattle.text.specs.ReadLine.{meanings}
 use Rattle.text.specs.Reading.{Meaning, invalid, dropped, content}
-use Rattle.kbm_read.specs.Reader.{saysStep, intAt, goesOn, pitchSaid, placed, entryIn, takeDue, takeToken, takeMeaning, whichOf, mappingOf, finished, start, walk, saidIn, readOf, givenIn, foundEntry, withFound, foundIn, givenFrom}
+use Rattle.kbm_read.specs.Reader.{saysStep, intAt, goesOn, pitchSaid, placed, entryIn, takeDue, takeToken, takeMeaning, whichOf, mappingOf, finished, start, walk, saidIn, readOf, givenIn, foundEntry, withFound, givenFrom}
 use Rattle.kbm_read.specs.declared.Due.{Due}
 use Rattle.kbm_read.specs.declared.Due.the-variants as due
 use Rattle.kbm_read.specs.declared.EntryRead.{EntryRead}
