@@ -1,16 +1,16 @@
 -- The end of a text, and the entries that its lines give, in the language's terms. Assumes nothing.
 use mathlib.Core.Path.{_≡_, refl, sym, _∙_, ap}
 use mathlib.Core.Bool.{Bool, true, false}
-use mathlib.Core.List.{List, [], _∷_, _++_, append-nil}
-use mathlib.Core.Logic.{_⊎_, inl, inr}
+use mathlib.Core.List.{List, [], _∷_, _++_}
+use mathlib.Core.Logic.{inl, inr}
 use Prim.Native.Nat.{ℕ, zero, suc, _+_, _-_, _^_, _≤_, _<_}
 use native.Mathlib.Omega.{arith}
 use lib.Dec.{ltb}
-use lib.IntN.{ℤ, pos}
+use lib.IntN.{pos}
 use lib.ListN.{length, length-append}
 use borrow.Author.Tests.{lt-ltb, le-ltb, ltb-true, ltb-false}
 use Rattle.base.specs.Numbers.{no-room, too-large, inconsistent-count}
-use Rattle.base.specs.Said.{Said, gives, refuses, pick}
+use Rattle.base.specs.Said.{gives, refuses, pick}
 use Rattle.base.proofs.Said.{same-value}
 use Rattle.base.proofs.Pick.{true-not-false}
 use Rattle.kbm.specs.declared.Entry.{Entry}
@@ -18,7 +18,7 @@ use Rattle.kbm.specs.declared.Kbm.{Kbm}
 use Rattle.numeral.specs.IntegerText.{IntText}
 use Rattle.text.specs.Reading.{Meaning, invalid, dropped, content}
 use Rattle.kbm_read.specs.Language.{Required, Values, GiveAll, Entries, Tokens, Begins, required, sizeOf, blanks, added, WrongEnd}
-use Rattle.kbm_read.specs.Reader.{entryIn, foundIn, withFound, givenFrom, mappingOf}
+use Rattle.kbm_read.specs.Reader.{givenFrom, mappingOf}
 use Rattle.kbm_read.specs.declared.Head.{Head}
 use Rattle.kbm_read.proofs.Fields.{same-refuses, no-refusal}
 use Rattle.kbm_read.proofs.Leads.{text-entry}

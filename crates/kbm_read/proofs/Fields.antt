@@ -2,16 +2,16 @@
 -- 01's order. Assumes nothing.
 use mathlib.Core.Path.{_≡_, refl, sym, _∙_, ap}
 use mathlib.Core.Bool.{Bool, true, false}
-use mathlib.Core.List.{List, [], _∷_}
+use mathlib.Core.List.{List}
 use mathlib.Core.Logic.{_⊎_, inl, inr}
-use Prim.Native.Nat.{ℕ, zero, suc, _+_, _-_, _^_, _≤_, _<_}
+use Prim.Native.Nat.{ℕ, zero, suc, _^_, _<_}
 use native.Mathlib.Omega.{arith}
-use lib.Dec.{lit<, leb}
+use lib.Dec.{lit<}
 use lib.Ieee.{Float}
-use lib.IntN.{ℤ, pos, negsuc, natAbs, negℤ}
+use lib.IntN.{ℤ, pos, natAbs, negℤ}
 use lib.Signed.{leZ}
-use borrow.Author.Tests.{leb-true, leb-false, le-leb, lt-leb}
-use Rattle.base.specs.Numbers.{int-value, float-value, unsupported-numeral, unusable, overflow}
+use borrow.Author.Tests.{leb-true}
+use Rattle.base.specs.Numbers.{float-value, unusable, overflow}
 use Rattle.base.specs.Said.{Said, gives, refuses, pick, andThen}
 use Rattle.base.proofs.Pick.{true-not-false}
 use Rattle.base.proofs.Said.{same-value}

@@ -3,18 +3,16 @@ use mathlib.Core.Path.{_≡_, refl, sym, _∙_, ap}
 use mathlib.Core.Bool.{Bool, true, false}
 use mathlib.Core.List.{List, [], _∷_, _++_, append-assoc, append-nil}
 use Prim.Native.Nat.{ℕ, zero, suc, _+_, _-_, _≤_, _<_}
-use native.Mathlib.Numerals.{add-one}
 use native.Mathlib.Omega.{arith}
 use lib.Dec.{ltb}
 use lib.IntN.{ℤ}
-use lib.ListN.{length, drop, set, length-append}
+use lib.ListN.{length, set, length-append}
 use borrow.Author.Tests.{ltb-true}
 use Rattle.base.specs.Said.{pick}
 use Rattle.base.specs.Tables.{over}
 use Rattle.kbm.proofs.Table.{length-numbers}
 use Rattle.kbm.specs.Table.{unmapped, numberOf, numbersOf}
 use Rattle.kbm.specs.declared.Entry.{Entry}
-use Rattle.kbm.specs.declared.Entry.the-variants.{Unmapped}
 use Rattle.text.specs.Reading.{Meaning, invalid, dropped, content}
 use Rattle.kbm_read.specs.Language.{blanks}
 use Rattle.kbm_read.specs.Reader.{entryIn, foundEntry, withFound, foundIn, givenFrom, padded}

@@ -1,21 +1,19 @@
 -- The walk follows good lines to the place that they lead to, and every walk is good lines up to its end or its first fault.
 -- Assumes nothing.
 use mathlib.Core.Path.{_≡_, refl, sym, _∙_, ap}
-use mathlib.Core.Bool.{Bool, true, false}
 use mathlib.Core.List.{List, [], _∷_, _++_}
 use mathlib.Core.Logic.{_⊎_, inl, inr}
-use Prim.Native.Nat.{ℕ, suc, _+_, _-_, _≤_, _<_}
+use Prim.Native.Nat.{ℕ, suc, _+_, _≤_}
 use native.Mathlib.Omega.{arith}
-use lib.Dec.{leb}
 use lib.ListN.{length}
 use borrow.Author.Tests.{lt-leb}
-use Rattle.base.specs.Said.{Said, gives, refuses, pick, andThen}
+use Rattle.base.specs.Said.{Said, gives, refuses, andThen}
 use Rattle.kbm.specs.declared.Entry.{Entry}
 use Rattle.kbm.specs.declared.Kbm.{Kbm}
 use Rattle.text.specs.Reading.{Meaning, invalid, dropped, content}
-use Rattle.kbm_read.specs.Language.{Required, Value, Values, GiveAll, Entries, Tokens}
+use Rattle.kbm_read.specs.Language.{Required, Values, GiveAll, Entries, Tokens}
 use Rattle.kbm_read.specs.declared.Head.{Head}
-use Rattle.kbm_read.proofs.Fields.{readAs, gives-read}
+use Rattle.kbm_read.proofs.Fields.{gives-read}
 use Rattle.kbm_read.proofs.Leads.{headFrom, Leads, lead-none, lead-step, text-entry}
 use Rattle.kbm_read.proofs.Places.{Place, withField, stepOn, endOn, walkOn}
 

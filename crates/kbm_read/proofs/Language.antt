@@ -4,24 +4,24 @@ use mathlib.Core.Path.{_≡_, refl, sym, _∙_, ap}
 use mathlib.Core.Bool.{Bool, true, false}
 use mathlib.Core.List.{List, [], _∷_, _++_, append-nil}
 use mathlib.Core.Logic.{_⊎_, _↔_, inl, inr}
-use Prim.Native.Nat.{ℕ, zero, suc, _+_, _-_, _≤_, _<_}
+use Prim.Native.Nat.{ℕ, _+_, _-_, _≤_}
 use native.Mathlib.Omega.{arith}
 use lib.Dec.{leb}
 use lib.ListN.{length, length-append}
 use borrow.Author.Tests.{le-leb, leb-true}
-use Rattle.base.specs.Numbers.{keyboard-mapping, no-room}
+use Rattle.base.specs.Numbers.{no-room}
 use Rattle.base.specs.Said.{Said, gives, refuses, pick, andThen}
 use Rattle.base.proofs.Said.{same-value}
 use Rattle.kbm.specs.declared.Entry.{Entry}
 use Rattle.kbm.specs.declared.Kbm.{Kbm}
 use Rattle.text.proofs.LineLanguage.{strict-text, one-strict-text}
-use Rattle.text.specs.Reading.{Meaning, invalid, dropped, content, Says, strict}
-use Rattle.kbm_read.specs.Language.{Required, required, Value, Values, GiveAll, Begins, sizeOf, mappingFrom, added, MappingText, WrongLine, WrongEntry, WrongEnd, Fault, FaultText}
+use Rattle.text.specs.Reading.{Meaning, invalid, dropped, content}
+use Rattle.kbm_read.specs.Language.{Required, required, Value, Values, Begins, sizeOf, mappingFrom, MappingText, WrongLine, WrongEntry, WrongEnd, Fault, FaultText}
 use Rattle.kbm_read.specs.Reader.{entryIn, mappingOf, start, saidIn, readOf, givenFrom, givenIn, entriesIn}
 use Rattle.kbm_read.specs.declared.EntryRead.{EntryRead}
 use Rattle.kbm_read.specs.declared.EntryRead.the-variants as entry
 use Rattle.kbm_read.specs.declared.Head.{Head}
-use Rattle.kbm_read.proofs.Ends.{length-added, small-size, given-entries, Accepted, end-gives, gives-end, end-wrong, wrong-end}
+use Rattle.kbm_read.proofs.Ends.{length-added, small-size, given-entries, end-gives, gives-end, end-wrong, wrong-end}
 use Rattle.kbm_read.proofs.Fields.{same-refuses, no-refusal, read-wrong, wrong-read, readAs}
 use Rattle.kbm_read.proofs.Follows.{follow, Outcome, outcome}
 use Rattle.kbm_read.proofs.Leads.{headFrom, Leads, entry-text, text-entry, no-entry, entry-none}

@@ -3,30 +3,29 @@ use mathlib.Core.Path.{_≡_, refl, sym, _∙_, ap}
 use mathlib.Core.Bool.{Bool, true, false}
 use mathlib.Core.List.{List, [], _∷_, _++_}
 use mathlib.Core.Logic.{_⊎_, inl, inr}
-use Prim.Native.Nat.{ℕ, suc, _+_, _-_, _^_, _≤_, _<_}
+use Prim.Native.Nat.{ℕ, _+_, _^_, _≤_, _<_}
 use native.Mathlib.Omega.{arith}
 use lib.Dec.{leb, eqb, lit<}
 use lib.IntN.{ℤ}
 use lib.ListN.{length}
-use borrow.Author.Tests.{eqb-true, ne-eqb, leb-false, lt-leb}
+use borrow.Author.Tests.{eqb-true, ne-eqb, leb-false}
 use Rattle.base.specs.Said.{Said, gives, refuses, pick, andThen}
 use Rattle.base.specs.Numbers.{no-room}
 use Rattle.base.proofs.Pick.{true-not-false}
 use Rattle.base.proofs.Said.{same-value}
 use Rattle.kbm.specs.declared.Entry.{Entry}
 use Rattle.kbm.specs.declared.Entry.the-variants.{Mapped, Unmapped}
-use Rattle.kbm.specs.declared.Kbm.{Kbm}
 use Rattle.numeral.proofs.IntegerLanguage.{sound, complete}
 use Rattle.numeral.specs.Integer.{Int, value, none, readInt}
 use Rattle.numeral.specs.IntegerText.{IntText}
 use Rattle.text.specs.Reading.{Meaning, invalid, dropped, content}
-use Rattle.kbm_read.specs.Language.{Required, Value, Values, Gives, GiveAll, EntryText, Entries, Tokens, Begins}
+use Rattle.kbm_read.specs.Language.{Required, Value, Values, Gives, GiveAll, EntryText, Entries, Tokens}
 use Rattle.kbm_read.specs.Reader.{isCross, degreeIn, entryIn}
 use Rattle.kbm_read.specs.declared.EntryRead.{EntryRead}
 use Rattle.kbm_read.specs.declared.EntryRead.the-variants as entry
 use Rattle.kbm_read.specs.declared.Head.{Head}
-use Rattle.kbm_read.proofs.Fields.{readAs, read-gives, gives-read}
-use Rattle.kbm_read.proofs.Places.{Place, withField, entryOn, tokenOn, stepOn, endOn, walkOn}
+use Rattle.kbm_read.proofs.Fields.{readAs, read-gives}
+use Rattle.kbm_read.proofs.Places.{Place, withField, entryOn, tokenOn, stepOn}
 use Rattle.kbm_read.proofs.Walks.{no-value}
 
 -- ENTRIES: what is read is what the language says

@@ -1,5 +1,5 @@
 -- The walk over the lines by what is still required: the same as the reader's, in the language's terms. Assumes nothing.
-use mathlib.Core.Path.{_≡_, refl, sym, _∙_, ap}
+use mathlib.Core.Path.{_≡_, refl, _∙_, ap}
 use mathlib.Core.Bool.{Bool, true, false}
 use mathlib.Core.List.{List, [], _∷_}
 use Prim.Native.Nat.{ℕ, _+_, _-_, _^_}
@@ -19,7 +19,7 @@ use Rattle.numeral.specs.declared.decimal.DecimalAnswer.{DecimalAnswer}
 use Rattle.numeral.specs.declared.decimal.DecimalAnswer.the-variants as decimal
 use Rattle.text.specs.Reading.{Meaning, invalid, dropped, content}
 use Rattle.kbm_read.specs.Language.{Required, Value, required}
-use Rattle.kbm_read.specs.Reader.{intAt, goesOn, pitchSaid, placed, entryIn, takeDue, takeToken, takeMeaning, whichOf, mappingOf, finished, start, walk}
+use Rattle.kbm_read.specs.Reader.{intAt, goesOn, placed, entryIn, takeDue, takeToken, takeMeaning, whichOf, mappingOf, finished, start, walk}
 use Rattle.kbm_read.specs.declared.Due.{Due}
 use Rattle.kbm_read.specs.declared.Due.the-variants as due
 use Rattle.kbm_read.specs.declared.EntryRead.{EntryRead}
@@ -27,7 +27,7 @@ use Rattle.kbm_read.specs.declared.EntryRead.the-variants as entry
 use Rattle.kbm_read.specs.declared.Head.{Head}
 use Rattle.kbm_read.specs.declared.State.{State}
 use Rattle.kbm_read.proofs.Fields.{readAs, lastOf, pitchOf}
-use Rattle.kbm_read.proofs.Walks.{Early, meaning-counts}
+use Rattle.kbm_read.proofs.Walks.{Early, meaning-early}
 
 -- what is still required, what was said, and how many entries were given
 pub record Place : Type 0 where
@@ -93,7 +93,7 @@ startPlace = placeOf start
 abbrev placesOf : Said State → Said Place
 placesOf r = andThen r (λ s. gives (placeOf s))
 
-module _ (k : ℕ) (h : Head) {n : ℕ} (z : n ≡ 0) where
+module _ (k : ℕ) {n : ℕ} (z : n ≡ 0) where
   int-place : (i : Int) {A : Type 0} (v : ℤ → A) (w : A → Head) (d : Due) →
       andThen (andThen (intAt k i) (λ z. gives (v z))) (λ a. gives (record { fields = fieldsFrom d; head = w a; count = n })) ≡ placesOf (andThen (intAt k i) (λ z. goesOn d (w (v z))))
   int-place (value y) v w d = rw z
@@ -130,13 +130,13 @@ entry-place room k s (entry.Is e) = go (leb room (s .count))
 entry-place room k s entry.IsNot = refl
 
 due-place : (room k : ℕ) (t : List ℕ) (s : State) (d : Due) → Early d (s .count) → tokenOn room k t (s .head) (s .count) (fieldsFrom d) ≡ placesOf (takeDue room k t s d)
-due-place room k t s due.Size z = int-place k (s .head) z (readInt false (2 ^ 16) t) natAbs (withField Required.size (s .head)) due.FirstKey
-due-place room k t s due.FirstKey z = int-place k (s .head) z (readInt true (2 ^ 31) t) (λ z. z) (withField Required.first (s .head)) due.LastKey
-due-place room k t s due.LastKey z = last-place k (s .head) z (readInt true (2 ^ 31) t) (withField Required.last (s .head)) due.MiddleKey
-due-place room k t s due.MiddleKey z = int-place k (s .head) z (readInt true (2 ^ 15) t) (λ z. z) (withField Required.middle (s .head)) due.ReferenceKey
-due-place room k t s due.ReferenceKey z = int-place k (s .head) z (readInt true (2 ^ 15) t) (λ z. z) (withField Required.reference (s .head)) due.ReferencePitch
-due-place room k t s due.ReferencePitch z = pitch-place k (s .head) z (readDecimal t) (withField Required.pitch (s .head)) due.Octave
-due-place room k t s due.Octave z = int-place k (s .head) z (readInt true (2 ^ 15) t) (λ z. z) (withField Required.octave (s .head)) due.Entries
+due-place room k t s due.Size z = int-place k z (readInt false (2 ^ 16) t) natAbs (withField Required.size (s .head)) due.FirstKey
+due-place room k t s due.FirstKey z = int-place k z (readInt true (2 ^ 31) t) (λ z. z) (withField Required.first (s .head)) due.LastKey
+due-place room k t s due.LastKey z = last-place k z (readInt true (2 ^ 31) t) (withField Required.last (s .head)) due.MiddleKey
+due-place room k t s due.MiddleKey z = int-place k z (readInt true (2 ^ 15) t) (λ z. z) (withField Required.middle (s .head)) due.ReferenceKey
+due-place room k t s due.ReferenceKey z = int-place k z (readInt true (2 ^ 15) t) (λ z. z) (withField Required.reference (s .head)) due.ReferencePitch
+due-place room k t s due.ReferencePitch z = pitch-place k z (readDecimal t) (withField Required.pitch (s .head)) due.Octave
+due-place room k t s due.Octave z = int-place k z (readInt true (2 ^ 15) t) (λ z. z) (withField Required.octave (s .head)) due.Entries
 due-place room k t s due.Entries z = entry-place room k s (entryIn t)
 
 meaning-place : (room k : ℕ) (m : Meaning) (s : State) → Early (s .due) (s .count) → stepOn room k m (placeOf s) ≡ placesOf (takeMeaning room k m s)
@@ -171,7 +171,7 @@ walk-place room k s (m ∷ ms) z = ap (λ r. andThen r (λ q. walkOn room (k + 1
   where
     go : (r : Said State) → takeMeaning room k m s ≡ r → ((s′ : State) → Early (s′ .due) (s′ .count) → walkOn room (k + 1) (placeOf s′) ms ≡ walk room (k + 1) s′ ms) →
         andThen (placesOf r) (λ q. walkOn room (k + 1) q ms) ≡ andThen r (λ s′. walk room (k + 1) s′ ms)
-    go (gives s′) p ih = ih s′ (meaning-counts room k m s s′ ms z p .1)
+    go (gives s′) p ih = ih s′ (meaning-early room k m s s′ z p)
     go (refuses n d) p ih = refl
 
 pub same-walk : (room : ℕ) (ms : List Meaning) → walkOn room 1 startPlace ms ≡ walk room 1 start ms

@@ -1,13 +1,13 @@
 -- WHAT AN ACCEPTED READ LEAVES in the table passes every later call's test of it, and is read back as the mapping's entries.
 -- Assumes nothing.
 use mathlib.Core.Path.{_≡_, refl, sym, _∙_, ap}
-use mathlib.Core.Bool.{Bool, true, false, _&&_, _||_}
+use mathlib.Core.Bool.{true}
 use mathlib.Core.List.{List, [], _∷_, _++_}
-use Prim.Native.Nat.{ℕ, zero, suc, _+_, _-_, _^_, _≤_, _<_}
+use Prim.Native.Nat.{ℕ, zero, suc, _-_, _^_, _≤_, _<_}
 use native.Mathlib.Omega.{arith}
 use lib.Dec.{leb}
-use lib.IntN.{ℤ, pos, negsuc, negℤ}
-use lib.ListN.{length, take, drop, length-append, length-drop}
+use lib.IntN.{ℤ, pos, negℤ}
+use lib.ListN.{length, take, drop, length-append}
 use lib.Seq.{take-append-le, take-length}
 use borrow.Author.Tests.{le-leb, lt-leb}
 use Rattle.base.specs.Said.{gives}
@@ -15,10 +15,10 @@ use Rattle.base.specs.Tables.{over, after}
 use Rattle.kbm.proofs.Table.{length-numbers}
 use Rattle.kbm.specs.Table.{numberOf, numbersOf, isEntry, entryOf, areEntries, entriesOf, isTable, tableOf}
 use Rattle.kbm.specs.declared.Entry.{Entry}
-use Rattle.kbm.specs.declared.Entry.the-variants.{Mapped, Unmapped}
+use Rattle.kbm.specs.declared.Entry.the-variants.{Mapped}
 use Rattle.kbm.specs.declared.Kbm.{Kbm}
 use Rattle.numeral.specs.IntegerText.{IntText}
-use Rattle.kbm_read.specs.Language.{EntryText, Entries, blanks, added, sizeOf}
+use Rattle.kbm_read.specs.Language.{EntryText, Entries, blanks, sizeOf}
 use Rattle.kbm_read.specs.Reader.{readOf, entriesIn}
 use Rattle.kbm_read.proofs.Ends.{length-added}
 use Rattle.kbm_read.proofs.Language.{accepted}

@@ -2,24 +2,22 @@
 use mathlib.Core.Path.{_≡_, refl, sym, _∙_, ap}
 use mathlib.Core.Bool.{Bool, true, false}
 use mathlib.Core.List.{List, [], _∷_}
-use mathlib.Core.Logic.{_⊎_, inl, inr}
+use mathlib.Core.Logic.{inl, inr}
 use Prim.Native.Nat.{ℕ, zero, suc, _+_, _^_, _≤_, _<_}
 use native.Mathlib.Omega.{arith}
-use lib.Dec.{eqb}
 use lib.Ieee.{Float}
 use lib.IntN.{ℤ, pos, negsuc, _+ℤ_, _-ℤ_}
 use lib.ListN.{length, getD}
-use lib.Signed.{leZ, mag}
+use lib.Signed.{leZ}
 use mir.Syntax.{w16, w32}
 use mir.Val.{SFits}
-use borrow.Author.Tests.{eq-eqb, ne-eqb, lt-ltb, le-ltb, le-leb, lt-leb, leb-false}
+use borrow.Author.Tests.{ne-eqb, lt-ltb, le-ltb, le-leb, lt-leb, leb-false}
 use types.Run.{OneOf}
 use denote.Enum.Declared.{tagOf}
 use Rattle.base.proofs.Integers.{mag-sub}
-use Rattle.base.specs.Numbers.{line-missing, float-value, keyboard-mapping, unusable, overflow, no-room, too-large, inconsistent-count}
-use Rattle.base.specs.Said.{Said, gives, refuses, andThen, pick}
+use Rattle.base.specs.Numbers.{line-missing, keyboard-mapping, unusable, overflow, no-room, too-large, inconsistent-count}
+use Rattle.base.specs.Said.{Said, gives, refuses, andThen}
 use Rattle.floats.specs.Ranges.{inPitch}
-use Rattle.numeral.specs.DecimalAnswers.{saysDecimal}
 use Rattle.numeral.specs.DecimalScan.{readDecimal}
 use Rattle.numeral.specs.Integer.{Int, readInt, i16Of, i32Of}
 use Rattle.numeral.specs.declared.decimal.DecimalAnswer.{DecimalAnswer}
@@ -37,7 +35,6 @@ use Rattle.kbm.specs.declared.Entry.the-variants.{Unmapped}
 use Rattle.kbm_read.specs.Reader.{intAt, goesOn, takeLast, decimalRefused, pitchSaid, takePitch, takeEntry, takeDue, takeToken, takeMeaning, whichOf, mappingOf, finished, isCross, degreeIn, entryIn, foundEntry, foundIn}
 use Rattle.kbm_read.specs.declared.Due.{Due}
 use Rattle.kbm_read.specs.declared.Due.the-variants as due
-use Rattle.kbm_read.specs.declared.Found.{Found}
 use Rattle.kbm_read.specs.declared.Found.the-variants as found
 use Rattle.kbm_read.specs.declared.Head.{Head}
 use Rattle.kbm_read.specs.declared.EntryRead.{EntryRead}

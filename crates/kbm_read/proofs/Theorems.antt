@@ -1,5 +1,5 @@
 -- Two results of one input are equal: of `read_kbm`, its answer and the table that it leaves. Assumes nothing.
-use mathlib.Core.Path.{_≡_, refl}
+use mathlib.Core.Path.{refl}
 use mathlib.Core.List.{List}
 use mathlib.Core.Logic.{inl, inr}
 use Prim.Native.Nat.{ℕ}
@@ -9,7 +9,6 @@ use Rattle.base.proofs.Said.{One, Split, one-result, one-plain}
 use Rattle.base.specs.Tables.{after}
 use Rattle.kbm.specs.Answers.{saysKbm}
 use Rattle.kbm.specs.Table.{numbersOf}
-use Rattle.kbm.specs.declared.KbmAnswer.{KbmAnswer}
 use Rattle.kbm.specs.declared.KbmAnswer.the-variants as answer
 use Rattle.kbm_read.specs.Reader.{readOf, entriesIn}
 

@@ -1,12 +1,12 @@
 -- Document 01, "Mapping": what the reader computes, by what the lines of the text say. `Language` says what a mapping file is,
 -- `proofs/Language` that the two agree. Assumes nothing.
 use mathlib.Core.Bool.{Bool, true, false}
-use mathlib.Core.List.{List, [], _∷_, _++_}
+use mathlib.Core.List.{List, [], _∷_}
 use Prim.Native.Nat.{ℕ, zero, suc, _+_, _-_, _^_}
 use lib.Dec.{leb, ltb, eqb}
-use lib.Ieee.{Float, binary64, ofBits}
+use lib.Ieee.{binary64, ofBits}
 use lib.IntN.{ℤ, pos, natAbs, _+ℤ_, _-ℤ_}
-use lib.ListN.{length, set}
+use lib.ListN.{set}
 use lib.Signed.{leZ}
 use Rattle.base.specs.Numbers.{not-utf8, line-missing, int-value, float-value, keyboard-mapping, unsupported-numeral, unusable, overflow, no-room, too-large, inconsistent-count}
 use Rattle.base.specs.Said.{Said, gives, refuses, refusal, pick, andThen}

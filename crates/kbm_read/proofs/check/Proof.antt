@@ -1,7 +1,7 @@
 -- `check` answers what the walk over the lines gives. The invariant: what is left to walk, after what was said so far,
 -- gives the answer of the whole; a line has at least one byte, so its number stays in range.
 use borrow.Author.Needs.{needs}
-use mathlib.Core.Path.{_≡_, refl, sym, _∙_}
+use mathlib.Core.Path.{_≡_, sym, _∙_}
 use Prim.Native.Nat.{_≤_, _+_, _-_}
 use native.Mathlib.Omega.{arith}
 use denote.Ref.{now}

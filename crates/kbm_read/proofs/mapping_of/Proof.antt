@@ -1,7 +1,6 @@
 -- `mapping_of` meets its contract: casts that widen, and a difference of two numbers of 16 bits.
 -- No loop.
 use borrow.Author.Needs.{needs}
-use lib.IntN.{_-ℤ_}
 use mir.Facts.{toZ-ofZ}
 use mir.Syntax.{w16, w32}
 use Rattle.base.proofs.Machine.{widen-fits, widened}

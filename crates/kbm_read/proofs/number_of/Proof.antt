@@ -1,7 +1,7 @@
 -- `number_of` meets its contract: a degree as it is, and the number of an unmapped entry.
 -- No loop: a cast that widens.
 use borrow.Author.Needs.{needs}
-use mathlib.Core.Path.{_≡_, sym, ap, _∙_}
+use mathlib.Core.Path.{sym, ap, _∙_}
 use native.Mathlib.Omega.{arith}
 use mir.Syntax.{w16, w32}
 use mir.Val.{SFits}

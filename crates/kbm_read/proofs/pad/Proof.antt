@@ -1,5 +1,5 @@
--- `pad` writes unmapped entries. The invariant: padding what the table is now, from here on, gives what padding the whole gives.
-use borrow.Author.Needs.{needs}
+-- `pad` meets its contract: unmapped entries from one place up to another.
+-- The invariant: padding what the table is now, from here on, gives what padding the whole gives.
 use mathlib.Core.Path.{_≡_, refl, sym, _∙_}
 use Prim.Native.Nat.{_-_}
 use native.Mathlib.Omega.{arith}

@@ -4,7 +4,6 @@ use borrow.Author.Needs.{needs}
 use mathlib.Core.Path.{_≡_, sym, _∙_, ap}
 use denote.Ref.{now}
 use lib.ListN.{length}
-use native.Mathlib.Omega.{arith}
 use Rattle.base.specs.Said.{gives}
 use Rattle.kbm.specs.Answers.{saysKbm}
 use Rattle.kbm_read.specs.Reader.{readOf}
