@@ -1,20 +1,20 @@
 -- THE ROUND TRIP: the export of a mapping, read again, is the same mapping exactly when reference and middle key fit i16 and the
 -- pitch is the f64 nearest its own three decimals; its entries come back in any case. Assumes nothing.
 use mathlib.Core.Path.{_≡_, refl, sym, ap, _∙_}
-use mathlib.Core.Bool.{Bool, true, false, _&&_, _||_}
-use mathlib.Core.List.{List, [], _∷_, _++_, append-nil}
+use mathlib.Core.Bool.{Bool, true, false}
+use mathlib.Core.List.{List, _∷_, append-nil}
 use mathlib.Core.Logic.{_↔_}
 use Prim.Native.Nat.{ℕ, zero, suc, _+_, _-_, _^_, _≤_, _<_}
 use native.Mathlib.Nat.{zero-add}
 use native.Mathlib.Omega.{arith}
-use lib.Dec.{leb, lit<, lit≤}
+use lib.Dec.{lit<, lit≤}
 use lib.Ieee.{Float}
 use lib.IntN.{ℤ, pos, negsuc, _+ℤ_, _-ℤ_, +ℤ-comm, +ℤ-negℤ-cancel, -ℤ-+ℤ-cancel, -ℤ-one}
-use lib.ListN.{length, take}
+use lib.ListN.{length}
 use lib.Signed.{leZ, mag}
 use borrow.Author.Tests.{le-leb, lt-leb}
 use Rattle.base.specs.Integers.{inI32}
-use Rattle.base.specs.Said.{Said, gives, refuses, pick}
+use Rattle.base.specs.Said.{gives, refuses}
 use Rattle.base.proofs.Integers.{mag-in}
 use Rattle.base.proofs.Said.{same-value}
 use Rattle.floats.specs.Ranges.{inPitch}
@@ -24,7 +24,7 @@ use Rattle.numeral.specs.PrintText.{textOf, wholeText}
 use Rattle.numeral.specs.declared.decimal.DecimalAnswer.the-variants as decimal
 use Rattle.numeral.proofs.DecimalLanguage.{gives-complete}
 use Rattle.numeral.proofs.IntegerLanguage.{sound, complete}
-use Rattle.kbm.specs.Table.{inI16, isUnmapped, isEntry, entryOf, areEntries, entriesOf}
+use Rattle.kbm.specs.Table.{inI16}
 use Rattle.kbm.specs.declared.Entry.{Entry}
 use Rattle.kbm.specs.declared.Kbm.{Kbm}
 use Rattle.kbm.proofs.Entries.{mag-i16}
@@ -37,7 +37,7 @@ use Rattle.kbm_write.specs.Export.{lastOf, middleOf, entryTexts, exportText}
 use Rattle.kbm_write.proofs.ExportLines.{exportTexts, export-found}
 use Rattle.kbm_write.proofs.Plain.{selves}
 use Rattle.kbm_write.proofs.Printed.{size-reads, reads-only, pitch-reads}
-use Rattle.kbm_write.specs.Typed.{Degrees, Typed}
+use Rattle.kbm_write.specs.Typed.{Typed}
 use Rattle.kbm_copy.proofs.Walk.{whole-value, headIs, head-read, entries-read, ends-read, entries-given, head-given}
 
 -- an i16 by its magnitude

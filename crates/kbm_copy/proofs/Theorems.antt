@@ -1,6 +1,5 @@
 -- For each input, refused ones too, a public call of this crate has one possible result, and each lent memory one possible state
 -- after it: document 01, "What the contracts settle". Assumes nothing.
-use mathlib.Core.Path.{_≡_}
 use mathlib.Core.List.{List}
 use Prim.Native.Nat.{ℕ}
 use lib.IntN.{ℤ}

@@ -1,35 +1,34 @@
 -- The reader's walk over the lines of an export. Assumes nothing.
-use mathlib.Core.Path.{_≡_, refl, sym, ap, _∙_}
-use mathlib.Core.Bool.{Bool, true, false, _&&_}
-use mathlib.Core.List.{List, [], _∷_, _++_, append-nil}
-use Prim.Native.Nat.{ℕ, zero, suc, _+_, _-_, _^_, _≤_, _<_}
+use mathlib.Core.Path.{_≡_, refl, sym, ap}
+use mathlib.Core.Bool.{Bool, true, false}
+use mathlib.Core.List.{List, [], _∷_}
+use Prim.Native.Nat.{ℕ, suc, _+_, _^_, _≤_, _<_}
 use native.Mathlib.Nat.{add-zero}
 use native.Mathlib.Omega.{arith}
-use lib.Dec.{leb, ltb, eqb, lit<}
+use lib.Dec.{lit<}
 use lib.Ieee.{Float}
-use lib.IntN.{ℤ, pos, negsuc, _+ℤ_}
+use lib.IntN.{ℤ, pos, _+ℤ_}
 use lib.ListN.{length}
 use lib.Signed.{leZ, mag}
-use borrow.Author.Tests.{le-leb, lt-leb, le-ltb, ne-eqb}
-use Rattle.base.specs.Said.{Said, gives, refuses, pick}
+use borrow.Author.Tests.{lt-leb, le-ltb, ne-eqb}
+use Rattle.base.specs.Said.{gives}
 use Rattle.floats.specs.Ranges.{inPitch}
 use Rattle.numeral.specs.DecimalScan.{readDecimal}
 use Rattle.numeral.specs.Digits.{AllDigits}
-use Rattle.numeral.specs.Integer.{Int, value, none, readInt}
-use Rattle.numeral.specs.IntegerText.{Digits, IntText}
+use Rattle.numeral.specs.Integer.{value, readInt}
+use Rattle.numeral.specs.IntegerText.{IntText}
 use Rattle.numeral.specs.PrintText.{wholeText}
 use Rattle.numeral.specs.declared.decimal.DecimalAnswer.the-variants as decimal
 use Rattle.numeral.proofs.IntegerLanguage.{complete}
 use Rattle.kbm.specs.Table.{inI16}
 use Rattle.kbm.specs.declared.Entry.{Entry}
 use Rattle.kbm.specs.declared.Entry.the-variants.{Mapped, Unmapped}
-use Rattle.kbm.specs.declared.Kbm.{Kbm}
 use Rattle.kbm.proofs.Entries.{mag-i16}
 use Rattle.kbm_read.specs.Reader.{isCross, entryIn, takeToken, finished, walk, start, mappingOf, givenFrom}
 use Rattle.kbm_read.specs.declared.Due.the-variants as due
 use Rattle.kbm_read.specs.declared.EntryRead.the-variants as entry
 use Rattle.kbm_read.specs.declared.Head.{Head}
-use Rattle.kbm_write.specs.Export.{entryText, entryTexts}
+use Rattle.kbm_write.specs.Export.{entryTexts}
 use Rattle.kbm_write.proofs.Plain.{selves}
 use Rattle.kbm_write.proofs.Printed.{signed-reads}
 use Rattle.kbm_write.specs.Typed.{Degrees}

@@ -27,7 +27,7 @@ copyOf text map room =
 unfoldable pub mapAfter : List ℕ → List ℤ → List ℤ
 mapAfter text map = pick (ltb 65536 (length text)) map (after (readOf (length map) text) (λ kbm. numbersOf (entriesIn (kbm .count) text)) map)
 
--- a detail is a line of a text of at most 65,536 bytes; a greater one than 32 bits hold would be written as the greatest
+-- a detail as it is written: one that 32 bits do not hold would be the greatest, but there is none (`detail-whole`)
 abbrev pub capped : ℕ → ℕ
 capped d = pick (ltb d (2 ^ 32)) d (2 ^ 32 - 1)
 

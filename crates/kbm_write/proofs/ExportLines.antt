@@ -1,7 +1,7 @@
 -- THE LINES OF AN EXPORT: the seven and the entries, each with its LF, and each says itself when the text is read. Document 01,
 -- "Writing". Assumes nothing.
 use mathlib.Core.Path.{_≡_}
-use mathlib.Core.List.{List, [], _∷_, _++_}
+use mathlib.Core.List.{List, _++_}
 use Prim.Native.Nat.{ℕ}
 use lib.IntN.{pos}
 use Rattle.text.specs.Cut.{lines}
@@ -11,7 +11,7 @@ use Rattle.text.specs.Reading.{strict, Says}
 use Rattle.kbm.specs.declared.Entry.{Entry}
 use Rattle.kbm.specs.declared.Kbm.{Kbm}
 use Rattle.kbm_write.specs.Export.{keyTexts, soundTexts, lastOf, middleOf, entryTexts, exportText}
-use Rattle.kbm_write.proofs.Plain.{Word, Words, selves, word-lines, words-say, words-found}
+use Rattle.kbm_write.proofs.Plain.{Words, selves, word-lines, words-say, words-found}
 use Rattle.kbm_write.proofs.Printed.{whole-word, pitch-word, entry-words}
 
 module _ (kbm : Kbm) (es : List Entry) where

@@ -1,6 +1,6 @@
 -- Lines written one after another into lent bytes, and how long they are. Assumes nothing.
 use mathlib.Core.Path.{_≡_, refl, sym, ap, _∙_}
-use mathlib.Core.Bool.{Bool, true, false}
+use mathlib.Core.Bool.{true, false}
 use mathlib.Core.List.{List, [], _∷_, _++_, append-assoc, append-nil}
 use Prim.Native.Nat.{ℕ, suc, _+_, _*_, _/_, _%_, _^_, _≤_, _<_}
 use native.Mathlib.Nat.{le-trans, mul-le-mul-right}
@@ -12,11 +12,10 @@ use lib.ListN.{length, set, length-append}
 use lib.Seq.{sets, length-sets}
 use lib.Ieee.{Float, up, down}
 use borrow.Author.Tests.{le-leb}
-use Rattle.base.specs.Said.{pick}
 use Rattle.floats.specs.Ranges.{inPitch}
 use Rattle.floats.specs.Units.{negative}
 use Rattle.floats.proofs.Ranges.{Within, within-fin, pitch-says}
-use Rattle.numeral.specs.PrintText.{limited, scaledOf, textOf, wholeText, integerText, partsText, widthOf, signText, room, placed, written}
+use Rattle.numeral.specs.PrintText.{limited, scaledOf, textOf, wholeText, integerText, widthOf, room, placed, written}
 use Rattle.numeral.specs.declared.print.Placed.{Placed}
 use Rattle.numeral.specs.declared.print.Placed.the-variants.{At, Full}
 use Rattle.numeral.proofs.PrintTexts.{sets-append, parts-length, width-le, sign-le, point-le}

@@ -1,16 +1,16 @@
 -- Texts of plain bytes, as the export writes them: each is a line of its own, which says itself. Assumes nothing.
-use mathlib.Core.Path.{_≡_, refl, sym, ap, _∙_, subst}
+use mathlib.Core.Path.{_≡_, refl, sym, ap, subst}
 use mathlib.Core.Bool.{Bool, true, false, _&&_, _||_}
 use mathlib.Core.List.{List, [], _∷_, _++_, append-assoc, append-nil}
 use mathlib.Core.Logic.{_⊎_, inl, inr}
-use Prim.Native.Nat.{ℕ, suc, _+_, _≤_, _<_}
+use Prim.Native.Nat.{ℕ, _+_, _≤_, _<_}
 use native.Mathlib.Omega.{arith}
 use lib.Dec.{T, leb}
 use lib.ListN.{length}
 use lib.Ieee.Bits.{is-true}
 use borrow.Author.Tests.{leb-true}
 use Rattle.floats.proofs.Ranges.{and-true}
-use Rattle.text.specs.Characters.{Each, Row, written, Span, span, Among, Scalar, encode}
+use Rattle.text.specs.Characters.{Each, written, Span, span, Among, Scalar, encode}
 use Rattle.text.specs.Cut.{lines}
 use Rattle.text.specs.Lines.{NoLF, EndsCR, Lines}
 use Rattle.text.specs.ReadLine.{strictly, meanings}

@@ -1,15 +1,15 @@
 -- What is printed, read again: an integer's text is an integer of that value, a pitch's text is a decimal of the f64 nearest to its
 -- three decimals; and both are words. Assumes nothing.
-use mathlib.Core.Path.{_≡_, refl, sym, ap, _∙_}
+use mathlib.Core.Path.{_≡_, refl, sym}
 use mathlib.Core.Bool.{Bool, true, false}
 use mathlib.Core.List.{List, [], _∷_, _++_}
-use Prim.Native.Nat.{ℕ, zero, suc, _+_, _-_, _*_, _/_, _%_, _^_, _≤_, _<_}
+use Prim.Native.Nat.{ℕ, zero, suc, _+_, _*_, _/_, _%_, _^_, _≤_, _<_}
 use native.Mathlib.Nat.{le-trans, le-of-eq, mul-le-mul-right, mul-one, mul-right-comm, div-one}
 use native.Mathlib.Omega.{arith}
-use lib.Dec.{T, ltb, lit<, lit≤}
+use lib.Dec.{ltb, lit<, lit≤}
 use lib.Signed.{mag}
 use lib.IntN.{ℤ, pos, negsuc}
-use lib.ListN.{length, length-append}
+use lib.ListN.{length-append}
 use lib.Ieee.{Float, up, down}
 use lib.Ieee.Fits.{down-pos}
 use lib.Ieee.Nearest.{closest, closest-mono}
@@ -18,11 +18,11 @@ use Rattle.floats.specs.Ranges.{inPitch}
 use Rattle.floats.specs.Units.{negative}
 use Rattle.floats.proofs.Ranges.{Within, within-fin, pitch-says}
 use Rattle.text.specs.Characters.{Each}
-use Rattle.numeral.specs.Digits.{AllDigits, decimal}
+use Rattle.numeral.specs.Digits.{decimal}
 use Rattle.numeral.specs.DecimalText.{DecimalText}
 use Rattle.numeral.specs.IntegerText.{Digits, IntText}
 use Rattle.numeral.specs.PrintForm.{FixedText}
-use Rattle.numeral.specs.PrintText.{scaledOf, digitsOf, widthOf, signText, pointText, partsText, fixedText, integerText, wholeText, textOf}
+use Rattle.numeral.specs.PrintText.{scaledOf, digitsOf, widthOf, signText, pointText, partsText, integerText, wholeText, textOf}
 use Rattle.numeral.proofs.DecimalScans.{all-append}
 use Rattle.numeral.proofs.IntegerTheorems.{one-value}
 use Rattle.numeral.proofs.PrintForm.{fixed-text, printed, reads-back}
@@ -30,7 +30,7 @@ use Rattle.numeral.proofs.PrintTexts.{length-digits}
 use Rattle.kbm.specs.declared.Entry.{Entry}
 use Rattle.kbm.specs.declared.Entry.the-variants.{Mapped, Unmapped}
 use Rattle.kbm_write.specs.Again.{nearestThree}
-use Rattle.kbm_write.specs.Export.{entryText, entryTexts}
+use Rattle.kbm_write.specs.Export.{entryTexts}
 use Rattle.kbm_write.proofs.Lines.{pitch-limited}
 use Rattle.kbm_write.proofs.Plain.{Plain, Word, Words, each-append}
 

@@ -5,9 +5,8 @@ use mathlib.Core.List.{List, [], _∷_}
 use Prim.Native.Nat.{ℕ}
 use lib.IntN.{pos, negsuc}
 use lib.Ieee.{round, binary64, ofBits, le}
-use Rattle.base.specs.Numbers.{overflow}
 use Rattle.base.specs.Integers.{held}
-use Rattle.base.specs.Said.{Said, gives, refuses}
+use Rattle.base.specs.Said.{gives, refuses}
 use Rattle.floats.specs.Units.{negative}
 use Rattle.kbm.specs.Table.{unmapped, areEntries, entriesOf}
 use Rattle.kbm.specs.declared.Kbm.{Kbm}

@@ -1,7 +1,7 @@
 -- For each input, refused ones too, `export_kbm` has one possible result, and the lent bytes one possible state after it: document
 -- 01, "What the contracts settle". When it gives 12, and what it writes. Assumes nothing.
-use mathlib.Core.Path.{_≡_, refl, sym, ap, _∙_}
-use mathlib.Core.Bool.{Bool, true, false, _&&_}
+use mathlib.Core.Path.{_≡_, refl, sym, _∙_}
+use mathlib.Core.Bool.{Bool, true, false}
 use mathlib.Core.List.{List, _++_}
 use mathlib.Core.Logic.{inl, inr, _↔_}
 use Prim.Native.Nat.{ℕ, _≤_, _<_}
@@ -9,10 +9,10 @@ use native.Mathlib.Omega.{arith}
 use lib.Dec.{leb}
 use lib.IntN.{ℤ}
 use lib.ListN.{length, drop}
-use borrow.Author.Tests.{le-leb, lt-leb, leb-true, leb-false}
+use borrow.Author.Tests.{le-leb, lt-leb, leb-false}
 use Rattle.base.specs.Integers.{inI32, held}
-use Rattle.base.specs.Numbers.{unusable, overflow, no-room}
-use Rattle.base.specs.Said.{Said, gives, refuses, refusal, pick}
+use Rattle.base.specs.Numbers.{no-room}
+use Rattle.base.specs.Said.{Said, gives, refuses, pick}
 use Rattle.base.specs.Tables.{after}
 use Rattle.base.proofs.Said.{One, Split, one-plain, one-result}
 use Rattle.floats.specs.Ranges.{inPitch}

@@ -1,8 +1,8 @@
 -- A mapping that `export_kbm` writes, whose numbers are of their types, is one that the theorems speak of. Assumes nothing.
-use mathlib.Core.Path.{_≡_, refl, sym, ap, _∙_}
-use mathlib.Core.Bool.{Bool, true, false, _&&_, _||_}
+use mathlib.Core.Path.{_≡_, refl, ap, _∙_}
+use mathlib.Core.Bool.{Bool, true, false}
 use mathlib.Core.List.{List, [], _∷_}
-use Prim.Native.Nat.{ℕ, suc, _≤_}
+use Prim.Native.Nat.{suc, _≤_}
 use native.Mathlib.Omega.{arith}
 use lib.Dec.{T, leb}
 use lib.IntN.{ℤ}
@@ -11,8 +11,7 @@ use lib.Ieee.Bits.{is-true}
 use Rattle.base.specs.Integers.{inI32}
 use Rattle.base.specs.Said.{pick}
 use Rattle.floats.proofs.Ranges.{and-true}
-use Rattle.kbm.specs.Table.{inI16, isUnmapped, isEntry, entryOf, areEntries, entriesOf, isTable, tableOf}
-use Rattle.kbm.specs.declared.Entry.{Entry}
+use Rattle.kbm.specs.Table.{inI16, isUnmapped, isEntry, areEntries, entriesOf, tableOf}
 use Rattle.kbm.specs.declared.Entry.the-variants.{Mapped, Unmapped}
 use Rattle.kbm.specs.declared.Kbm.{Kbm}
 use Rattle.kbm_write.specs.Typed.{Degrees, Typed}

@@ -1,6 +1,6 @@
 -- Document 01, "Writing": the bytes that a mapping is written as, "the seven lines (last = end - 1; middle = reference +
 -- offset; 11 if either is outside i32), then entries. .. Every line ends in LF". Assumes nothing.
-use mathlib.Core.Bool.{Bool, false, _&&_}
+use mathlib.Core.Bool.{false, _&&_}
 use mathlib.Core.List.{List, [], _∷_, _++_}
 use Prim.Native.Nat.{ℕ}
 use lib.Dec.{leb}

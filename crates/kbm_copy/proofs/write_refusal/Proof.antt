@@ -1,6 +1,6 @@
 -- `write_refusal` meets its contract: three texts, each where the last one ended.
 -- Assumes nothing.
-use mathlib.Core.Path.{_≡_, _∙_}
+use mathlib.Core.Path.{_∙_}
 use native.Mathlib.Omega.{arith}
 use denote.Ref.{now}
 use Rattle.kbm_copy.specs.Copy.{capped, refusedText}

@@ -1,6 +1,6 @@
 -- `entries_length` meets its contract. The invariant: what was counted and the length of the lines that are left make the
 -- length of all, and no line is longer than 32. The measure is the number of entries that are left.
-use mathlib.Core.Path.{_≡_, refl}
+use mathlib.Core.Path.{_≡_}
 use Prim.Native.Nat.{_+_, _-_, _*_, _≤_}
 use native.Mathlib.Omega.{arith}
 use lib.IntN.{pos}

@@ -1,6 +1,6 @@
 -- `write_entry` meets its contract: `x` and LF where the number is the unmapped one, else the degree's line.
 -- Assumes nothing.
-use mathlib.Core.Path.{_≡_, sym, ap, _∙_}
+use mathlib.Core.Path.{_≡_, sym}
 use mathlib.Core.Bool.{true, false}
 use native.Mathlib.Omega.{arith}
 use denote.Ref.{now}

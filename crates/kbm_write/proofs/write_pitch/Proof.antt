@@ -1,13 +1,10 @@
 -- `write_pitch` meets its contract: there is room for the text and LF, so the writer reaches the place after the text,
 -- and LF is stored there.
-use Prim.Native.Nat.{_+_, _≤_}
 use mathlib.Core.Bool.{false}
 use native.Mathlib.Omega.{arith}
 use denote.Ref.{now}
 use borrow.Author.Needs.{needs}
-use lib.ListN.{length}
 use Rattle.numeral.specs.PrintText.{textOf}
-use Rattle.kbm_write.specs.Export.{line}
 use Rattle.kbm_write.proofs.Lines.{pitch-limited, not-full, line-end, line-fits, line-written}
 use Rattle.kbm_write.proofs.write_pitch.Statement.{statement}
 use Rattle.kbm_write.proofs.write_pitch.Tie as tie
