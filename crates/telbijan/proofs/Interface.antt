@@ -3,6 +3,7 @@ use mathlib.Core.Path.{_≡_, sym, _∙_, ap}
 use Prim.Native.Nat.{ℕ}
 use Rattle.base.specs.Said.{Said, gives, refusal}
 use Rattle.base.specs.declared.Refusal.{Refusal}
+use Rattle.base.proofs.Said.{One, one-result}
 use Rattle.telbijan.specs.Interface.{code, result, kept, mapped}
 
 -- x is what a call answered, told what its contract says of it, and x′ what a match made of it
@@ -33,3 +34,8 @@ module _ {X A : Type 0} (says : X → Said A) {s : Said A} {x x′ : X} (told : 
 -- what a `store_..` call made of an answer, of which told says what it says: n is its result, v what is stored, by `keep`
 pub handed-on : {X A B : Type 0} (says : X → Said A) (keep : Said A → B) (x : X) {s : Said A} {n : ℕ} {v : B} → says x ≡ s → (n ≡ result (says x)) × (v ≡ keep (says x)) → (n ≡ result s) × (v ≡ keep s)
 handed-on says keep x told e = (e .0 ∙ ap result told, e .1 ∙ ap keep told)
+
+-- "equality of two such results is proved": every function of the interface answers `result s`, and leaves `kept s old` behind each
+-- of its pointers, for one s that its input says
+pub interface-one : {A : Type 0} (s : Said A) (old : A) → One (λ r. r) (result s) × One (λ v. v) (kept s old)
+interface-one s old = (one-result (result s), one-result (kept s old))
