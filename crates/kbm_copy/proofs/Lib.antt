@@ -2,3 +2,4 @@ pub mod Texts
 pub mod Walk
 pub mod RoundTrip
 pub mod Theorems
+pub mod Agree
