@@ -2,4 +2,5 @@ pub mod Texts
 pub mod Walk
 pub mod RoundTrip
 pub mod Theorems
+pub mod Standing
 pub mod Agree
