@@ -131,8 +131,35 @@ fn texts() {
     line("lines, tokens, numerals, a byte", text.len(), &times, &["the Rust"]);
 }
 
+fn mappings() {
+    let text = crate::kbm::long(65_535, 65_535);
+    let mut map = vec![0; 65_535];
+    let times = shortest(&mut [
+        &mut || {
+            black_box(ffi::read_kbm(&text, &mut map));
+        },
+        &mut || {
+            black_box(tune::scala::Kbm::import(&text[..]).unwrap());
+        },
+    ]);
+    line("read a mapping, an entry of 65,535", 65_535, &times, &["the Rust"]);
+    let (_, mapping) = ffi::read_kbm(&text, &mut map);
+    let kbm = tune::scala::Kbm::import(&text[..]).unwrap();
+    let mut out = vec![0; 1 << 20];
+    let times = shortest(&mut [
+        &mut || {
+            black_box(ffi::export_kbm(mapping, &map, &mut out));
+        },
+        &mut || {
+            black_box(kbm.export().to_string());
+        },
+    ]);
+    line("write a mapping, an entry of 65,535", 65_535, &times, &["the Rust"]);
+}
+
 pub fn bench() {
     exponents_and_values();
     fractions();
     texts();
+    mappings();
 }

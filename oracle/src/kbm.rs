@@ -201,7 +201,8 @@ fn texts() -> Vec<Vec<u8>> {
     found
 }
 
-fn long(entries: usize, size: usize) -> Vec<u8> {
+/// A mapping file of so many entries that says a size.
+pub fn long(entries: usize, size: usize) -> Vec<u8> {
     let mut text = format!("{size}\n0\n127\n60\n60\n440.0\n12\n");
     for k in 0..entries {
         text.push_str(&if k % 5 == 3 { "x\n".to_string() } else { format!("{}\n", k as i64 % 65_536 - 32_768) });

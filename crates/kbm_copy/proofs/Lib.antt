@@ -3,3 +3,5 @@ pub mod Walk
 pub mod RoundTrip
 pub mod Theorems
 pub mod Details
+pub mod Standing
+pub mod Agree

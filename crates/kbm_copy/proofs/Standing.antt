@@ -1,0 +1,180 @@
+-- LINES AS PUBLISHED, read by document 01: a line where a value stands has it as its token, a comment drops out, and so the tokens
+-- are the values of the lines that are kept. Assumes nothing.
+use mathlib.Core.Path.{_≡_, refl, sym, ap, _∙_, subst}
+use mathlib.Core.List.{List, [], _∷_, _++_, append-assoc}
+use mathlib.Core.Logic.{_⊎_, inl, inr}
+use Prim.Native.Nat.{ℕ, _≤_, _<_}
+use native.Mathlib.Omega.{arith}
+use Rattle.kbm_read.specs.Language.{Tokens}
+use Rattle.kbm_write.specs.Published as P
+use Rattle.kbm_write.proofs.Plain.{Plain, Word}
+use Rattle.text.specs.Characters.{Each, written, encode}
+use Rattle.text.specs.Reading.{WhiteSpace, EmptyOrComment, strict, Trimmed, Splits, Stops, Meaning, invalid, dropped, content, Line, EachLine}
+use Rattle.text.proofs.Encodings.{enc1, enc2, enc3, enc4, split}
+use Rattle.text.proofs.TokenLanguage.{one-token}
+
+-- no white character is a graphic one of ASCII
+not-white : (c : ℕ) → 33 ≤ c → c < 127 → WhiteSpace c → ⊥
+not-white c l h (inl a) = omega (arith, a)
+not-white c l h (inr (inl a)) = omega (arith, a)
+not-white c l h (inr (inr (inl a))) = omega (arith, a)
+not-white c l h (inr (inr (inr (inl a)))) = omega (arith, a)
+not-white c l h (inr (inr (inr (inr (inl a))))) = omega (arith, a)
+not-white c l h (inr (inr (inr (inr (inr (inl a)))))) = omega (arith, a)
+not-white c l h (inr (inr (inr (inr (inr (inr (inl a))))))) = omega (arith, a)
+not-white c l h (inr (inr (inr (inr (inr (inr (inr (inl a)))))))) = omega (arith, a)
+not-white c l h (inr (inr (inr (inr (inr (inr (inr (inr (inl a))))))))) = omega (arith, a)
+not-white c l h (inr (inr (inr (inr (inr (inr (inr (inr (inr (inl a)))))))))) = omega (arith, a)
+not-white c l h (inr (inr (inr (inr (inr (inr (inr (inr (inr (inr (inl a))))))))))) = omega (arith, a)
+
+-- no byte that splits is plain
+not-split : (b : ℕ) → Plain b → Splits b → ⊥
+not-split b p (inl a) = omega (arith, a, p)
+not-split b p (inr (inl a)) = omega (arith, a, p)
+not-split b p (inr (inr (inl a))) = omega (arith, a, p)
+not-split b p (inr (inr (inr (inl a)))) = omega (arith, a, p)
+not-split b p (inr (inr (inr (inr (inl a))))) = omega (arith, a, p)
+
+unsplit : (t : List ℕ) → Each Plain t → Each (λ b. Splits b → ⊥) t
+unsplit [] p = tt
+unsplit (b ∷ t) p = (not-split b (p .0), unsplit t (p .1))
+
+-- a blank is White_Space, and splits
+blank-white : (b : ℕ) → P.Blank b → WhiteSpace b
+blank-white b (inl e) = inr (inl (omega (arith, e), omega (arith, e)))
+blank-white b (inr e) = inl (omega (arith, e), omega (arith, e))
+
+blank-splits : (b : ℕ) → P.Blank b → Splits b
+blank-splits b (inl e) = inl (omega (arith, e), omega (arith, e))
+blank-splits b (inr e) = inr (inl (omega (arith, e), omega (arith, e)))
+
+blank-low : (b : ℕ) → P.Blank b → b < 128
+blank-low b (inl e) = omega (arith, e)
+blank-low b (inr e) = omega (arith, e)
+
+-- a character whose first byte is ASCII is that byte
+low-head : (w b : ℕ) (v u : List ℕ) → b < 128 → encode w ++ v ≡ b ∷ u → (w ≡ b) × (v ≡ u)
+low-head w b v u h e = go (split w 0x80) (split w 0x800) (split w 0x10000)
+  where
+    high : {x : ℕ} {l : List ℕ} → 128 ≤ x → x ∷ l ≡ b ∷ u → (w ≡ b) × (v ≡ u)
+    high {x} g f = let y : x ≡ b = cc in absurd (omega arith)
+
+    go : (w < 0x80) ⊎ (0x80 ≤ w) → (w < 0x800) ⊎ (0x800 ≤ w) → (w < 0x10000) ⊎ (0x10000 ≤ w) → (w ≡ b) × (v ≡ u)
+    go (inl i) j k = let f : w ∷ v ≡ b ∷ u = rw (enc1 w i) at e in (cc, cc)
+    go (inr i) (inl j) k = high (omega arith) (rw (enc2 w i j) at e)
+    go (inr i) (inr j) (inl k) = high (omega arith) (rw (enc3 w j k) at e)
+    go (inr i) (inr j) (inr k) = high (omega arith) (rw (enc4 w k) at e)
+
+-- a row of white characters does not go on with a graphic one
+white-head : (w c : ℕ) (v u : List ℕ) → WhiteSpace w → 33 ≤ c → c < 127 → encode w ++ v ≡ c ∷ u → ⊥
+white-head w c v u x l h e = let y = low-head w c v u (omega arith) e .0 in not-white c l h (subst WhiteSpace y x)
+
+no-cons : {A : Type 0} {b : ℕ} {l : List ℕ} → [] ≡ b ∷ l → A
+no-cons e = let z : _≡_ {A = ℕ} 0 1 = cc in absurd (omega arith)
+
+all-white : (vs bs : List ℕ) (c : ℕ) (u : List ℕ) → Each WhiteSpace vs → Each P.Blank bs → Plain c → written encode vs ≡ bs ++ (c ∷ u) → ⊥
+unfolding written
+all-white [] [] c u x y p e = no-cons e
+all-white [] (b ∷ bs) c u x y p e = no-cons e
+all-white (a ∷ vs) [] c u x y p e = white-head a c (written encode vs) u (x .0) (omega (arith, p)) (p .1) e
+all-white (a ∷ vs) (b ∷ bs) c u x y p e = all-white vs bs c u (x .1) (y .1) p (low-head a b (written encode vs) (bs ++ (c ∷ u)) (blank-low b (y .0)) e .1)
+
+-- what is trimmed before a value is the blanks before it
+module _ (m vs : List ℕ) (c : ℕ) (u : List ℕ) (x : Each WhiteSpace vs) (p : Plain c) (starts : (d : ℕ) (t : List ℕ) → WhiteSpace d → m ≡ encode d ++ t → ⊥) where
+  trims-blank : (ws bs : List ℕ) → Each WhiteSpace ws → Each P.Blank bs → written encode ws ++ (m ++ written encode vs) ≡ bs ++ (c ∷ u) → m ++ written encode vs ≡ c ∷ u
+  unfolding written
+  trims-blank [] [] q y e = e
+  trims-blank [] (b ∷ bs) q y e = absurd (go m starts e)
+    where
+      go : (n : List ℕ) → ((d : ℕ) (t : List ℕ) → WhiteSpace d → n ≡ encode d ++ t → ⊥) → n ++ written encode vs ≡ b ∷ (bs ++ (c ∷ u)) → ⊥
+      go [] s f = all-white vs (b ∷ bs) c u x y p f
+      go (d ∷ n) s f =
+          let g : d ≡ b = cc in
+          s b n (blank-white b (y .0)) (rw (enc1 b (blank-low b (y .0))) (ap (λ (k : ℕ). k ∷ n) g))
+  trims-blank (w ∷ ws) [] q y e = absurd (white-head w c (written encode ws ++ (m ++ written encode vs)) u (q .0) (omega (arith, p)) (p .1) (sym (append-assoc (encode w) (written encode ws) (m ++ written encode vs)) ∙ e))
+  trims-blank (w ∷ ws) (b ∷ bs) q y e =
+      trims-blank ws bs (q .1) (y .1)
+      (low-head w b (written encode ws ++ (m ++ written encode vs)) (bs ++ (c ∷ u)) (blank-low b (y .0)) (sym (append-assoc (encode w) (written encode ws) (m ++ written encode vs)) ∙ e) .1)
+
+-- a text before white characters that starts with plain bytes has them all, and then ends or splits
+leads : (t m vs r : List ℕ) → Each Plain t → Each WhiteSpace vs → P.Ends r → m ++ written encode vs ≡ t ++ r → (v : List ℕ) × (m ≡ t ++ v) × Stops v
+unfolding written
+leads [] [] vs r p x n e = ([], refl, tt)
+leads [] (y ∷ m) vs [] p x n e = no-cons (sym e)
+leads [] (y ∷ m) vs (b ∷ r) p x n e = let f : b ≡ y = cc in (y ∷ m, refl, blank-splits y (subst P.Blank f n))
+leads (c ∷ t) [] [] r p x n e = no-cons e
+leads (c ∷ t) [] (a ∷ vs) r p x n e = absurd (white-head a c (written encode vs) (t ++ r) (x .0) (omega (arith, p .0)) (p .0 .1) e)
+leads (c ∷ t) (y ∷ m) vs r p x n e =
+    let f : y ≡ c = cc in
+    let g : m ++ written encode vs ≡ t ++ r = cc in
+    let h = leads t m vs r (p .1) x n g in
+    let k = h .1 in
+    (h .0, cc, h .2)
+
+-- the trimmed part of a line where a value stands: the value, and then nothing or a byte that splits
+standing : (l t m : List ℕ) → Word t → P.Stands l t → Trimmed WhiteSpace encode l m → (v : List ℕ) × (m ≡ t ++ v) × Stops v
+standing l [] m w s x = absurd (omega (arith, w .some))
+standing l (c ∷ t) m w s x =
+    leads (c ∷ t) m (x .after) (s .rest) (w .each) (x .white-after) (s .ends)
+    (trims-blank m (x .after) c (t ++ s .rest) (x .white-after) (w .each .0) (x .starts) (x .before) (s .before) (x .white-before) (s .blank) (sym (x .whole) ∙ s .whole))
+
+-- a line where a value stands is no text, or its token is the value
+pub value-line : (l t : List ℕ) (x : Meaning) → Word t → P.Stands l t → Line strict l x → (x ≡ invalid) ⊎ ((m : List ℕ) × (x ≡ content m t))
+value-line l t x w s (Line.not-text n e) = inl e
+value-line l t x w s (Line.drops r m y d e) = absurd (go t w (standing l t m w s y .0) (standing l t m w s y .1) d)
+  where
+    go : (u : List ℕ) → Word u → (v : List ℕ) → m ≡ u ++ v → EmptyOrComment m → ⊥
+    go [] k v f g = omega (arith, k .some)
+    go (c ∷ u) k v f (EmptyOrComment.empty g) = no-cons (sym g ∙ f)
+    go (c ∷ u) k v f (EmptyOrComment.comment q g) = let h : c ≡ 33 = cc in omega (arith, k .each .0)
+value-line l t x w s (Line.says r m u y n q e) =
+    let k = standing l t m w s y in
+    let f : u ≡ t = sym (one-token m u q) ∙ one-token m t (record { rest = k .0; whole = k .1; inside = unsplit t (w .each); stops = k .2 }) in
+    inr (m, e ∙ ap (content m) f)
+
+-- a comment as published is no text, or drops out
+pub comment-line : (l : List ℕ) (x : Meaning) → P.Comment l → Line strict l x → (x ≡ invalid) ⊎ (x ≡ dropped)
+unfolding written
+comment-line [] x c y = absurd c
+comment-line (b ∷ l) x c (Line.not-text n e) = inl e
+comment-line (b ∷ l) x c (Line.drops r m y d e) = inr e
+comment-line (b ∷ l) x c (Line.says r m t y n q e) = absurd (n (go (y .before) m (y .white-before) (y .whole)))
+  where
+    go : (ws u : List ℕ) → Each WhiteSpace ws → b ∷ l ≡ written encode ws ++ (u ++ written encode (y .after)) → EmptyOrComment u
+    go [] [] k f = EmptyOrComment.empty refl
+    go [] (d ∷ u) k f = let g : d ≡ 33 = cc in EmptyOrComment.comment u (ap (λ (i : ℕ). i ∷ u) g)
+    go (w ∷ ws) u k f =
+        let v = written encode ws ++ (u ++ written encode (y .after)) in
+        absurd (white-head w b v l (k .0) (omega (arith, c)) (omega (arith, c)) (sym (append-assoc (encode w) (written encode ws) (u ++ written encode (y .after))) ∙ sym f))
+
+-- each of the lines holds the value beside it
+abbrev pub Holds : List (List ℕ) → List (List ℕ) → Type 0
+Holds [] [] = Unit {0}
+Holds [] (u ∷ us) = ⊥
+Holds (l ∷ ls) [] = ⊥
+Holds (l ∷ ls) (u ∷ us) = (Word u × P.Stands l u) × Holds ls us
+
+-- the tokens of the lines are the values of those that are kept
+pub same-tokens : {ls ks : List (List ℕ)} → P.Kept ls ks → (xs : List Meaning) → EachLine strict ls xs → (ts us : List (List ℕ)) → Tokens xs ts → Holds ks us → ts ≡ us
+same-tokens P.Kept.none [] e [] [] t h = refl
+same-tokens P.Kept.none [] e [] (u ∷ us) t h = absurd h
+same-tokens P.Kept.none [] e (v ∷ ts) us t h = absurd t
+same-tokens P.Kept.none (x ∷ xs) e ts us t h = absurd e
+same-tokens (P.Kept.comment c k) [] e ts us t h = absurd e
+same-tokens (P.Kept.comment {l = l} c k) (x ∷ xs) e ts us t h = go (comment-line l x c (e .0)) (λ r. same-tokens k xs (e .1) ts us r h)
+  where
+    go : (x ≡ invalid) ⊎ (x ≡ dropped) → (Tokens xs ts → ts ≡ us) → ts ≡ us
+    go (inl f) ih = absurd (subst (λ (y : Meaning). Tokens (y ∷ xs) ts) f t)
+    go (inr f) ih = ih (subst (λ (y : Meaning). Tokens (y ∷ xs) ts) f t)
+same-tokens (P.Kept.kept n k) [] e ts us t h = absurd e
+same-tokens (P.Kept.kept n k) (x ∷ xs) e ts [] t h = absurd h
+same-tokens (P.Kept.kept {l = l} n k) (x ∷ xs) e ts (u ∷ us) t h = go (value-line l u x (h .0 .0) (h .0 .1) (e .0)) ts t (λ rs r. same-tokens k xs (e .1) rs us r (h .1))
+  where
+    go : (x ≡ invalid) ⊎ ((m : List ℕ) × (x ≡ content m u)) → (rs : List (List ℕ)) → Tokens (x ∷ xs) rs → ((qs : List (List ℕ)) → Tokens xs qs → qs ≡ us) → rs ≡ u ∷ us
+    go (inl f) rs r ih = absurd (subst (λ (y : Meaning). Tokens (y ∷ xs) rs) f r)
+    go (inr (m, f)) [] r ih = absurd (subst (λ (y : Meaning). Tokens (y ∷ xs) []) f r)
+    go (inr (m, f)) (v ∷ rs) r ih =
+        let q = subst (λ (y : Meaning). Tokens (y ∷ xs) (v ∷ rs)) f r in
+        let a = q .0 in
+        let b = ih rs (q .1) in
+        cc
