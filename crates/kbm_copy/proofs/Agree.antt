@@ -18,10 +18,10 @@ use Rattle.kbm_write.specs.Export.{exportText}
 use Rattle.kbm_write.specs.Published as P
 use Rattle.kbm_write.specs.Typed.{Typed}
 use Rattle.kbm_write.proofs.Published.{publishedOf, export-published}
-use Rattle.numeral.specs.DecimalText.{Signed, Form, FloatText, Unsupported, DecimalText}
-use Rattle.numeral.specs.Digits.{AllDigits}
-use Rattle.numeral.specs.IntegerText.{Digits, IntText}
-use Rattle.numeral.proofs.DecimalLanguage.{gives-complete, leaves-complete, one-reading}
+use Rattle.decimals.specs.DecimalText.{OptionalSign, Form, FloatText, Unsupported, DecimalText}
+use Rattle.integers.specs.Digits.{AllDigits}
+use Rattle.integers.specs.IntegerText.{Digits, IntText}
+use Rattle.decimals.proofs.Language.{gives-complete, leaves-complete, one-reading}
 use Rattle.kbm_write.proofs.Plain.{Plain, Word, each-append}
 use Rattle.text.specs.Characters.{Each}
 use Rattle.text.specs.Reading.{strict, EachLine}
@@ -54,7 +54,7 @@ whole-agrees sign top t z w (P.Whole.minus v n q d e) (IntText.minus u k s p c h
 -- a frequency as published has the same nearest f64
 pub hertz-agrees : (t : List ℕ) (n k : ℕ) (v : Float) → P.Hertz t n k → DecimalText t v → v ≡ round binary64 false n (10 ^ k)
 hertz-agrees t n k v h d =
-    let text : FloatText t (Form.plain false (h .whole) (h .part)) = FloatText.plain (Signed.none refl refl) (h .digits) in
+    let text : FloatText t (Form.plain false (h .whole) (h .part)) = FloatText.plain (OptionalSign.none refl refl) (h .digits) in
     let both : Unsupported (Form.plain false (h .whole) (h .part)) → ⊥ =
     λ u. let p = gives-complete t v d in
     let q = leaves-complete t (record { form = Form.plain false (h .whole) (h .part); text = text; cause = u }) in

@@ -18,12 +18,12 @@ use Rattle.base.specs.Said.{gives, refuses}
 use Rattle.base.proofs.Integers.{mag-in}
 use Rattle.base.proofs.Said.{same-value}
 use Rattle.floats.specs.Ranges.{inPitch}
-use Rattle.numeral.specs.DecimalScan.{readDecimal}
-use Rattle.numeral.specs.Integer.{Int, value, none, readInt}
-use Rattle.numeral.specs.PrintText.{textOf, wholeText}
-use Rattle.numeral.specs.declared.decimal.DecimalAnswer.the-variants as decimal
-use Rattle.numeral.proofs.DecimalLanguage.{gives-complete}
-use Rattle.numeral.proofs.IntegerLanguage.{sound, complete}
+use Rattle.decimals.specs.DecimalScan.{readDecimal}
+use Rattle.integers.specs.Integer.{Int, value, none, readInt}
+use Rattle.printing.specs.PrintText.{textOf, wholeText}
+use Rattle.decimals.specs.declared.DecimalAnswer.the-variants as decimal
+use Rattle.decimals.proofs.Language.{gives-complete}
+use Rattle.integers.proofs.Language.{sound, complete}
 use Rattle.kbm.specs.Table.{inI16}
 use Rattle.kbm.specs.declared.Entry.{Entry}
 use Rattle.kbm.specs.declared.Kbm.{Kbm}

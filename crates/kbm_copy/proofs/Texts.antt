@@ -18,8 +18,8 @@ use Rattle.kbm_read.specs.Reader.{readOf}
 use Rattle.kbm_write.specs.Export.{exportOf, sizeOf}
 use Rattle.kbm_write.proofs.Lines.{whole-short}
 use Rattle.kbm_write.proofs.Room.{Fitting, pick-fitting, then-fitting, export-fitting}
-use Rattle.numeral.specs.PrintText.{wholeText}
-use Rattle.numeral.proofs.PrintTexts.{sets-append}
+use Rattle.printing.specs.PrintText.{wholeText}
+use Rattle.printing.proofs.Texts.{sets-append}
 use Rattle.kbm_copy.specs.Copy.{capped, wordText, numberText, refusedText, tableAfter, copyOf, printedOf, printedIn}
 
 -- a text written from the first byte on

@@ -13,13 +13,13 @@ use lib.Signed.{leZ, mag}
 use borrow.Author.Tests.{lt-leb, le-ltb, ne-eqb}
 use Rattle.base.specs.Said.{gives}
 use Rattle.floats.specs.Ranges.{inPitch}
-use Rattle.numeral.specs.DecimalScan.{readDecimal}
-use Rattle.numeral.specs.Digits.{AllDigits}
-use Rattle.numeral.specs.Integer.{value, readInt}
-use Rattle.numeral.specs.IntegerText.{IntText}
-use Rattle.numeral.specs.PrintText.{wholeText}
-use Rattle.numeral.specs.declared.decimal.DecimalAnswer.the-variants as decimal
-use Rattle.numeral.proofs.IntegerLanguage.{complete}
+use Rattle.decimals.specs.DecimalScan.{readDecimal}
+use Rattle.integers.specs.Digits.{AllDigits}
+use Rattle.integers.specs.Integer.{value, readInt}
+use Rattle.integers.specs.IntegerText.{IntText}
+use Rattle.printing.specs.PrintText.{wholeText}
+use Rattle.decimals.specs.declared.DecimalAnswer.the-variants as decimal
+use Rattle.integers.proofs.Language.{complete}
 use Rattle.kbm.specs.Table.{inI16}
 use Rattle.kbm.specs.declared.Entry.{Entry}
 use Rattle.kbm.specs.declared.Entry.the-variants.{Mapped, Unmapped}

@@ -8,7 +8,7 @@ use lib.ListN.{length}
 use Rattle.base.specs.Numbers.{no-room}
 use Rattle.base.specs.Said.{Said, gives, refuses, pick, andThen}
 use Rattle.base.specs.Tables.{over, after}
-use Rattle.numeral.specs.PrintText.{wholeText}
+use Rattle.printing.specs.PrintText.{wholeText}
 use Rattle.kbm.specs.Table.{numbersOf}
 use Rattle.kbm_read.specs.Reader.{readOf, entriesIn}
 use Rattle.kbm_write.specs.Export.{exportOf}

@@ -3,7 +3,7 @@
 use base::Refusal;
 use kbm::KbmAnswer;
 use kbm_write::SizeAnswer;
-use numeral::print::Placed;
+use printing::Placed;
 ghost use mathlib.Core.Path.{_≡_};
 ghost use Prim.Native.Nat.{_+_, _≤_};
 ghost use lib.ListN.{length};
@@ -72,7 +72,7 @@ fn write_number(n: u32, end: u8, out: &mut [u8], at: usize) -> usize
     ensures { λ r. ⌜ r ≡ at + length (numberText n end) ⌝ }
     ensures { λ r. ⌜ now (out .exit) ≡ sets (now (out .entry)) at (numberText n end) ⌝ }
 {
-    let Placed::At(next) = numeral::print::write_u32(n, out, at) else {
+    let Placed::At(next) = printing::write_u32(n, out, at) else {
         return at;
     };
     out[next] = end;

@@ -3,7 +3,7 @@
 use native.Mathlib.Omega.{arith}
 use denote.Ref.{now}
 use lib.IntN.{pos}
-use Rattle.numeral.specs.PrintText.{wholeText}
+use Rattle.printing.specs.PrintText.{wholeText}
 use Rattle.kbm_write.proofs.Lines.{not-full, line-end, line-fits, line-written}
 use borrow.Author.Needs.{needs}
 use Rattle.kbm_copy.proofs.write_number.Statement.{statement}
