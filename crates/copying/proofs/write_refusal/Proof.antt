@@ -3,11 +3,11 @@
 use mathlib.Core.Path.{_∙_}
 use native.Mathlib.Omega.{arith}
 use denote.Ref.{now}
-use Rattle.kbm_copy.specs.Copy.{capped, refusedText}
-use Rattle.kbm_copy.proofs.Texts.{number-short, refused-length, refused-written, sets-over}
+use Rattle.copying.specs.Copy.{capped, refusedText}
+use Rattle.copying.proofs.Texts.{number-short, refused-length, refused-written, sets-over}
 use borrow.Author.Needs.{needs}
-use Rattle.kbm_copy.proofs.write_refusal.Statement.{statement}
-use Rattle.kbm_copy.proofs.write_refusal.Tie as tie
+use Rattle.copying.proofs.write_refusal.Statement.{statement}
+use Rattle.copying.proofs.write_refusal.Tie as tie
 
 write-word-requires : tie.Need-write-word-requires
 write-word-requires c κs = search needs

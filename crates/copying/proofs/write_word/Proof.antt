@@ -3,8 +3,8 @@
 use native.Mathlib.Omega.{arith}
 use lib.ListN.{length-set}
 use borrow.Author.Needs.{needs}
-use Rattle.kbm_copy.proofs.write_word.Statement.{statement}
-use Rattle.kbm_copy.proofs.write_word.Tie as tie
+use Rattle.copying.proofs.write_word.Statement.{statement}
+use Rattle.copying.proofs.write_word.Tie as tie
 
 slice-write-out : tie.Need-slice-write-out
 slice-write-out c = search needs

@@ -21,7 +21,7 @@ use Rattle.kbm_read.specs.Language.{Fault}
 use Rattle.kbm_read.specs.Reader.{readOf}
 use Rattle.kbm_read.proofs.Language.{refused}
 use Rattle.kbm_write.specs.Export.{lastOf, middleOf, exportText, fitted, heldText, exportOf}
-use Rattle.kbm_copy.specs.Copy.{tableAfter, copyOf, capped}
+use Rattle.copying.specs.Copy.{tableAfter, copyOf, capped}
 
 -- a text has no more lines than bytes, and each line says one thing
 lines-few : {s : List ℕ} {ls : List (List ℕ)} → Lines s ls → length ls ≤ length s

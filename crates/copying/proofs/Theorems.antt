@@ -9,7 +9,7 @@ use Rattle.base.proofs.Said.{One, one-result}
 use Rattle.kbm_write.specs.Answers.{saysSize}
 use Rattle.kbm_write.specs.Export.{sizeOf}
 use Rattle.kbm_write.proofs.Theorems.{size-one}
-use Rattle.kbm_copy.specs.Copy.{copyOf, mapAfter, printedIn, mapIn}
+use Rattle.copying.specs.Copy.{copyOf, mapAfter, printedIn, mapIn}
 
 module _ (text : List ℕ) (map : List ℤ) (out : List ℕ) where
   pub copy-one : One saysSize (sizeOf (copyOf text map (length out)))

@@ -5,11 +5,11 @@ use denote.Ref.{now}
 use lib.ListN.{length}
 use borrow.Author.Tests.{lt-ltb, le-ltb}
 use Rattle.kbm_write.specs.Answers.{saysSize}
-use Rattle.kbm_copy.specs.Copy.{copyOf, printedIn}
-use Rattle.kbm_copy.proofs.Texts.{copied-text, copied-not, bounded}
+use Rattle.copying.specs.Copy.{copyOf, printedIn}
+use Rattle.copying.proofs.Texts.{copied-text, copied-not, bounded}
 use borrow.Author.Needs.{needs}
-use Rattle.kbm_copy.proofs.print_copy.Statement.{statement}
-use Rattle.kbm_copy.proofs.print_copy.Tie as tie
+use Rattle.copying.proofs.print_copy.Statement.{statement}
+use Rattle.copying.proofs.print_copy.Tie as tie
 
 returns : tie.Need-returns
 unfolding printedIn

@@ -3,8 +3,8 @@
 use Prim.Native.Nat.{_^_}
 use borrow.Author.Tests.{lt-ltb, le-ltb}
 use borrow.Author.Needs.{needs}
-use Rattle.kbm_copy.proofs.narrow.Statement.{statement}
-use Rattle.kbm_copy.proofs.narrow.Tie as tie
+use Rattle.copying.proofs.narrow.Statement.{statement}
+use Rattle.copying.proofs.narrow.Tie as tie
 
 cast-result : tie.Need-cast-result
 cast-result c = search needs

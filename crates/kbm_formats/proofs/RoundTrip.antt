@@ -38,7 +38,7 @@ use Rattle.kbm_write.proofs.ExportLines.{exportTexts, export-found}
 use Rattle.kbm_write.proofs.Plain.{selves}
 use Rattle.kbm_write.proofs.Printed.{size-reads, reads-only, pitch-reads}
 use Rattle.kbm_write.specs.Typed.{Typed}
-use Rattle.kbm_copy.proofs.Walk.{whole-value, headIs, head-read, entries-read, ends-read, entries-given, head-given}
+use Rattle.kbm_formats.proofs.Walk.{whole-value, headIs, head-read, entries-read, ends-read, entries-given, head-given}
 
 -- an i16 by its magnitude
 in-i16 : (z : ℤ) → mag z < 32768 → inI16 z ≡ true

@@ -20,7 +20,7 @@ use Rattle.kbm_write.proofs.Lines.{whole-short}
 use Rattle.kbm_write.proofs.Room.{Fitting, pick-fitting, then-fitting, export-fitting}
 use Rattle.printing.specs.PrintText.{wholeText}
 use Rattle.printing.proofs.Texts.{sets-append}
-use Rattle.kbm_copy.specs.Copy.{capped, wordText, numberText, refusedText, tableAfter, copyOf, printedOf, printedIn}
+use Rattle.copying.specs.Copy.{capped, wordText, numberText, refusedText, tableAfter, copyOf, printedOf, printedIn}
 
 -- a text written from the first byte on
 pub sets-over : (l t : List ℕ) → length t ≤ length l → sets l 0 t ≡ over l t

@@ -6,8 +6,8 @@ use lib.IntN.{pos}
 use Rattle.printing.specs.PrintText.{wholeText}
 use Rattle.kbm_write.proofs.Lines.{not-full, line-end, line-fits, line-written}
 use borrow.Author.Needs.{needs}
-use Rattle.kbm_copy.proofs.write_number.Statement.{statement}
-use Rattle.kbm_copy.proofs.write_number.Tie as tie
+use Rattle.copying.proofs.write_number.Statement.{statement}
+use Rattle.copying.proofs.write_number.Tie as tie
 
 write-u32-requires : tie.Need-write-u32-requires
 write-u32-requires c κs = search needs

@@ -26,8 +26,8 @@ use Rattle.kbm_write.proofs.Plain.{Plain, Word, each-append}
 use Rattle.text.specs.Characters.{Each}
 use Rattle.text.specs.Reading.{strict, EachLine}
 use Rattle.text.proofs.LinesLanguage.{one-lines}
-use Rattle.kbm_copy.proofs.RoundTrip.{export-in-language}
-use Rattle.kbm_copy.proofs.Standing.{Holds, same-tokens}
+use Rattle.kbm_formats.proofs.RoundTrip.{export-in-language}
+use Rattle.kbm_formats.proofs.Standing.{Holds, same-tokens}
 
 -- VALUES
 

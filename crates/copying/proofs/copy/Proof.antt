@@ -5,10 +5,10 @@ use denote.Ref.{now}
 use lib.ListN.{length}
 use borrow.Author.Tests.{lt-ltb, le-ltb}
 use Rattle.kbm.specs.Answers.{saysKbm}
-use Rattle.kbm_copy.specs.Copy.{copyOf, mapAfter}
+use Rattle.copying.specs.Copy.{copyOf, mapAfter}
 use borrow.Author.Needs.{needs}
-use Rattle.kbm_copy.proofs.copy.Statement.{statement}
-use Rattle.kbm_copy.proofs.copy.Tie as tie
+use Rattle.copying.proofs.copy.Statement.{statement}
+use Rattle.copying.proofs.copy.Tie as tie
 
 returns : tie.Need-returns
 unfolding copyOf mapAfter

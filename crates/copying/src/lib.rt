@@ -11,7 +11,7 @@ ghost use lib.Seq.{sets};
 ghost use Rattle.base.specs.Tables.{over, after};
 ghost use Rattle.kbm_write.specs.Answers.{saysSize};
 ghost use Rattle.kbm_write.specs.Export.{sizeOf};
-ghost use Rattle.kbm_copy.specs.Copy.{copyOf, capped, wordText, numberText, refusedText, mapAfter, printedIn, mapIn};
+ghost use Rattle.copying.specs.Copy.{copyOf, capped, wordText, numberText, refusedText, mapAfter, printedIn, mapIn};
 
 // The longest text that is read: "input over 65,536 bytes gives `refused 12 0`".
 pub const LONGEST: usize = 65536;
