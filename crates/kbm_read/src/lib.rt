@@ -2,11 +2,6 @@
 //
 // A first pass goes over the lines and finds the mapping or the first fault; a second, which cannot fail, writes the entries.
 use base::Refusal;
-use kbm::Entry;
-use kbm::Kbm;
-use kbm::KbmAnswer;
-use kbm::KbmRoot;
-use key::PianoKey;
 use decimals::DecimalAnswer;
 use decimals::read_decimal;
 use integers::I16;
@@ -15,6 +10,11 @@ use integers::U16;
 use integers::read_i16;
 use integers::read_i32;
 use integers::read_u16;
+use kbm::Entry;
+use kbm::Kbm;
+use kbm::KbmAnswer;
+use kbm::KbmRoot;
+use key::PianoKey;
 use pitch::Pitch;
 use text::line::LineSays;
 use text::line::read_line;
