@@ -11,7 +11,7 @@ use lib.ListN.{length, take, drop, length-append}
 use lib.Seq.{take-append-le, take-length}
 use borrow.Author.Tests.{le-leb}
 use Rattle.base.specs.Said.{gives}
-use Rattle.base.specs.Tables.{over, after}
+use Rattle.base.specs.Tables.{over}
 use Rattle.kbm.proofs.Table.{length-numbers, numbers-usable, numbers-back}
 use Rattle.kbm.specs.Table.{numbersOf, IsI16, AreI16, isTable, tableOf}
 use Rattle.kbm.specs.declared.Entry.{Entry}
@@ -19,7 +19,7 @@ use Rattle.kbm.specs.declared.Entry.the-variants.{Mapped}
 use Rattle.kbm.specs.declared.Kbm.{Kbm}
 use Rattle.integers.specs.IntegerText.{IntText}
 use Rattle.kbm_read.specs.Language.{EntryText, Entries, blanks, sizeOf, MappingText}
-use Rattle.kbm_read.specs.Reader.{readOf, entriesIn}
+use Rattle.kbm_read.specs.Reader.{readOf, entriesIn, afterRead}
 use Rattle.kbm_read.proofs.Ends.{length-added}
 use Rattle.kbm_read.proofs.Language.{accepted}
 
@@ -69,10 +69,7 @@ over-table old es a h =
 
 -- THE TABLE after an accepted read
 module _ (text : List ℕ) (old : List ℤ) {x : Kbm} (e : readOf (length old) text ≡ gives x) where
-  abbrev pub tableAfter : List ℤ
-  tableAfter = after (readOf (length old) text) (λ k. numbersOf (entriesIn (k .count) text)) old
-
-  pub leaves-table : (isTable (x .count) tableAfter ≡ true) × (tableOf (x .count) tableAfter ≡ entriesIn (x .count) text)
+  pub leaves-table : (isTable (x .count) (afterRead text old) ≡ true) × (tableOf (x .count) (afterRead text old) ≡ entriesIn (x .count) text)
   leaves-table =
       let a = accepted (length old) text x e in
       let t = a .0 in
