@@ -1,4 +1,4 @@
--- The detail of every refusal of a text of at most 65,536 bytes fits 32 bits: it is a line of the text, or less than 8.
+-- The detail of every refusal of a text of at most 65,537 bytes fits 32 bits: it is a line of the text, or less than 8.
 -- Assumes nothing.
 use mathlib.Core.Path.{_≡_, refl, ap}
 use mathlib.Core.List.{List, [], _∷_, _++_}
@@ -33,7 +33,7 @@ fault-detail (Fault.missing e done f more rq p vs b) = omega (arith, p, ap lengt
 fault-detail (Fault.at-end e vs es b f w) = omega (arith, e)
 
 -- so every detail is written whole
-pub detail-whole : (room : ℕ) (s : List ℕ) (n d : ℕ) → length s ≤ 65536 → readOf room s ≡ refuses n d → d < 2 ^ 32
+pub detail-whole : (room : ℕ) (s : List ℕ) (n d : ℕ) → length s ≤ 65537 → readOf room s ≡ refuses n d → d < 2 ^ 32
 detail-whole room s n d h e =
     let f = refused room s n d e in
     omega (arith, fault-detail (f .fault), lines-few (f .text .lines), each-one _ (f .text .parts) (f .says) (f .text .each), h)

@@ -18,7 +18,7 @@ use Rattle.kbm_read.proofs.Language.{accepts, refuses-fault}
 use Rattle.kbm_write.specs.Export.{exportText}
 use Rattle.copying.specs.Copy.{refusedText, printed}
 use Rattle.copying.specs.Prints.{Copied, Faulty, Prints}
-use Rattle.copying.proofs.Copies.{printed-long, printed-says}
+use Rattle.copying.proofs.Copies.{printed-long, printed-short, copy-says}
 
 module _ (s : List ℕ) where
   -- "prints its export": of every mapping file of at most 65,536 bytes with at most 8,192 entries, so that none is refused for what
@@ -26,11 +26,11 @@ module _ (s : List ℕ) where
   pub prints-export : (k : Kbm) (es : List Entry) → Copied s k es → printed s ≡ exportText k es
   prints-export k es c =
       let a = accepts 8192 s k es .1 (c .mapping, c .places) in
-      printed-says s (c .short) (a .0) ∙ ap (exportText k) (a .1)
+      printed-short s (c .short) ∙ copy-says s (a .0) ∙ ap (exportText k) (a .1)
 
   -- "or one line `refused NUMBER DETAIL`": the earliest fault of any other text
   pub prints-fault : (n d : ℕ) → Faulty s n d → printed s ≡ refusedText n d
-  prints-fault n d f = printed-says s (f .short) (refuses-fault 8192 s n d .1 (f .fault))
+  prints-fault n d f = printed-short s (f .short) ∙ copy-says s (refuses-fault 8192 s n d .1 (f .fault))
 
   -- "input over 65,536 bytes gives `refused 12 0`"
   pub prints-long : 65536 < length s → printed s ≡ refusedText no-room 0

@@ -29,6 +29,10 @@ abbrev pub printedAs : List ℕ → Said Kbm → List ℕ
 printedAs s (gives k) = exportText k (entriesIn (k .count) s)
 printedAs s (refuses number detail) = refusedText number detail
 
+-- the same with 8,192 entry places
+abbrev pub copyText : List ℕ → List ℕ
+copyText s = printedAs s (readOf 8192 s)
+
 -- THE PROGRAM: what is printed for an input
 unfoldable pub printed : List ℕ → List ℕ
-printed s = pick (ltb 65536 (length s)) (refusedText no-room 0) (printedAs s (readOf 8192 s))
+printed s = pick (ltb 65536 (length s)) (refusedText no-room 0) (copyText s)

@@ -13,7 +13,7 @@ ghost use Rattle.base.specs.Said.{gives};
 ghost use Rattle.base.specs.Tables.{over};
 ghost use Rattle.kbm.specs.Table.{tableOf};
 ghost use Rattle.kbm_write.specs.Export.{exportOf, exportText};
-ghost use Rattle.copying.specs.Copy.{wordText, numberText, refusedText, printed};
+ghost use Rattle.copying.specs.Copy.{wordText, numberText, refusedText, copyText, printed};
 
 // The longest text that is read: "input over 65,536 bytes gives `refused 12 0`".
 const LONGEST: usize = 65536;
@@ -80,12 +80,12 @@ fn write_export(mapping: Kbm, map: &[i32], out: &mut [u8]) -> usize
     }
 }
 
-// What is printed for a text that is not too long, from the first byte of `out` on, and how many bytes it takes; its entries pass
+// What is printed for a text, whatever its length, from the first byte of `out` on, and how many bytes it takes; its entries pass
 // through `map`.
 fn print_text(text: &[u8], map: &mut [i32], out: &mut [u8]) -> usize
-    requires { ⌜ (length (now text) ≤ 65536) × (length (now map) ≡ 8192) × (length (now out) ≡ 57417) ⌝ }
-    ensures { λ r. ⌜ (r ≡ length (printed (now (text .entry)))) × (r ≤ 57417) ⌝ }
-    ensures { λ r. ⌜ now (out .exit) ≡ over (now (out .entry)) (printed (now (text .entry))) ⌝ }
+    requires { ⌜ (length (now text) ≤ 65537) × (length (now map) ≡ 8192) × (length (now out) ≡ 57417) ⌝ }
+    ensures { λ r. ⌜ (r ≡ length (copyText (now (text .entry)))) × (r ≤ 57417) ⌝ }
+    ensures { λ r. ⌜ now (out .exit) ≡ over (now (out .entry)) (copyText (now (text .entry))) ⌝ }
 {
     match kbm_read::read_kbm(text, map) {
         KbmAnswer::Is(mapping) => write_export(mapping, map, out),

@@ -4,8 +4,7 @@ use mathlib.Core.Path.{refl}
 use native.Mathlib.Omega.{arith}
 use denote.Ref.{now}
 use lib.ListN.{take}
-use Rattle.base.specs.Numbers.{no-room}
-use Rattle.copying.proofs.Copies.{printed-long, first-long, first-short, line-printed}
+use Rattle.copying.proofs.Copies.{first-long, first-short, first-most, long-printed, short-printed}
 use borrow.Author.Needs.{needs}
 use Rattle.copying.proofs.print_copy.Statement.{statement}
 use Rattle.copying.proofs.print_copy.Tie as tie
@@ -17,24 +16,26 @@ returns : tie.Need-returns
 returns c =
     let s = c .before .before .before .before in
     let input = now (s .args .input) in
-    line-printed (take (s .args .n) input) (now (s .args .out)) no-room 0 (printed-long (take (s .args .n) input) (first-long input (s .args .n) (omega arith) (c .before .before .if1 .taken))) (c .write-refusal .ensures)
+    long-printed (take (s .args .n) input) (now (s .args .out)) (first-long input (s .args .n) (omega arith) (omega (arith, c .before .before .if1 .taken))) (c .write-refusal .ensures)
 
 slice-aggregate-print-text : tie.Need-slice-aggregate-print-text
 slice-aggregate-print-text c =
     let s = c .before .before .before in
-    first-short (now (s .args .input)) (s .args .n) (omega arith) (c .before .if1 .left)
+    first-short (now (s .args .input)) (s .args .n) (omega arith) (omega (arith, c .before .if1 .left))
 
 slice-aggregate-print-text-2 : tie.Need-slice-aggregate-print-text-2
 slice-aggregate-print-text-2 c = search needs
 
 print-text-requires : tie.Need-print-text-requires
-print-text-requires c κs =
-    let s = c .before .before .before .before .before in
-    let n = first-short (now (s .args .input)) (s .args .n) (omega arith) (c .before .before .before .if1 .left) in
-    (omega (arith, n, c .before .before .before .if1 .left), refl, omega arith)
+print-text-requires c κs = let s = c .before .before .before .before .before in (first-most (now (s .args .input)) (s .args .n) (omega arith), refl, omega arith)
 
 returns-2 : tie.Need-returns-2
-returns-2 c = search needs
+returns-2 c =
+    let e = c .before .before .before .before .before in
+    let s = e .before .before in
+    let input = now (s .args .input) in
+    let n = first-short input (s .args .n) (omega arith) (omega (arith, e .if1 .left)) in
+    short-printed (take (s .args .n) input) (now (s .args .out)) (omega (arith, n, e .if1 .left)) (c .before .print-text .ensures)
 
 pub print-copy-spec : {M : Type 1} → statement M
 print-copy-spec =
