@@ -16,7 +16,7 @@ use Rattle.kbm_write.specs.Export.{exportText, exportOf}
 use Rattle.copying.specs.Copy.{refusedText, printedAs, copyText, printed}
 use Rattle.copying.proofs.Details.{detail-whole}
 use Rattle.copying.proofs.Texts.{refused-short}
-use Rattle.copying.proofs.Written.{entries-left, read-written, written-fits}
+use Rattle.copying.proofs.Exports.{entries-left, read-written, written-fits}
 
 pub printed-long : (s : List ℕ) → 65536 < length s → printed s ≡ refusedText no-room 0
 unfolding printed
@@ -40,15 +40,15 @@ module _ (input : List ℕ) (n : ℕ) (all : length input ≡ 65537) where
   pub first-most : length (take n input) ≤ 65537
   first-most = simp length-take (omega arith)
 
--- WRITTEN: so many bytes, which have room, and they stand from the first byte on
-abbrev Written : List ℕ → List ℕ → ℕ → List ℕ → Type 0
-Written t l r m = ((r ≡ length t) × (r ≤ 57417)) × (m ≡ over l t)
+-- r bytes of the lent ones, which have room, are t from the first on; the others are as they were
+abbrev Filled : List ℕ → List ℕ → ℕ → List ℕ → Type 0
+Filled t l r m = ((r ≡ length t) × (r ≤ 57417)) × (m ≡ over l t)
 
-written-as : {t : List ℕ} (u l : List ℕ) {m : List ℕ} {r : ℕ} → u ≡ t → length t ≤ 57417 → (r ≡ length t) × (m ≡ over l t) → Written u l r m
-written-as u l e h w = rw e ((w .0, rw (w .0) h), w .1)
+filled-as : {t : List ℕ} (u l : List ℕ) {m : List ℕ} {r : ℕ} → u ≡ t → length t ≤ 57417 → (r ≡ length t) × (m ≡ over l t) → Filled u l r m
+filled-as u l e h w = rw e ((w .0, rw (w .0) h), w .1)
 
-line-written : (u l : List ℕ) (number detail : ℕ) {m : List ℕ} {r : ℕ} → u ≡ refusedText number detail → (r ≡ length (refusedText number detail)) × (m ≡ over l (refusedText number detail)) → Written u l r m
-line-written u l number detail e = written-as u l e (omega (arith, refused-short number detail))
+filled-line : (u l : List ℕ) (number detail : ℕ) {m : List ℕ} {r : ℕ} → u ≡ refusedText number detail → (r ≡ length (refusedText number detail)) × (m ≡ over l (refusedText number detail)) → Filled u l r m
+filled-line u l number detail e = filled-as u l e (omega (arith, refused-short number detail))
 
 -- a text, a table of 8,192 places and room for the longest export
 module _ (s : List ℕ) (old : List ℤ) (out : List ℕ) (p : (length s ≤ 65537) × (length old ≡ 8192) × (length out ≡ 57417)) where
@@ -60,8 +60,8 @@ module _ (s : List ℕ) (old : List ℤ) (out : List ℕ) (p : (length s ≤ 655
     pub detail-fits : d < 2 ^ 32
     detail-fits = detail-whole (length old) s n d (p .0) (sym e)
 
-    pub refusal-printed : {m : List ℕ} {r : ℕ} → (r ≡ length (refusedText n d)) × (m ≡ over out (refusedText n d)) → Written (copyText s) out r m
-    refusal-printed = line-written (copyText s) out n d (says e)
+    pub refusal-printed : {m : List ℕ} {r : ℕ} → (r ≡ length (refusedText n d)) × (m ≡ over out (refusedText n d)) → Filled (copyText s) out r m
+    refusal-printed = filled-line (copyText s) out n d (says e)
 
   -- a mapping was read
   module _ {k : Kbm} (e : gives k ≡ readOf (length old) s) {map : List ℤ} (left : map ≡ after (readOf (length old) s) (λ x. numbersOf (entriesIn (x .count) s)) old) where
@@ -74,15 +74,15 @@ module _ (s : List ℕ) (old : List ℤ) (out : List ℕ) (p : (length s ≤ 655
     pub export-given : exportOf k map (length out) ≡ gives text
     export-given = read-written s old (length out) room (sym e) left
 
-    pub export-printed : {m : List ℕ} {r : ℕ} → (r ≡ length text) × (m ≡ over out text) → Written (copyText s) out r m
+    pub export-printed : {m : List ℕ} {r : ℕ} → (r ≡ length text) × (m ≡ over out text) → Filled (copyText s) out r m
     export-printed =
-        written-as (copyText s) out (says e ∙ ap (exportText k) (sym (entries-left s old (length out) room (sym e) left)))
+        filled-as (copyText s) out (says e ∙ ap (exportText k) (sym (entries-left s old (length out) room (sym e) left)))
         (omega (arith, written-fits s old (length out) room (sym e) left, p .2))
 
 -- the length is tested first
 module _ (s l : List ℕ) {m : List ℕ} {r : ℕ} where
-  pub long-printed : 65536 < length s → (r ≡ length (refusedText no-room 0)) × (m ≡ over l (refusedText no-room 0)) → Written (printed s) l r m
-  long-printed h = line-written (printed s) l no-room 0 (printed-long s h)
+  pub long-printed : 65536 < length s → (r ≡ length (refusedText no-room 0)) × (m ≡ over l (refusedText no-room 0)) → Filled (printed s) l r m
+  long-printed h = filled-line (printed s) l no-room 0 (printed-long s h)
 
-  pub short-printed : length s ≤ 65536 → Written (copyText s) l r m → Written (printed s) l r m
+  pub short-printed : length s ≤ 65536 → Filled (copyText s) l r m → Filled (printed s) l r m
   short-printed h w = rw (printed-short s h) w

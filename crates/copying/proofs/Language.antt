@@ -47,8 +47,8 @@ module _ (s : List ℕ) where
       go (refuses n d) e = inr (n, d, record { short = h; fault = refuses-fault 8192 s n d .0 e })
 
   -- and not both
-  pub not-both : (k : Kbm) (es : List Entry) (n d : ℕ) → Copied s k es → Faulty s n d → ⊥
-  not-both k es n d c f =
+  pub copied-not-faulty : (k : Kbm) (es : List Entry) (n d : ℕ) → Copied s k es → Faulty s n d → ⊥
+  copied-not-faulty k es n d c f =
       let a : readOf 8192 s ≡ gives k = accepts 8192 s k es .1 (c .mapping, c .places) .0 in
       let b : readOf 8192 s ≡ refuses n d = refuses-fault 8192 s n d .1 (f .fault) in
       let z : _≡_ {A = ℕ} 0 1 = cc in

@@ -1,7 +1,7 @@
 pub mod Texts
 pub mod Details
 pub mod Given
-pub mod Written
+pub mod Exports
 pub mod Copies
 pub mod Language
 pub mod Theorems

@@ -28,11 +28,11 @@ use Rattle.kbm_write.proofs.Bound.{OfTypes, never-no-room}
 use Rattle.kbm_write.proofs.Room.{Fitting, export-fitting}
 
 -- a number that was read is within a type that holds its own
-in-type : (top most : ℕ) {t : List ℕ} {z : ℤ} → top ≤ suc most → IntText true top t z → leZ (negsuc most) z && leZ z (pos most) ≡ true
-in-type top most l (IntText.plain n d h e) = rw (e, le-leb n most (omega arith))
-in-type top most l (IntText.plus u n p d h e) = rw (e, le-leb n most (omega arith))
-in-type top most l (IntText.minus u zero g p d h e) = rw (e, le-leb 0 most (omega arith))
-in-type top most l (IntText.minus u (suc n) g p d h e) = rw (e, le-leb n most (omega arith))
+within-type : (top most : ℕ) {t : List ℕ} {z : ℤ} → top ≤ suc most → IntText true top t z → leZ (negsuc most) z && leZ z (pos most) ≡ true
+within-type top most l (IntText.plain n d h e) = rw (e, le-leb n most (omega arith))
+within-type top most l (IntText.plus u n p d h e) = rw (e, le-leb n most (omega arith))
+within-type top most l (IntText.minus u zero g p d h e) = rw (e, le-leb 0 most (omega arith))
+within-type top most l (IntText.minus u (suc n) g p d h e) = rw (e, le-leb n most (omega arith))
 
 -- the key after the last
 pos-next : (n : ℕ) → n < 2 ^ 31 → (pos n ≡ pos 2147483647 → ⊥) → inI32 (pos n +ℤ pos 1) ≡ true
@@ -57,12 +57,12 @@ Known Required.octave z = inI16 z ≡ true
 
 known : (f : Required) (t : List ℕ) (v : Value f) → Gives f t v → Known f v
 known Required.size t n g = tt
-known Required.first t z g = in-type (2 ^ 31) 2147483647 (lit≤ tt) g
-known Required.last t z g = (in-type (2 ^ 31) 2147483647 (lit≤ tt) (g .0), after-last (g .0) (g .1))
-known Required.middle t z g = in-type (2 ^ 15) 2147483647 (lit≤ tt) g
-known Required.reference t z g = in-type (2 ^ 15) 2147483647 (lit≤ tt) g
+known Required.first t z g = within-type (2 ^ 31) 2147483647 (lit≤ tt) g
+known Required.last t z g = (within-type (2 ^ 31) 2147483647 (lit≤ tt) (g .0), after-last (g .0) (g .1))
+known Required.middle t z g = within-type (2 ^ 15) 2147483647 (lit≤ tt) g
+known Required.reference t z g = within-type (2 ^ 15) 2147483647 (lit≤ tt) g
 known Required.pitch t v g = g .1
-known Required.octave t z g = in-type (2 ^ 15) 32767 (lit≤ tt) g
+known Required.octave t z g = within-type (2 ^ 15) 32767 (lit≤ tt) g
 
 abbrev AllKnown : (fs : List Required) → Values fs → Type 0
 AllKnown [] vs = Unit {0}
@@ -74,11 +74,11 @@ all-known (f ∷ fs) [] vs g = absurd g
 all-known (f ∷ fs) (t ∷ ts) vs g = (known f t (vs .0) (g .0), all-known fs ts (vs .1) (g .1))
 
 -- what is known of a mapping that was read
-pub record Read (k : Kbm) : Type 0 where
-  pub types : OfTypes k
-  pub pitch : inPitch (k .root .pitch .0) ≡ true
-  pub last : inI32 (lastOf k) ≡ true
-  pub middle : inI32 (middleOf k) ≡ true
+record Read (k : Kbm) : Type 0 where
+  types : OfTypes k
+  pitch : inPitch (k .root .pitch .0) ≡ true
+  last : inI32 (lastOf k) ≡ true
+  middle : inI32 (middleOf k) ≡ true
 
 by-values : (vs : Values required) → AllKnown required vs → sizeOf vs < 65536 → Read (mappingFrom vs)
 by-values (n, (lowest, (highest, (mid, (ref, (hz, (formal, o))))))) (_, (first, (last, (middle, (reference, (pitch, (octave, _))))))) small =
@@ -91,7 +91,7 @@ by-values (n, (lowest, (highest, (mid, (ref, (hz, (formal, o))))))) (_, (first, 
       middle = rw is-middle middle;
     }
 
-pub mapping-read : {s : List ℕ} {k : Kbm} {es : List Entry} → MappingText s k es → Read k
+mapping-read : {s : List ℕ} {k : Kbm} {es : List Entry} → MappingText s k es → Read k
 mapping-read t = rw (t .mapping) (by-values (t .values) (all-known required (t .lines .first) (t .values) (t .lines .values)) (small-size (t .lines)))
 
 -- WHAT WAS READ IS WRITTEN: into so many bytes for the table's places, and as the entries that the text has
