@@ -9,4 +9,5 @@ pub mod Numbers
 pub mod Scans
 pub mod Language
 pub mod Samples
+pub mod Exact
 pub mod Theorems

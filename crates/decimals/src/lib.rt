@@ -12,6 +12,9 @@ ghost use lib.Ieee.{binary64};
 const MOST_DIGITS: usize = 18;
 // 01: "or over 18 digits after the dot".
 const MOST_PLACES: usize = 18;
+// 2^53: every whole number up to here is an f64, and so is every power of ten up to 10^18. So one division, which rounds once,
+// gives the nearest.
+const MOST_EXACT: u64 = 0x20_0000_0000_0000;
 // 10^17: a number from here on has 18 digits.
 const LEAST_OF_18_DIGITS: u64 = 100_000_000_000_000_000;
 
@@ -287,8 +290,8 @@ fn nearest_decimal(n: u64, k: u64) -> f64
     requires { ⌜ (n < 10 ^ 18) × (k ≤ 18) ⌝ }
     ensures { λ r. ⌜ r ≡ Ieee.round binary64 false n (10 ^ k) ⌝ }
 {
-    if n == 0 {
-        return 0.0;
+    if n <= MOST_EXACT {
+        return (n as f64) / std::num::nearest_u64_to_f64(floats::pow10(k));
     }
     if k == 0 {
         return std::num::nearest_u64_to_f64(n);

@@ -70,7 +70,7 @@ fn write_entry(z: i32, out: &mut [u8], at: usize) -> usize
     ensures { λ r. ⌜ r ≡ at + length (line (entryText (entryOf z))) ⌝ }
     ensures { λ r. ⌜ now (out .exit) ≡ sets (now (out .entry)) at (line (entryText (entryOf z))) ⌝ }
 {
-    if z <= kbm::UNMAPPED {
+    if z == kbm::UNMAPPED {
         out[at] = b'x';
         out[at + 1] = b'\n';
         return at + 2;

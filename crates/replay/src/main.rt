@@ -2,7 +2,11 @@
 // answer, which is a number or `!` and the number of a refusal. Writes how many are the same and how many differ. The list
 // is made by `oracle freeze`.
 use base::Refusal;
+use decimals::DecimalAnswer;
 use floats::FloatAnswer;
+use integers::I32;
+use integers::U16;
+use integers::U32;
 use key::KeyAnswer;
 use key::MidiAnswer;
 use key::PianoKey;
@@ -10,10 +14,6 @@ use libc::STDIN_FILENO;
 use libc::STDOUT_FILENO;
 use math::I32Answer;
 use math::U32Answer;
-use decimals::DecimalAnswer;
-use integers::I32;
-use integers::U16;
-use integers::U32;
 use pitch::Ratio;
 use pitch::RatioAnswer;
 use pitch::nearest::NearestAnswer;

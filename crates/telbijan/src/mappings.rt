@@ -17,8 +17,7 @@ ghost use Rattle.kbm.specs.Builder.{pushed, afterPush, built};
 ghost use Rattle.kbm.specs.Degree.{scaleDegreeOf};
 ghost use Rattle.kbm.specs.Root.{rootOf};
 ghost use Rattle.kbm.specs.declared.Entry.the-variants.{Mapped, Unmapped};
-ghost use Rattle.kbm.specs.Table.{numbersOf};
-ghost use Rattle.kbm_read.specs.Reader.{readOf, entriesIn};
+ghost use Rattle.kbm_read.specs.Reader.{readOf, afterRead};
 ghost use Rattle.kbm_write.specs.Export.{exportOf, sizeOf};
 ghost use Rattle.telbijan.specs.Interface.{result, kept, mapped};
 ghost use Rattle.telbijan.specs.Mappings.{rootWith, mappingWith, octaveWith, builderWith, pushingWith};
@@ -245,7 +244,7 @@ pub extern "C" fn telbijan_read_kbm(
     octave: &mut i16,
 ) -> u64
     ensures { λ r. ⌜ r ≡ result (readOf (length (now (map .entry))) (now (text .entry))) ⌝ }
-    ensures { λ _. ⌜ now (map .exit) ≡ after (readOf (length (now (map .entry))) (now (text .entry))) (λ k. numbersOf (entriesIn (k .count) (now (text .entry)))) (now (map .entry)) ⌝ }
+    ensures { λ _. ⌜ now (map .exit) ≡ afterRead (now (text .entry)) (now (map .entry)) ⌝ }
     ensures { λ _. ⌜ now (count .exit) ≡ kept (mapped (λ k. k .count) (readOf (length (now (map .entry))) (now (text .entry)))) (now (count .entry)) ⌝ }
     ensures { λ _. ⌜ now (start .exit) ≡ kept (mapped (λ k. k .start .0) (readOf (length (now (map .entry))) (now (text .entry)))) (now (start .entry)) ⌝ }
     ensures { λ _. ⌜ now (end .exit) ≡ kept (mapped (λ k. k .end .0) (readOf (length (now (map .entry))) (now (text .entry)))) (now (end .entry)) ⌝ }
