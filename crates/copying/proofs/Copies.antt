@@ -8,10 +8,10 @@ use lib.ListN.{length, take, length-take}
 use borrow.Author.Tests.{lt-ltb, le-ltb}
 use Rattle.base.specs.Numbers.{no-room}
 use Rattle.base.specs.Said.{Said, gives, refuses}
-use Rattle.base.specs.Tables.{over, after}
-use Rattle.kbm.specs.Table.{numbersOf, tableOf}
+use Rattle.base.specs.Tables.{over}
+use Rattle.kbm.specs.Table.{tableOf}
 use Rattle.kbm.specs.declared.Kbm.{Kbm}
-use Rattle.kbm_read.specs.Reader.{readOf, entriesIn}
+use Rattle.kbm_read.specs.Reader.{readOf, afterRead}
 use Rattle.kbm_write.specs.Export.{exportText, exportOf}
 use Rattle.copying.specs.Copy.{refusedText, printedAs, copyText, printed}
 use Rattle.copying.proofs.Details.{detail-whole}
@@ -64,7 +64,7 @@ module _ (s : List ℕ) (old : List ℤ) (out : List ℕ) (p : (length s ≤ 655
     refusal-printed = filled-line (copyText s) out n d (says e)
 
   -- a mapping was read
-  module _ {k : Kbm} (e : gives k ≡ readOf (length old) s) {map : List ℤ} (left : map ≡ after (readOf (length old) s) (λ x. numbersOf (entriesIn (x .count) s)) old) where
+  module _ {k : Kbm} (e : gives k ≡ readOf (length old) s) {map : List ℤ} (left : map ≡ afterRead s old) where
     abbrev text : List ℕ
     text = exportText k (tableOf (k .count) map)
 

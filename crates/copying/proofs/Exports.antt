@@ -12,14 +12,13 @@ use lib.Signed.{leZ}
 use borrow.Author.Tests.{lt-ltb, le-leb}
 use Rattle.base.specs.Integers.{inI32}
 use Rattle.base.specs.Said.{gives}
-use Rattle.base.specs.Tables.{after}
 use Rattle.floats.specs.Ranges.{inPitch}
 use Rattle.integers.specs.IntegerText.{IntText}
-use Rattle.kbm.specs.Table.{inI16, numbersOf, tableOf}
+use Rattle.kbm.specs.Table.{inI16, tableOf}
 use Rattle.kbm.specs.declared.Entry.{Entry}
 use Rattle.kbm.specs.declared.Kbm.{Kbm}
 use Rattle.kbm_read.specs.Language.{Required, required, Value, Values, Gives, GiveAll, sizeOf, mappingFrom, MappingText}
-use Rattle.kbm_read.specs.Reader.{readOf, entriesIn}
+use Rattle.kbm_read.specs.Reader.{readOf, entriesIn, afterRead}
 use Rattle.kbm_read.proofs.Ends.{small-size}
 use Rattle.kbm_read.proofs.Language.{accepted}
 use Rattle.kbm_read.proofs.Tables.{leaves-table}
@@ -96,7 +95,7 @@ mapping-read t = rw (t .mapping) (by-values (t .values) (all-known required (t .
 
 -- WHAT WAS READ IS WRITTEN: into so many bytes for the table's places, and as the entries that the text has
 module _ (s : List ℕ) (old : List ℤ) (room : ℕ) (h : 73 + 7 * length old ≤ room) {k : Kbm} (e : readOf (length old) s ≡ gives k)
-    {map : List ℤ} (m : map ≡ after (readOf (length old) s) (λ x. numbersOf (entriesIn (x .count) s)) old) where
+    {map : List ℤ} (m : map ≡ afterRead s old) where
   pub entries-left : tableOf (k .count) map ≡ entriesIn (k .count) s
   entries-left = rw m (leaves-table s old e .1)
 

@@ -20,13 +20,13 @@ use Rattle.floats.specs.Ranges.{inPitch}
 use Rattle.floats.specs.Units.{negative}
 use Rattle.printing.specs.PrintText.{widthOf, scaledOf, signText, integerText, wholeText, textOf}
 use Rattle.printing.proofs.Texts.{shorter, parts-length, sign-le, point-le}
-use Rattle.kbm.specs.Table.{inI16, isTable, tableOf}
+use Rattle.kbm.specs.Table.{inI16, AreI16, isTable, tableOf}
 use Rattle.kbm.specs.declared.Entry.{Entry}
 use Rattle.kbm.specs.declared.Entry.the-variants.{Mapped, Unmapped}
 use Rattle.kbm.specs.declared.Kbm.{Kbm}
 use Rattle.kbm.proofs.Entries.{mag-i16}
 use Rattle.kbm_write.specs.Export.{line, linesText, lastOf, middleOf, entryText, entryTexts, exportText, fitted, exportOf}
-use Rattle.kbm_write.specs.Typed.{Degrees, Typed}
+use Rattle.kbm_write.specs.Typed.{Typed}
 use Rattle.kbm_write.proofs.Lines.{length-line, lines-cons, five-length}
 use Rattle.kbm_write.proofs.Printed.{pitch-few}
 use Rattle.kbm_write.proofs.Room.{four-length}
@@ -77,11 +77,11 @@ pitch-line x h =
     omega (arith, length-line (textOf 3 false x), parts-length (negative x) false (n / 10 ^ 3) (widthOf 18 (n / 10 ^ 3)) (n % 10 ^ 3) 3, width-under 18 7 (n / 10 ^ 3) (lit< tt) w, point-le 3)
 
 -- seven bytes an entry: -32768 and LF
-entry-lines : (es : List Entry) → Degrees es → length (linesText (entryTexts es)) ≤ 7 * length es
+entry-lines : (es : List Entry) → AreI16 es → length (linesText (entryTexts es)) ≤ 7 * length es
 unfolding linesText entryTexts
 entry-lines [] d = omega arith
 entry-lines (Mapped z ∷ es) d = omega (arith, lines-cons (entryText (Mapped z)) (entryTexts es), degree-line z (d .0), entry-lines es (d .1))
-entry-lines (Unmapped ∷ es) d = omega (arith, lines-cons (entryText Unmapped) (entryTexts es), entry-lines es d)
+entry-lines (Unmapped ∷ es) d = omega (arith, lines-cons (entryText Unmapped) (entryTexts es), entry-lines es (d .1))
 
 -- the seven lines have 6, 12, 12, 12, 12, 12 and 7 bytes
 pub export-short : (kbm : Kbm) (es : List Entry) → Typed kbm es → length (exportText kbm es) ≤ 73 + 7 * kbm .count
