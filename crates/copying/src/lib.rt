@@ -1,6 +1,5 @@
 // What the program `kbmcopy` does between reading and writing: a mapping's text to its export's, or to the line that refuses it.
 // Document 01, "Writing".
-use base::Refusal;
 use kbm::Kbm;
 use kbm::KbmAnswer;
 use kbm_write::SizeAnswer;
@@ -80,8 +79,8 @@ fn write_export(mapping: Kbm, map: &[i32], out: &mut [u8]) -> usize
     }
 }
 
-// What is printed for a text, whatever its length, from the first byte of `out` on, and how many bytes it takes; its entries pass
-// through `map`.
+// What is printed for a text that is read, from the first byte of `out` on, and how many bytes it takes; its entries pass through
+// `map`.
 fn print_text(text: &[u8], map: &mut [i32], out: &mut [u8]) -> usize
     requires { ⌜ (length (now text) ≤ 65537) × (length (now map) ≡ 8192) × (length (now out) ≡ 57417) ⌝ }
     ensures { λ r. ⌜ (r ≡ length (copyText (now (text .entry)))) × (r ≤ 57417) ⌝ }
