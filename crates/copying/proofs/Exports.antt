@@ -17,7 +17,7 @@ use Rattle.integers.specs.IntegerText.{IntText}
 use Rattle.kbm.specs.Table.{inI16, tableOf}
 use Rattle.kbm.specs.declared.Entry.{Entry}
 use Rattle.kbm.specs.declared.Kbm.{Kbm}
-use Rattle.kbm_read.specs.Language.{Required, required, Value, Values, Gives, GiveAll, textLength, mappingFrom, MappingText}
+use Rattle.kbm_read.specs.Language.{Required, required, Value, Values, Gives, GiveAll, sizeOf, mappingFrom, MappingText}
 use Rattle.kbm_read.specs.Reader.{readOf, entriesIn, afterRead}
 use Rattle.kbm_read.proofs.Ends.{small-size}
 use Rattle.kbm_read.proofs.Language.{accepted}
@@ -79,7 +79,7 @@ record Read (k : Kbm) : Type 0 where
   last : inI32 (lastOf k) ≡ true
   middle : inI32 (middleOf k) ≡ true
 
-by-values : (vs : Values required) → AllKnown required vs → textLength vs < 65536 → Read (mappingFrom vs)
+by-values : (vs : Values required) → AllKnown required vs → sizeOf vs < 65536 → Read (mappingFrom vs)
 by-values (n, (lowest, (highest, (mid, (ref, (hz, (formal, o))))))) (_, (first, (last, (middle, (reference, (pitch, (octave, _))))))) small =
     let is-last : highest +ℤ pos 1 -ℤ pos 1 ≡ highest = +ℤ-negℤ-cancel highest (pos 1) in
     let is-middle : ref +ℤ (mid -ℤ ref) ≡ mid = +ℤ-comm ref (mid -ℤ ref) ∙ -ℤ-+ℤ-cancel mid ref in
