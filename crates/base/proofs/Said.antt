@@ -1,9 +1,10 @@
 -- Two results of one input are equal: the general law, of which each public call has a line. Assumes nothing.
 use mathlib.Core.Path.{_≡_, refl, sym, _∙_, ap}
 use mathlib.Core.Logic.{_⊎_, inl, inr}
-use Prim.Native.Nat.{ℕ}
+use mathlib.Core.Bool.{Bool, true, false}
+use Prim.Native.Nat.{ℕ, _≤_}
 use native.Mathlib.Omega.{arith}
-use Rattle.base.specs.Said.{Said, gives, refuses, refusal, andThen}
+use Rattle.base.specs.Said.{Said, gives, refuses, refusal, Numbered, pick, andThen}
 use Rattle.base.specs.declared.Refusal.{Refusal}
 
 -- a contract `says r ≡ s` leaves one result
@@ -57,3 +58,12 @@ one-plain split says gave refuse = one-answer split says (λ a. a) (λ a b e. e)
 -- a step that goes on from an answer: x is what a call answered, told what its contract says of it, and x′ what a match made of it
 pub and-then : {X A B : Type 0} (says : X → Said A) (f : A → Said B) {x x′ : X} {s : Said A} → says x ≡ s → x ≡ x′ → andThen (says x′) f ≡ andThen s f
 and-then says f told is = ap (λ s. andThen s f) (ap says (sym is) ∙ told)
+
+-- a refusal keeps its number through a test and through a step
+pub numbered-pick : {A : Type 0} (b : Bool) {x y : Said A} → Numbered x → Numbered y → Numbered (pick b x y)
+numbered-pick true p q = p
+numbered-pick false p q = q
+
+pub numbered-then : {A B : Type 0} {s : Said A} {f : A → Said B} → Numbered s → ((a : A) → Numbered (f a)) → Numbered (andThen s f)
+numbered-then (Numbered.value a) m = m a
+numbered-then (Numbered.number low high) m = Numbered.number low high

@@ -1,6 +1,6 @@
 -- What a call answers, in document 01's words: a value, or the number and the detail of a refusal. Every answer enum of
 -- the library has a definition that turns it into this, and the contracts speak of what is said. Assumes nothing.
-use Prim.Native.Nat.{ℕ}
+use Prim.Native.Nat.{ℕ, _≤_}
 use mathlib.Core.Bool.{Bool, true, false}
 use Rattle.base.specs.declared.Refusal.{Refusal}
 
@@ -9,15 +9,10 @@ pub data Said (A : Type 0) : Type 0 where
   gives : A → Said A
   refuses : ℕ → ℕ → Said A
 
--- 01's number of what is said
-abbrev pub numberOf : {A : Type 0} → Said A → ℕ
-numberOf (gives a) = 0
-numberOf (refuses n d) = n
-
--- 01's detail of what is said
-abbrev pub detailOf : {A : Type 0} → Said A → ℕ
-detailOf (gives a) = 0
-detailOf (refuses n d) = d
+-- what can be said: a refusal has one of 01's numbers, 1 to 18
+pub data Numbered {A : Type 0} : Said A → Type 0 where
+  value : (a : A) → Numbered (gives a)
+  number : {n d : ℕ} → 1 ≤ n → n ≤ 18 → Numbered (refuses n d)
 
 -- what a `Refusal` says
 abbrev pub refusal : {A : Type 0} → Refusal → Said A

@@ -11,3 +11,4 @@ pub mod Language
 pub mod Tables
 pub mod Theorems
 pub mod Samples
+pub mod Numbers

@@ -1,10 +1,11 @@
 -- From an answer to what the interface for C says of it. Assumes nothing.
-use mathlib.Core.Path.{_≡_, sym, _∙_, ap}
-use Prim.Native.Nat.{ℕ}
-use Rattle.base.specs.Said.{Said, gives, refusal}
+use mathlib.Core.Path.{_≡_, refl, sym, _∙_, ap}
+use mathlib.Core.Logic.{_↔_}
+use Prim.Native.Nat.{ℕ, _≤_, _<_, _^_}
+use native.Mathlib.Omega.{arith}
+use Rattle.base.specs.Said.{Said, gives, refuses, refusal, Numbered}
 use Rattle.base.specs.declared.Refusal.{Refusal}
-use Rattle.base.proofs.Said.{One, one-result}
-use Rattle.telbijan_answers.specs.Interface.{code, result, kept, partOf}
+use Rattle.telbijan_answers.specs.Interface.{code, result, kept, partOf, numberIn, detailIn}
 
 -- x is what a call answered, told what its contract says of it, and x′ what a match made of it
 module _ {X A : Type 0} (says : X → Said A) {s : Said A} {x x′ : X} (told : says x ≡ s) (is : x ≡ x′) where
@@ -35,7 +36,20 @@ module _ {X A : Type 0} (says : X → Said A) {s : Said A} {x x′ : X} (told : 
 pub handed-on : {X A B : Type 0} (says : X → Said A) (keep : Said A → B) (x : X) {s : Said A} {n : ℕ} {v : B} → says x ≡ s → (n ≡ result (says x)) × (v ≡ keep (says x)) → (n ≡ result s) × (v ≡ keep s)
 handed-on says keep x told e = (e .0 ∙ ap result told, e .1 ∙ ap keep told)
 
--- "equality of two such results is proved": every function of the interface answers `result s`, and leaves `kept s old` behind each
--- of its pointers, for one s that its input says
-pub interface-one : {A : Type 0} (s : Said A) (old : A) → One (λ r. r) (result s) × One (λ v. v) (kept s old)
-interface-one s old = (one-result (result s), one-result (kept s old))
+-- A RESULT TAKEN BACK: the number of a refusal, and its detail where that is below 2 ^ 56
+pub number-back : (number detail : ℕ) → number ≤ 255 → numberIn (code number detail) ≡ number
+number-back number detail h = omega arith
+
+pub detail-back : (number detail : ℕ) → number ≤ 255 → detail < 2 ^ 56 → detailIn (code number detail) ≡ detail
+detail-back number detail h l = omega arith
+
+-- a result is 0 exactly where the answer is a value
+pub zero-accepted : {A : Type 0} (s : Said A) → Numbered s → (result s ≡ 0) ↔ ((a : A) × (s ≡ gives a))
+zero-accepted s n = (there s n, back s)
+  where
+    there : {A : Type 0} (s : Said A) → Numbered s → result s ≡ 0 → (a : A) × (s ≡ gives a)
+    there s (Numbered.value a) e = (a, refl)
+    there s (Numbered.number low high) e = absurd (omega arith)
+
+    back : {A : Type 0} (s : Said A) → (a : A) × (s ≡ gives a) → result s ≡ 0
+    back s g = ap result (g .1)

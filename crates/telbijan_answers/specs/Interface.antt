@@ -1,6 +1,6 @@
 -- How the interface for C says what a call answers: the result is 0 or a refusal's code, and a value is stored where the
 -- caller lent room for it; a refusal leaves that room as it was. Assumes nothing.
-use Prim.Native.Nat.{ℕ, _+_, _*_, _%_, _^_}
+use Prim.Native.Nat.{ℕ, _+_, _*_, _/_, _%_, _^_}
 use Rattle.base.specs.Said.{Said, gives, refuses}
 
 -- detail * 256 + number (the detail's last 56 bits; no text has as many lines)
@@ -21,3 +21,10 @@ kept (refuses number detail) old = old
 abbrev pub partOf : {A B : Type 0} → (A → B) → Said A → Said B
 partOf part (gives a) = gives (part a)
 partOf part (refuses number detail) = refuses number detail
+
+-- the number and the detail that a caller takes from a result
+abbrev pub numberIn : ℕ → ℕ
+numberIn r = r % 256
+
+abbrev pub detailIn : ℕ → ℕ
+detailIn r = r / 256

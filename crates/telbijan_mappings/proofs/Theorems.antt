@@ -1,0 +1,40 @@
+-- For each input, refused ones too, a function of the interface has one possible result, and each value behind a pointer and each
+-- lent part of memory one possible state after it: document 01, "What the contracts settle". A line for each. Assumes nothing.
+use mathlib.Core.Bool.{Bool}
+use mathlib.Core.List.{List}
+use Prim.Native.Nat.{ℕ}
+use lib.IntN.{ℤ}
+use lib.ListN.{length}
+use lib.Ieee.{Float}
+use Rattle.base.proofs.Said.{One, one-result}
+use Rattle.base.specs.Tables.{after}
+use Rattle.key.specs.Keys.{key}
+use Rattle.kbm.specs.Builder.{pushed, afterPush, built}
+use Rattle.kbm.specs.Degree.{scaleDegreeOf}
+use Rattle.kbm.specs.Root.{rootOf}
+use Rattle.kbm.specs.declared.Entry.the-variants.{Mapped, Unmapped}
+use Rattle.kbm_read.specs.Reader.{readOf, afterRead}
+use Rattle.kbm_write.specs.Export.{exportOf, textLength}
+use Rattle.telbijan_answers.specs.Interface.{result, kept, partOf}
+use Rattle.telbijan_mappings.specs.Mappings.{mappingWith, octaveWith, builderWith, pushingWith}
+
+pub scale-degree-of-one : (map : List ℤ) (count : ℕ) (start : ℤ) (end : ℤ) (reference : ℤ) (hz : Float) (offset : ℤ) (octave : ℤ) (number : ℤ) (degree : ℤ) → One (λ r. r) (result (scaleDegreeOf (mappingWith count start end reference hz offset octave) map (key number))) × One (λ r. r) (kept (scaleDegreeOf (mappingWith count start end reference hz offset octave) map (key number)) degree)
+scale-degree-of-one map count start end reference hz offset octave number degree = (one-result (result (scaleDegreeOf (mappingWith count start end reference hz offset octave) map (key number))), one-result (kept (scaleDegreeOf (mappingWith count start end reference hz offset octave) map (key number)) degree))
+
+pub export-kbm-one : (map : List ℤ) (count : ℕ) (start : ℤ) (end : ℤ) (reference : ℤ) (hz : Float) (offset : ℤ) (octave : ℤ) (out : List ℕ) (written : ℕ) → One (λ r. r) (result (textLength (exportOf (mappingWith count start end reference hz offset octave) map (length out)))) × (One (λ r. r) (after (exportOf (mappingWith count start end reference hz offset octave) map (length out)) (λ t. t) out) × One (λ r. r) (kept (textLength (exportOf (mappingWith count start end reference hz offset octave) map (length out))) written))
+export-kbm-one map count start end reference hz offset octave out written = (one-result (result (textLength (exportOf (mappingWith count start end reference hz offset octave) map (length out)))), (one-result (after (exportOf (mappingWith count start end reference hz offset octave) map (length out)) (λ t. t) out), one-result (kept (textLength (exportOf (mappingWith count start end reference hz offset octave) map (length out))) written)))
+
+pub kbm-root-one : (reference : ℤ) (hz : Float) (offset : ℤ) → One (λ r. r) (result (rootOf (key reference) (record { 0 = hz }) offset))
+kbm-root-one reference hz offset = one-result (result (rootOf (key reference) (record { 0 = hz }) offset))
+
+pub push-mapped-key-one : (map : List ℤ) (room : ℕ) (count : ℕ) (degree : ℤ) (after : ℕ) → One (λ r. r) (result (pushed (pushingWith room count) map)) × (One (λ r. r) (afterPush (pushingWith room count) map (Mapped degree)) × One (λ r. r) (kept (partOf (λ b. b .count) (pushed (pushingWith room count) map)) after))
+push-mapped-key-one map room count degree after = (one-result (result (pushed (pushingWith room count) map)), (one-result (afterPush (pushingWith room count) map (Mapped degree)), one-result (kept (partOf (λ b. b .count) (pushed (pushingWith room count) map)) after)))
+
+pub push-unmapped-key-one : (map : List ℤ) (room : ℕ) (count : ℕ) (after : ℕ) → One (λ r. r) (result (pushed (pushingWith room count) map)) × (One (λ r. r) (afterPush (pushingWith room count) map Unmapped) × One (λ r. r) (kept (partOf (λ b. b .count) (pushed (pushingWith room count) map)) after))
+push-unmapped-key-one map room count after = (one-result (result (pushed (pushingWith room count) map)), (one-result (afterPush (pushingWith room count) map Unmapped), one-result (kept (partOf (λ b. b .count) (pushed (pushingWith room count) map)) after)))
+
+pub build-kbm-one : (map : List ℤ) (room : ℕ) (count : ℕ) (start : ℤ) (end : ℤ) (reference : ℤ) (hz : Float) (offset : ℤ) (given : Bool) (octave : ℤ) (entries : ℕ) (formal : ℤ) → One (λ r. r) (result (built (builderWith room count start end reference hz offset (octaveWith given octave)) map)) × (One (λ r. r) (kept (partOf (λ k. k .count) (built (builderWith room count start end reference hz offset (octaveWith given octave)) map)) entries) × One (λ r. r) (kept (partOf (λ k. k .octave) (built (builderWith room count start end reference hz offset (octaveWith given octave)) map)) formal))
+build-kbm-one map room count start end reference hz offset given octave entries formal = (one-result (result (built (builderWith room count start end reference hz offset (octaveWith given octave)) map)), (one-result (kept (partOf (λ k. k .count) (built (builderWith room count start end reference hz offset (octaveWith given octave)) map)) entries), one-result (kept (partOf (λ k. k .octave) (built (builderWith room count start end reference hz offset (octaveWith given octave)) map)) formal)))
+
+pub read-kbm-one : (text : List ℕ) (map : List ℤ) (count : ℕ) (start : ℤ) (end : ℤ) (reference : ℤ) (hz : Float) (offset : ℤ) (octave : ℤ) → One (λ r. r) (result (readOf (length map) text)) × (One (λ r. r) (afterRead text map) × (One (λ r. r) (kept (partOf (λ k. k .count) (readOf (length map) text)) count) × (One (λ r. r) (kept (partOf (λ k. k .start .0) (readOf (length map) text)) start) × (One (λ r. r) (kept (partOf (λ k. k .end .0) (readOf (length map) text)) end) × (One (λ r. r) (kept (partOf (λ k. k .root .reference .0) (readOf (length map) text)) reference) × (One (λ r. r) (kept (partOf (λ k. k .root .pitch .0) (readOf (length map) text)) hz) × (One (λ r. r) (kept (partOf (λ k. k .root .offset) (readOf (length map) text)) offset) × One (λ r. r) (kept (partOf (λ k. k .octave) (readOf (length map) text)) octave))))))))
+read-kbm-one text map count start end reference hz offset octave = (one-result (result (readOf (length map) text)), (one-result (afterRead text map), (one-result (kept (partOf (λ k. k .count) (readOf (length map) text)) count), (one-result (kept (partOf (λ k. k .start .0) (readOf (length map) text)) start), (one-result (kept (partOf (λ k. k .end .0) (readOf (length map) text)) end), (one-result (kept (partOf (λ k. k .root .reference .0) (readOf (length map) text)) reference), (one-result (kept (partOf (λ k. k .root .pitch .0) (readOf (length map) text)) hz), (one-result (kept (partOf (λ k. k .root .offset) (readOf (length map) text)) offset), one-result (kept (partOf (λ k. k .octave) (readOf (length map) text)) octave)))))))))
