@@ -4,6 +4,7 @@ use mathlib.Core.Logic.{_⊎_, inl, inr}
 use mathlib.Core.Bool.{Bool, true, false, _&&_}
 use Prim.Native.Nat.{ℕ, zero, suc, _+_, _-_, _≤_, _<_}
 use native.Mathlib.Omega.{arith}
+use borrow.Author.Tests.{ltb-false}
 use lib.Dec.{ltb}
 use lib.Ieee.{Float, binary64, div, lt}
 use Rattle.base.specs.Said.{pick}
@@ -134,3 +135,73 @@ module _ (target : Float) (limit : ℕ) where
   -- each turn that goes on is one fewer
   pub walking-less : {w next : Walk} → Walking target limit w → stepOf w target limit ≡ On next → size next ≤ 262140 → 262140 - size next < 262140 - size w
   walking-less {w} s e small = omega (arith, grows w (s .between) target limit e .more)
+
+-- ---- the turns are enough: what the two fractions hold stays within 16 bits, so that a walk cannot grow for ever
+pub record Held (w : Walk) : Type 0 where
+  pub low-numer : w .low .numer ≤ 65535
+  pub low-denom : w .low .denom ≤ 65535
+  pub high-numer : w .high .numer ≤ 65535
+  pub high-denom : w .high .denom ≤ 65535
+
+pub held-size : {w : Walk} → Held w → size w ≤ 262140
+unfolding size
+held-size h = omega (arith, h .low-numer, h .low-denom, h .high-numer, h .high-denom)
+
+module _ (w : Walk) (h : Held w) where
+  held-lower : (mid : Fraction) (better next : Walk) → mid .numer ≤ 65535 → mid .denom ≤ 65535 → Kept w better → walkOf (better .low) mid (better .best) (better .deviation) ≡ next → Held next
+  held-lower mid better next n d k e = subst Held e (rw (k .low) (record { low-numer = h .low-numer; low-denom = h .low-denom; high-numer = n; high-denom = d }))
+
+  held-higher : (mid : Fraction) (better next : Walk) → mid .numer ≤ 65535 → mid .denom ≤ 65535 → Kept w better → walkOf mid (better .high) (better .best) (better .deviation) ≡ next → Held next
+  held-higher mid better next n d k e = subst Held e (rw (k .high) (record { low-numer = n; low-denom = d; high-numer = h .high-numer; high-denom = h .high-denom }))
+
+  held-turned : (mid : Fraction) (target : Float) (limit : ℕ) {next : Walk} → mid .numer ≤ 65535 → mid .denom ≤ 65535 → turnAt w mid target limit ≡ On next → Held next
+  unfolding turnAt
+  held-turned mid target limit {next} n d = go (bothOver mid limit)
+    where
+      better : Walk
+      better = improved w mid (div binary64 target (quotientOf mid)) limit
+
+      go : (t : Bool) → pick t (Done w) (passed better mid target) ≡ On next → Held next
+      go true e = absurd (no-end e)
+      go false e = elim (passed-on better mid target e) [
+        | inl is ↦ held-lower mid better next n d (improved-keeps w mid _ limit) is
+        | inr is ↦ held-higher mid better next n d (improved-keeps w mid _ limit) is
+      ]
+
+  pub held-on : (target : Float) (limit : ℕ) {next : Walk} → stepOf w target limit ≡ On next → Held next
+  unfolding stepOf
+  held-on target limit {next} = at (w .low .numer + w .high .numer) (w .low .denom + w .high .denom)
+    where
+      go : (n d : ℕ) (a c : Bool) → (a ≡ false → n ≤ 65535) → (c ≡ false → d ≤ 65535) → pick a (Done w) (pick c (Done w) (turnAt w (fraction n d) target limit)) ≡ On next → Held next
+      go n d true c l r e = absurd (no-end e)
+      go n d false true l r e = absurd (no-end e)
+      go n d false false l r e = held-turned (fraction n d) target limit (l refl) (r refl) e
+
+      at : (n d : ℕ) → pick (ltb 65535 n) (Done w) (pick (ltb 65535 d) (Done w) (turnAt w (fraction n d) target limit)) ≡ On next → Held next
+      at n d = go n d (ltb 65535 n) (ltb 65535 d) (ltb-false 65535 n) (ltb-false 65535 d)
+
+module _ (target : Float) (limit : ℕ) where
+  step-cases : (w : Walk) → ((next : Walk) × (stepOf w target limit ≡ On next)) ⊎ ((last : Walk) × (stepOf w target limit ≡ Done last))
+  step-cases w = go (stepOf w target limit) refl
+    where
+      go : (s : Step) → stepOf w target limit ≡ s → ((next : Walk) × (stepOf w target limit ≡ On next)) ⊎ ((last : Walk) × (stepOf w target limit ≡ Done last))
+      go (On next) e = inl (next, e)
+      go (Done last) e = inr (last, e)
+
+  -- two walks with turns enough end alike
+  settled : (k j : ℕ) (w : Walk) → Between w → Held w → 262141 ≤ k + size w → 262141 ≤ j + size w → walked k w target limit ≡ walked j w target limit
+  settled zero j w b h p q = absurd (omega (arith, held-size h))
+  settled (suc k) zero w b h p q = absurd (omega (arith, held-size h))
+  settled (suc k) (suc j) w b h p q = elim (step-cases w) [
+    | inl s ↦
+      let g = grows w b target limit (s .1) in
+      walked-on target limit k w (s .0) (s .1) ∙ settled k j (s .0) (g .between) (held-on w h target limit (s .1)) (omega (arith, g .more)) (omega (arith, g .more)) ∙ sym (walked-on target limit j w (s .0) (s .1))
+    | inr s ↦ walked-end target limit k w (s .0) (s .1) ∙ sym (walked-end target limit j w (s .0) (s .1))
+  ]
+
+  -- the walk from its start has ended after so many turns: more change nothing
+  pub walk-ends : (more : ℕ) → walked (turns + more) start target limit ≡ walked turns start target limit
+  unfolding size
+  walk-ends more =
+      settled (turns + more) turns start (record { low = omega arith; high = omega arith }) (record { low-numer = omega arith; low-denom = omega arith; high-numer = omega arith; high-denom = omega arith })
+      (omega arith) (omega arith)
