@@ -1,4 +1,4 @@
--- Each call of this crate has one result, and odd limit 0 answers 0/0. Assumes nothing.
+-- Each call of this crate has one result. Assumes nothing.
 use mathlib.Core.Path.{_≡_, refl}
 use mathlib.Core.Logic.{inl, inr}
 use mathlib.Core.Bool.{Bool}
@@ -8,9 +8,8 @@ use Rattle.base.specs.Said.{Said}
 use Rattle.base.proofs.Said.{One, Split, one-plain, one-answer}
 use Rattle.floats.specs.Answers.{saysFloat}
 use Rattle.floats.proofs.Theorems.{float-one}
-use Rattle.math.specs.OddPart.{halved}
 use Rattle.pitch.specs.Answers.{saysRatio, saysPitch, saysBool, saysOrder, saysNearest}
-use Rattle.pitch.specs.NearestFraction.{start, turns, walked, nearestFraction, stepOf, turnAt, bothOver}
+use Rattle.pitch.specs.NearestFraction.{nearestFraction}
 use Rattle.pitch.specs.Pitches.{fromHz, asHz, pitchTimes, pitchOver, betweenPitches}
 use Rattle.pitch.specs.Ratios.{fromFloat, fromOctaves, fromSemitones, fromCents, asFloat, asOctaves, asSemitones, asCents, stretchedBy, deviationFrom, repeated, dividedInto, stepsOfSize, inverse, absolute, isNegligible, totalCmp}
 use Rattle.pitch.specs.declared.BoolAnswer.the-variants as OfBool
@@ -22,12 +21,6 @@ use Rattle.pitch.specs.declared.Pitch.{Pitch}
 use Rattle.pitch.specs.declared.PitchAnswer.the-variants as OfPitch
 use Rattle.pitch.specs.declared.Ratio.{Ratio}
 use Rattle.pitch.specs.declared.RatioAnswer.the-variants as OfRatio
-use Rattle.pitch.proofs.WalkEnds.{walked-end}
-
--- "odd limit 0 answers 0/0 with infinite deviation": the walk ends where it starts
-pub limit-zero : (target : Float) → walked turns start target 0 ≡ start
-unfolding stepOf turnAt bothOver halved
-limit-zero target = walked-end target 0 262143 start start refl
 
 -- ---- an answer is a value or a refusal
 pub ratio-split : Split OfRatio.Is OfRatio.Refused

@@ -4,7 +4,6 @@ use mathlib.Core.Logic.{_⊎_, inl, inr}
 use mathlib.Core.Bool.{Bool, true, false, _&&_}
 use Prim.Native.Nat.{ℕ, zero, suc, _+_, _-_, _≤_, _<_}
 use native.Mathlib.Omega.{arith}
-use borrow.Author.Tests.{ltb-false}
 use lib.Dec.{ltb}
 use lib.Ieee.{Float, binary64, div, lt}
 use Rattle.base.specs.Said.{pick}
@@ -14,15 +13,15 @@ use Rattle.pitch.specs.declared.nearest.Fraction.{Fraction}
 use Rattle.pitch.specs.declared.nearest.Step.{Step}
 use Rattle.pitch.specs.declared.nearest.Step.the-variants.{On, Done}
 use Rattle.pitch.specs.declared.nearest.Walk.{Walk}
+use Rattle.pitch.proofs.States.{Between, Held, Kept, improved-keeps, State, after, state-start, state-step}
 
 -- what the two fractions add up to
 unfoldable pub size : Walk → ℕ
 size w = w .low .numer + w .low .denom + (w .high .numer + w .high .denom)
 
--- neither fraction is 0/0
-pub record Between (w : Walk) : Type 0 where
-  pub low : 1 ≤ w .low .denom
-  pub high : 1 ≤ w .high .numer
+held-size : {w : Walk} → Held w → size w ≤ 262140
+unfolding size
+held-size h = omega (arith, h .low-numer, h .low-denom, h .high-numer, h .high-denom)
 
 -- a turn that goes on grows
 pub record Grown (w next : Walk) : Type 0 where
@@ -45,19 +44,6 @@ passed-on w mid target {next} = go (lt target (quotientOf mid)) (lt (quotientOf 
     go true b e = inl (on-is e)
     go false true e = inr (on-is e)
     go false false e = absurd (no-end e)
-
--- the best may change; the two fractions stay
-record Kept (w better : Walk) : Type 0 where
-  low : better .low ≡ w .low
-  high : better .high ≡ w .high
-
-improved-keeps : (w : Walk) (mid : Fraction) (deviation : Float) (limit : ℕ) → Kept w (improved w mid deviation limit)
-unfolding improved
-improved-keeps w mid deviation limit = go (bothWithin mid limit && lt (upward deviation) (upward (w .deviation)))
-  where
-    go : (t : Bool) → Kept w (pick t (walkOf (w .low) (w .high) mid deviation) w)
-    go true = record { low = refl; high = refl }
-    go false = record { low = refl; high = refl }
 
 module _ (w : Walk) (b : Between w) where
   mid : Fraction
@@ -137,49 +123,6 @@ module _ (target : Float) (limit : ℕ) where
   walking-less {w} s e small = omega (arith, grows w (s .between) target limit e .more)
 
 -- ---- the turns are enough: what the two fractions hold stays within 16 bits, so that a walk cannot grow for ever
-pub record Held (w : Walk) : Type 0 where
-  pub low-numer : w .low .numer ≤ 65535
-  pub low-denom : w .low .denom ≤ 65535
-  pub high-numer : w .high .numer ≤ 65535
-  pub high-denom : w .high .denom ≤ 65535
-
-pub held-size : {w : Walk} → Held w → size w ≤ 262140
-unfolding size
-held-size h = omega (arith, h .low-numer, h .low-denom, h .high-numer, h .high-denom)
-
-module _ (w : Walk) (h : Held w) where
-  held-lower : (mid : Fraction) (better next : Walk) → mid .numer ≤ 65535 → mid .denom ≤ 65535 → Kept w better → walkOf (better .low) mid (better .best) (better .deviation) ≡ next → Held next
-  held-lower mid better next n d k e = subst Held e (rw (k .low) (record { low-numer = h .low-numer; low-denom = h .low-denom; high-numer = n; high-denom = d }))
-
-  held-higher : (mid : Fraction) (better next : Walk) → mid .numer ≤ 65535 → mid .denom ≤ 65535 → Kept w better → walkOf mid (better .high) (better .best) (better .deviation) ≡ next → Held next
-  held-higher mid better next n d k e = subst Held e (rw (k .high) (record { low-numer = n; low-denom = d; high-numer = h .high-numer; high-denom = h .high-denom }))
-
-  held-turned : (mid : Fraction) (target : Float) (limit : ℕ) {next : Walk} → mid .numer ≤ 65535 → mid .denom ≤ 65535 → turnAt w mid target limit ≡ On next → Held next
-  unfolding turnAt
-  held-turned mid target limit {next} n d = go (bothOver mid limit)
-    where
-      better : Walk
-      better = improved w mid (div binary64 target (quotientOf mid)) limit
-
-      go : (t : Bool) → pick t (Done w) (passed better mid target) ≡ On next → Held next
-      go true e = absurd (no-end e)
-      go false e = elim (passed-on better mid target e) [
-        | inl is ↦ held-lower mid better next n d (improved-keeps w mid _ limit) is
-        | inr is ↦ held-higher mid better next n d (improved-keeps w mid _ limit) is
-      ]
-
-  pub held-on : (target : Float) (limit : ℕ) {next : Walk} → stepOf w target limit ≡ On next → Held next
-  unfolding stepOf
-  held-on target limit {next} = at (w .low .numer + w .high .numer) (w .low .denom + w .high .denom)
-    where
-      go : (n d : ℕ) (a c : Bool) → (a ≡ false → n ≤ 65535) → (c ≡ false → d ≤ 65535) → pick a (Done w) (pick c (Done w) (turnAt w (fraction n d) target limit)) ≡ On next → Held next
-      go n d true c l r e = absurd (no-end e)
-      go n d false true l r e = absurd (no-end e)
-      go n d false false l r e = held-turned (fraction n d) target limit (l refl) (r refl) e
-
-      at : (n d : ℕ) → pick (ltb 65535 n) (Done w) (pick (ltb 65535 d) (Done w) (turnAt w (fraction n d) target limit)) ≡ On next → Held next
-      at n d = go n d (ltb 65535 n) (ltb 65535 d) (ltb-false 65535 n) (ltb-false 65535 d)
-
 module _ (target : Float) (limit : ℕ) where
   step-cases : (w : Walk) → ((next : Walk) × (stepOf w target limit ≡ On next)) ⊎ ((last : Walk) × (stepOf w target limit ≡ Done last))
   step-cases w = go (stepOf w target limit) refl
@@ -189,19 +132,18 @@ module _ (target : Float) (limit : ℕ) where
       go (Done last) e = inr (last, e)
 
   -- two walks with turns enough end alike
-  settled : (k j : ℕ) (w : Walk) → Between w → Held w → 262141 ≤ k + size w → 262141 ≤ j + size w → walked k w target limit ≡ walked j w target limit
-  settled zero j w b h p q = absurd (omega (arith, held-size h))
-  settled (suc k) zero w b h p q = absurd (omega (arith, held-size h))
-  settled (suc k) (suc j) w b h p q = elim (step-cases w) [
+  settled : (k j : ℕ) (w : Walk) → State target limit w → 262141 ≤ k + size w → 262141 ≤ j + size w → walked k w target limit ≡ walked j w target limit
+  settled zero j w t p q = absurd (omega (arith, held-size (t .held)))
+  settled (suc k) zero w t p q = absurd (omega (arith, held-size (t .held)))
+  settled (suc k) (suc j) w t p q = elim (step-cases w) [
     | inl s ↦
-      let g = grows w b target limit (s .1) in
-      walked-on target limit k w (s .0) (s .1) ∙ settled k j (s .0) (g .between) (held-on w h target limit (s .1)) (omega (arith, g .more)) (omega (arith, g .more)) ∙ sym (walked-on target limit j w (s .0) (s .1))
+        let g = grows w (t .between) target limit (s .1) in
+        let on = subst (λ (e : Step). State target limit (after e)) (s .1) (state-step target limit w t) in
+        walked-on target limit k w (s .0) (s .1) ∙ settled k j (s .0) on (omega (arith, g .more)) (omega (arith, g .more)) ∙ sym (walked-on target limit j w (s .0) (s .1))
     | inr s ↦ walked-end target limit k w (s .0) (s .1) ∙ sym (walked-end target limit j w (s .0) (s .1))
   ]
 
   -- the walk from its start has ended after so many turns: more change nothing
   pub walk-ends : (more : ℕ) → walked (turns + more) start target limit ≡ walked turns start target limit
   unfolding size
-  walk-ends more =
-      settled (turns + more) turns start (record { low = omega arith; high = omega arith }) (record { low-numer = omega arith; low-denom = omega arith; high-numer = omega arith; high-denom = omega arith })
-      (omega arith) (omega arith)
+  walk-ends more = settled (turns + more) turns start (state-start target limit) (omega arith) (omega arith)
