@@ -19,7 +19,7 @@ use Rattle.base.specs.Integers.{floorDiv, floorMod}
 use Rattle.explog.specs.Rules.{signed, floorOf, timesPower, powerOf}
 use Rattle.explog.proofs.Plain.{plainFloor, plainPower}
 use Rattle.explog.proofs.Diff.{Diff, add, moved}
-use Rattle.explog.proofs.Units.{whole-units}
+use Rattle.floats.proofs.Units.{whole-units}
 
 -- ---- the floor, moved up by Q
 floor-diff : (s : Bool) (Q A D : ℕ) → 0 < D → A ≤ Q * D → Diff (floorDiv (signed s A) D) (cond s (Q * D - A) (Q * D + A) / D) Q

@@ -19,7 +19,7 @@ use Rattle.explog.specs.Log.{bOf}
 use Rattle.explog.specs.Rules.{ratioOf, logAt, logOf}
 use Rattle.explog.proofs.Plain.{nearestDiff, plainLog}
 use Rattle.explog.proofs.Diff.{Diff, add, subtract, times, moved}
-use Rattle.explog.proofs.Units.{whole-units}
+use Rattle.floats.proofs.Units.{whole-units}
 
 -- ---- the last step
 ratio-diff : (z : ℤ) (a b : ℕ) → Diff z a b → nearestDiff a b (2 ^ 52) ≡ ratioOf z

@@ -1,5 +1,7 @@
 // What the library does to an f64 besides adding, multiplying and dividing: whole parts and euclidean division as Rust's
 // std has them, the ranges that document 01 names, an f64 taken apart, and the f64 nearest to a fraction.
+pub mod remainder;
+
 ghost use mathlib.Core.Path.{_≡_};
 ghost use mathlib.Core.Bool.{Bool, false};
 ghost use Prim.Native.Nat.{_+_, _*_, _^_, _<_, _≤_};
@@ -85,7 +87,7 @@ pub fn floor_of(x: f64) -> f64
 pub fn rem_euclid(a: f64, b: f64) -> f64
     ensures { λ r. ⌜ r ≡ remEuclid a b ⌝ }
 {
-    let r = a % b;
+    let r = remainder::rem_of(a, b);
     if r < 0.0 { r + abs_of(b) } else { r }
 }
 
@@ -94,7 +96,7 @@ pub fn div_euclid(a: f64, b: f64) -> f64
     ensures { λ r. ⌜ r ≡ divEuclid a b ⌝ }
 {
     let q = trunc_of(a / b);
-    if a % b < 0.0 {
+    if remainder::rem_of(a, b) < 0.0 {
         if b > 0.0 { q - 1.0 } else { q + 1.0 }
     } else {
         q
