@@ -7,8 +7,8 @@ use Rattle.base.specs.Said.{Said}
 use Rattle.base.proofs.Said.{One, Split, one-result, one-plain}
 use Rattle.floats.specs.Floats.{abs, trunc, floor, remEuclid, divEuclid, count}
 use Rattle.floats.specs.Answers.{saysFloat}
-use Rattle.math.specs.Answers.{saysI32}
-use Rattle.math.proofs.Theorems.{i32-one}
+use Rattle.integer_math.specs.Answers.{saysI32}
+use Rattle.integer_math.proofs.Theorems.{i32-one}
 use Rattle.floats.specs.declared.FloatAnswer.the-variants as OfFloat
 
 pub float-split : Split OfFloat.Is OfFloat.Refused

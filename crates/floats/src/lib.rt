@@ -11,7 +11,7 @@ ghost use lib.Ieee.{binary64};
 ghost use lib.Ieee.Scale.{finite};
 ghost use Rattle.floats.specs.Floats.{abs, trunc, floor, remEuclid, divEuclid, count};
 ghost use Rattle.floats.specs.Ranges.{inReach, inSearch, inGenerator, inPitch, negligible};
-ghost use Rattle.math.specs.Answers.{saysI32};
+ghost use Rattle.integer_math.specs.Answers.{saysI32};
 ghost use Rattle.floats.specs.Units.{Unpacked};
 ghost use Rattle.floats.specs.Nearest.{Divided, roundedHalf};
 
@@ -104,20 +104,20 @@ pub fn div_euclid(a: f64, b: f64) -> f64
 }
 
 // The whole part of q as an i32: 18 where it leaves i32.
-pub fn count_of(q: f64) -> math::I32Answer
+pub fn count_of(q: f64) -> integer_math::I32Answer
     ensures { λ r. ⌜ saysI32 r ≡ count q ⌝ }
 {
     if q >= -I32_END {
         if q < I32_END {
-            math::I32Answer::Is(std::num::truncating_f64_to_i64(q) as i32)
+            integer_math::I32Answer::Is(std::num::truncating_f64_to_i64(q) as i32)
         } else {
-            math::I32Answer::Refused(base::Refusal {
+            integer_math::I32Answer::Refused(base::Refusal {
                 number: base::BEYOND_REACH,
                 detail: 0,
             })
         }
     } else {
-        math::I32Answer::Refused(base::Refusal {
+        integer_math::I32Answer::Refused(base::Refusal {
             number: base::BEYOND_REACH,
             detail: 0,
         })

@@ -10,12 +10,12 @@ use Rattle.base.specs.Integers.{Divides, floorDiv, floorMod}
 use Rattle.base.specs.Said.{Said, gives, refuses}
 use Rattle.base.proofs.Division.{floor-divides, divides-one}
 use Rattle.base.proofs.Said.{One, Split, one-result, one-plain, one-answer}
-use Rattle.math.specs.Answers.{saysI32, saysU32, saysDivision}
+use Rattle.integer_math.specs.Answers.{saysI32}
+use Rattle.integer_math.proofs.Theorems.{i32-one}
+use Rattle.math.specs.Answers.{saysU32, saysDivision}
 use Rattle.math.specs.Division.{Parts, quotientOf, remainderOf, divisionOf}
 use Rattle.math.specs.OddPart.{OddPart, oddPart}
 use Rattle.math.specs.declared.Division.{Division}
-use Rattle.math.specs.declared.I32Answer.{I32Answer}
-use Rattle.math.specs.declared.I32Answer.the-variants as I
 use Rattle.math.specs.declared.U32Answer.{U32Answer}
 use Rattle.math.specs.declared.U32Answer.the-variants as U
 use Rattle.math.specs.declared.DivisionAnswer.{DivisionAnswer}
@@ -70,10 +70,6 @@ pub odd-part-one : (n m m′ : ℕ) → OddPart n m → OddPart n m′ → m ≡
 odd-part-one n m m′ = one-part
 
 -- ---- two results of one input are equal
-pub i32-split : Split I.Is I.Refused
-i32-split (I.Is a) = inl (a, refl)
-i32-split (I.Refused r) = inr (r, refl)
-
 pub u32-split : Split U.Is U.Refused
 u32-split (U.Is a) = inl (a, refl)
 u32-split (U.Refused r) = inr (r, refl)
@@ -88,10 +84,6 @@ partsOf d = parts (d .quotient) (d .remainder)
 parts-apart : (a b : Division) → partsOf a ≡ partsOf b → a ≡ b
 unfolding partsOf
 parts-apart a b e = λ i. record { quotient = e i .quotient; remainder = e i .remainder }
-
--- every call that answers an i32 or a refusal
-pub i32-one : (s : Said ℤ) → One saysI32 s
-i32-one = one-plain i32-split saysI32 (λ a. refl) (λ r. refl)
 
 pub i32-div-u-one : (z : ℤ) (s : ℕ) → One saysI32 (quotientOf z s)
 i32-div-u-one z s = i32-one (quotientOf z s)

@@ -2,7 +2,7 @@
 use crate::RatioAnswer;
 use base::Refusal;
 use floats::FloatAnswer;
-use math::I32Answer;
+use integer_math::I32Answer;
 ghost use mathlib.Core.Path.{_≡_};
 ghost use Prim.Native.Nat.{_+_};
 ghost use Rattle.pitch.specs.Answers.{saysNearest};

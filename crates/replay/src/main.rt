@@ -3,12 +3,12 @@
 // is made by `oracle freeze`.
 use base::Refusal;
 use floats::FloatAnswer;
+use integer_math::I32Answer;
 use key::KeyAnswer;
 use key::MidiAnswer;
 use key::PianoKey;
 use libc::STDIN_FILENO;
 use libc::STDOUT_FILENO;
-use math::I32Answer;
 use math::U32Answer;
 use numeral::decimal::DecimalAnswer;
 use numeral::integer::I32;

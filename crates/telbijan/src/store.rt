@@ -1,9 +1,9 @@
 // An answer for C: its value is stored and the result is 0, or the result is the code of its refusal and nothing is stored.
 use floats::FloatAnswer;
+use integer_math::I32Answer;
 use kbm::DegreeAnswer;
 use key::KeyAnswer;
 use key::MidiAnswer;
-use math::I32Answer;
 use math::U32Answer;
 use pitch::BoolAnswer;
 use pitch::PitchAnswer;
@@ -12,7 +12,8 @@ ghost use mathlib.Core.Path.{_≡_};
 ghost use Rattle.floats.specs.Answers.{saysFloat};
 ghost use Rattle.kbm.specs.Answers.{saysDegree};
 ghost use Rattle.key.specs.Answers.{saysMidi, saysKey};
-ghost use Rattle.math.specs.Answers.{saysI32, saysU32};
+ghost use Rattle.integer_math.specs.Answers.{saysI32};
+ghost use Rattle.math.specs.Answers.{saysU32};
 ghost use Rattle.pitch.specs.Answers.{saysRatio, saysPitch, saysBool};
 ghost use Rattle.telbijan.specs.Interface.{result, kept, mapped};
 

@@ -3,8 +3,8 @@
 use mathlib.Core.Path.{ap}
 use lib.IntN.{natAbs}
 use Rattle.base.proofs.Machine.{flip-fits, flipped, kept, mag-cast}
-use Rattle.math.proofs.magnitude.Statement.{statement}
-use Rattle.math.proofs.magnitude.Tie as tie
+use Rattle.integer_math.proofs.magnitude.Statement.{statement}
+use Rattle.integer_math.proofs.magnitude.Tie as tie
 
 sub-result : tie.Need-sub-result
 sub-result c = flip-fits (c .before .fits .z) (c .if1 .taken)

@@ -2,8 +2,8 @@
 -- Assumes nothing.
 use borrow.Author.Needs.{needs}
 use Rattle.base.proofs.Machine.{quotient-fits, flip-quotient-fits, quotient-below, quotient-above}
-use Rattle.math.proofs.quotient.Statement.{statement}
-use Rattle.math.proofs.quotient.Tie as tie
+use Rattle.integer_math.proofs.quotient.Statement.{statement}
+use Rattle.integer_math.proofs.quotient.Tie as tie
 
 magnitude-requires : tie.Need-magnitude-requires
 magnitude-requires c κs = search needs
