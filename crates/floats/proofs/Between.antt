@@ -72,15 +72,12 @@ in-range a b (within-fin m e p l u) =
     (le-of-values (fin false m e) (fin false 1 (pos b)) (m * up e) (down e) (2 ^ b) 1 (down-pos e) (lit< tt) (refl, refl) (refl, mul-one (1 * 2 ^ b) ∙ one-mul (2 ^ b) ∙ sym (mul-one (2 ^ b))) (le-trans (le-of-eq (mul-one (m * up e))) u)))
 
 pub within-reach : {x : Float} → Within 900 900 x → inReach x ≡ true
-unfolding ofBits
 within-reach w = in-range 899 900 w
 
 pub within-search : {x : Float} → Within 64 64 x → inSearch x ≡ true
-unfolding ofBits
 within-search w = in-range 63 64 w
 
 pub within-generator : {x : Float} → Within 32 32 x → inGenerator x ≡ true
-unfolding ofBits
 within-generator w = in-range 31 32 w
 
 -- ---- quotients

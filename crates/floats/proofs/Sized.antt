@@ -13,6 +13,7 @@ use lib.Ieee.Back.{round-whole}
 use lib.Ieee.Fits.{down-pos, up-pos, round-is}
 use lib.Ieee.Order.{round-mono}
 use lib.Ieee.Bits.{is-true}
+use Rattle.base.specs.Said.{pick}
 use Rattle.floats.specs.Floats.{abs, trunc, floor, zeroF, oneF, remEuclid, divEuclid, leastI32, pastI32}
 use Rattle.floats.proofs.Compare.{le-pos}
 use Rattle.floats.proofs.Order.{Zero, Negative, nfin, negative}
@@ -199,7 +200,7 @@ pub rem-euclid-sized : {n k : ℕ} (x y : Float) → n ≤ 2 ^ 53 → Sized n x 
 unfolding ofBits
 rem-euclid-sized {n} x y h p q a = go (lt (rem binary64 x y) Zero) refl
   where
-    go : (b : Bool) → lt (rem binary64 x y) Zero ≡ b → Sized n (cond b (add binary64 (rem binary64 x y) (abs y)) (rem binary64 x y))
+    go : (b : Bool) → lt (rem binary64 x y) Zero ≡ b → Sized n (pick b (add binary64 (rem binary64 x y) (abs y)) (rem binary64 x y))
     go true e = moved-up h (negative (rem binary64 x y) e) (rem-sized h p a) q
     go false e = rem-sized h p a
 
@@ -213,7 +214,7 @@ div-euclid-sized {n} {k} x y h p a = go (lt (rem binary64 x y) zeroF) (lt zeroF 
     q : Sized (n * k) (trunc (div binary64 x y))
     q = trunc-sized (omega arith) (div-sized (omega arith) p a)
 
-    go : (b c : Bool) → Sized (n * k + 1) (cond b (cond c (sub binary64 (trunc (div binary64 x y)) oneF) (add binary64 (trunc (div binary64 x y)) oneF)) (trunc (div binary64 x y)))
+    go : (b c : Bool) → Sized (n * k + 1) (pick b (pick c (sub binary64 (trunc (div binary64 x y)) oneF) (add binary64 (trunc (div binary64 x y)) oneF)) (trunc (div binary64 x y)))
     go true true = sub-sized h q one-sized
     go true false = add-sized h q one-sized
     go false c = sized-more (omega arith) q
@@ -239,5 +240,4 @@ in-i32 {n} h (sized true m e l) = (
 )
 
 pub sized-count : {n : ℕ} (x : Float) → n < 2 ^ 31 → Sized n x → (le leastI32 x && lt x pastI32) ≡ true
-unfolding ofBits
 sized-count x h p = let t = in-i32 h p in rw (is-true (le (fin true 1 (pos 31)) x) (t .0), is-true (lt x (fin false 1 (pos 31))) (t .1))

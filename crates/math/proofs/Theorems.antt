@@ -13,7 +13,7 @@ use Rattle.base.proofs.Said.{One, Split, one-result, one-plain, one-answer}
 use Rattle.integer_math.specs.Answers.{saysI32}
 use Rattle.integer_math.proofs.Theorems.{i32-one}
 use Rattle.math.specs.Answers.{saysU32, saysDivision}
-use Rattle.math.specs.Division.{Parts, quotientOf, remainderOf, divisionOf}
+use Rattle.math.specs.Division.{QuotientAndRemainder, quotientOf, remainderOf, divisionOf}
 use Rattle.math.specs.OddPart.{OddPart, oddPart}
 use Rattle.math.specs.declared.Division.{Division}
 use Rattle.math.specs.declared.U32Answer.{U32Answer}
@@ -23,7 +23,7 @@ use Rattle.math.specs.declared.DivisionAnswer.the-variants as D
 use Rattle.math.proofs.OddPart.{halved-is, one-part}
 
 -- both parts, from each
-abbrev parts : ℤ → ℕ → Parts
+abbrev parts : ℤ → ℕ → QuotientAndRemainder
 parts q r = record { quotient = q; remainder = r }
 
 pub gives-parts : {q q′ : ℤ} {r r′ : ℕ} → q ≡ q′ → r ≡ r′ → gives (parts q r) ≡ gives (parts q′ r′)
@@ -40,13 +40,13 @@ pub positive-gives : (z : ℤ) (s : ℕ) → 0 < s →
 unfolding quotientOf remainderOf divisionOf
 positive-gives z s h = let t = ne-eqb s 0 (λ e. omega (arith, e, h)) in (rw t, rw t, rw t)
 
-given-positive : (z : ℤ) (s : ℕ) (p : Parts) → divisionOf z s ≡ gives p → 0 < s
+given-positive : (z : ℤ) (s : ℕ) (p : QuotientAndRemainder) → divisionOf z s ≡ gives p → 0 < s
 unfolding divisionOf
 given-positive z zero p e = let no : _≡_ {A = ℕ} 0 1 = cc in absurd (omega arith)
 given-positive z (suc k) p e = omega arith
 
 -- numer = q*denom + r, 0 <= r < denom: what is given divides, and what divides is given
-pub division-gives : (z : ℤ) (s : ℕ) (p : Parts) → (divisionOf z s ≡ gives p) ↔ Divides z s (p .quotient) (p .remainder)
+pub division-gives : (z : ℤ) (s : ℕ) (p : QuotientAndRemainder) → (divisionOf z s ≡ gives p) ↔ Divides z s (p .quotient) (p .remainder)
 division-gives z s p = (there, back)
   where
     there : divisionOf z s ≡ gives p → Divides z s (p .quotient) (p .remainder)
@@ -54,7 +54,7 @@ division-gives z s p = (there, back)
         let h = given-positive z s p e in
         let given : gives (parts (floorDiv z s) (floorMod z s)) ≡ gives p = sym (positive-gives z s h .2) ∙ e in
         let same : parts (floorDiv z s) (floorMod z s) ≡ p = cc in
-        subst (λ (p : Parts). Divides z s (p .quotient) (p .remainder)) same (floor-divides z s h)
+        subst (λ (p : QuotientAndRemainder). Divides z s (p .quotient) (p .remainder)) same (floor-divides z s h)
 
     back : Divides z s (p .quotient) (p .remainder) → divisionOf z s ≡ gives p
     back d =
@@ -78,7 +78,7 @@ pub division-split : Split D.Is D.Refused
 division-split (D.Is a) = inl (a, refl)
 division-split (D.Refused r) = inr (r, refl)
 
-partsOf : Division → Parts
+partsOf : Division → QuotientAndRemainder
 partsOf d = parts (d .quotient) (d .remainder)
 
 parts-apart : (a b : Division) → partsOf a ≡ partsOf b → a ≡ b

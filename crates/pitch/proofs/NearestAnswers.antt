@@ -1,7 +1,7 @@
 -- Inside 2^-64..2^64 `nearest_fraction` always answers: its octaves are at most 64 either way, so neither L nor the count, E
 -- or the quotient refuses; and each deviation that its walk computes lies in 2^-900..2^900. Assumes nothing.
 use mathlib.Core.Path.{_≡_, refl, sym, ap, _∙_, subst}
-use mathlib.Core.Bool.{Bool, true, false, cond, _&&_}
+use mathlib.Core.Bool.{Bool, true, false, _&&_}
 use Prim.Native.Nat.{ℕ, _+_, _*_, _^_, _≤_, _<_}
 use native.Mathlib.Nat.{le-trans, mul-le-mul-right, mul-le-mul-left}
 use native.Mathlib.Omega.{arith}
@@ -12,7 +12,7 @@ use lib.Ieee.Back.{round-whole}
 use lib.Ieee.Bits.{is-true}
 use lib.Ieee.Exact.{HasValue}
 use lib.Ieee.Fits.{ofInt-fits}
-use Rattle.base.specs.Said.{Said, gives, andThen}
+use Rattle.base.specs.Said.{Said, gives, andThen, pick}
 use Rattle.floats.specs.Floats.{floor, count, oneF}
 use Rattle.floats.specs.Ranges.{inReach, inSearch}
 use Rattle.floats.proofs.Between.{quotient-within, over-within, inverse-within, within-more, within-reach}
@@ -113,7 +113,7 @@ upward-within : {a : ℕ} (x : Float) → a ≤ 900 → Within a a x → Within 
 unfolding upward
 upward-within {a} x h w = go (lt (neg oneF) x && lt x oneF)
   where
-    go : (t : Bool) → Within a a (cond t (div binary64 oneF x) x)
+    go : (t : Bool) → Within a a (pick t (div binary64 oneF x) x)
     go true = inverse-within (le-trans h (lit≤ tt)) (le-trans h (lit≤ tt)) w
     go false = w
 

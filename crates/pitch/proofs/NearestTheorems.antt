@@ -10,7 +10,7 @@ use Rattle.floats.specs.Floats.{floor, count}
 use Rattle.floats.specs.Ranges.{inReach, inSearch}
 use Rattle.floats.proofs.Ranges.{Within}
 use Rattle.explog.specs.Rules.{L}
-use Rattle.math.specs.OddPart.{halved}
+use Rattle.math.specs.OddPart.{halvedWhileEven}
 use Rattle.pitch.specs.NearestFraction.{fraction, start, turns, walked, quotientOf, bothOver, bothWithin, turnAt, stepOf, bestFor, nearestFraction}
 use Rattle.pitch.specs.Ratios.{upward}
 use Rattle.pitch.specs.declared.nearest.NearestFraction.{NearestFraction}
@@ -35,7 +35,7 @@ noFraction octaves = record { numer = 0; denom = 0; deviation = record { 0 = inf
 
 -- the walk ends where it starts
 pub walk-limit-zero : (target : Float) → walked turns start target 0 ≡ start
-unfolding stepOf turnAt bothOver halved
+unfolding stepOf turnAt bothOver halvedWhileEven
 walk-limit-zero target = walked-end target 0 262143 start start refl
 
 best-limit-zero : (target : Float) (octaves : ℤ) → bestFor target octaves 0 ≡ noFraction octaves

@@ -1,6 +1,6 @@
 -- Ratios of two frequencies: the Rust's `Ratio`, "each f64 step in its order, once rounded each", with document 01's E and
 -- L for exp2 and log2. A ratio stands for its number. Assumes nothing.
-use mathlib.Core.Bool.{Bool, true, false, _&&_, cond}
+use mathlib.Core.Bool.{Bool, true, false, _&&_}
 use lib.Ieee.{Float, binary64, mul, div, neg, lt, le, ofBits}
 use Rattle.base.specs.Said.{Said, gives, pick, andThen}
 use Rattle.floats.specs.Floats.{oneF}
@@ -76,7 +76,7 @@ abbrev pub inverse : Float → Said Float
 inverse r = given r (computed (div binary64 oneF r))
 
 unfoldable pub upward : Float → Float
-upward r = cond (lt (neg oneF) r && lt r oneF) (div binary64 oneF r) r
+upward r = pick (lt (neg oneF) r && lt r oneF) (div binary64 oneF r) r
 
 abbrev pub absolute : Float → Said Float
 absolute r = given r (computed (upward r))

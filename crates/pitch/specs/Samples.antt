@@ -11,7 +11,7 @@ use Rattle.explog.specs.Root.{root, rootFrom}
 use Rattle.explog.specs.Exp.{tOf, pOf}
 use Rattle.explog.specs.Log.{bOf, yOf}
 use Rattle.explog.specs.Rules.{E, L, floorOf, timesPower, powerOf, logOf, logAt, ratioOf}
-use Rattle.math.specs.OddPart.{halved}
+use Rattle.math.specs.OddPart.{halvedWhileEven}
 use Rattle.pitch.specs.Given.{computed}
 use Rattle.pitch.specs.NearestFraction.{fraction, walked, stepOf, turnAt, passed, improved, bothOver, bothWithin, quotientOf, bestFor, nearestFraction}
 use Rattle.pitch.specs.Ratios.{fromOctaves, upward}
@@ -35,13 +35,13 @@ is-1575 = refl
 
 -- "Ratio 1.25, odd limit 3: 4/3"
 pub four-thirds : nearestFraction (fin false 5 (negsuc 1)) 3 ≡ gives (answerOf 4 3 (div binary64 (fin false 5 (negsuc 1)) (quotientOf (fraction 4 3))))
-unfolding nearestFraction le lt eq ofBits L logOf logAt ratioOf bOf yOf round size floor toSigned ofInt E floorOf powerOf timesPower tOf root rootFrom pOf neg div bestFor walked stepOf turnAt passed improved bothOver bothWithin halved upward
+unfolding nearestFraction le lt eq ofBits L logOf logAt ratioOf bOf yOf round size floor toSigned ofInt E floorOf powerOf timesPower tOf root rootFrom pOf neg div bestFor walked stepOf turnAt passed improved bothOver bothWithin halvedWhileEven upward
 four-thirds = refl
 
 -- ---- 1.575 with odd limit 9
 -- the walk
 walk : bestFor x1575 (pos 0) 9 ≡ answerOf 8 5 (fin false 8866461766385663 (negsuc 52))
-unfolding le lt eq ofBits round size ofInt neg div bestFor walked stepOf turnAt passed improved bothOver bothWithin halved upward
+unfolding le lt eq ofBits round size ofInt neg div bestFor walked stepOf turnAt passed improved bothOver bothWithin halvedWhileEven upward
 walk = refl
 
 -- the steps before it: no octave is taken off
@@ -72,5 +72,5 @@ unfolding nearestFraction
 not-best = rw (searched, octaves, whole, power, target, walk)
 
 pub nearer : (bothWithin (fraction 14 9) 9 ≡ true) × (lt (farFrom 14 9 x1575) (farFrom 8 5 x1575) ≡ true)
-unfolding bothWithin halved lt upward div round size ofInt neg ofBits
+unfolding bothWithin halvedWhileEven lt upward div round size ofInt neg ofBits
 nearer = (refl, refl)
