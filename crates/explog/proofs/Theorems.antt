@@ -6,13 +6,13 @@ use native.Mathlib.Nat.{mul-div-cancel, lt-of-le-of-lt, mul-le-mul-left}
 use native.Mathlib.Omega.{arith}
 use lib.Dec.{T, lit<}
 use lib.Pow.{pow-pos}
-use lib.IntN.{pos, negsuc}
+use lib.IntN.{pos, negsuc, negℤ}
 use lib.Ieee.{Float, fin, binary64, le, lt, eq, fits, ofBits}
 use lib.Ieee.Scale.{finite}
 use lib.Ieee.Exact.{HasValue}
 use Rattle.base.specs.Said.{gives}
 use Rattle.base.proofs.Said.{One}
-use Rattle.floats.specs.Floats.{zeroF, oneF, abs}
+use Rattle.floats.specs.Floats.{twoTo, zeroF, oneF, abs}
 use Rattle.floats.specs.Ranges.{inReach, negligible}
 use Rattle.floats.specs.Answers.{saysFloat}
 use Rattle.floats.specs.Units.{unitsOf, negative}
@@ -90,7 +90,7 @@ log-zero x r f h z =
     (subst (λ (n : ℕ). HasValue x false n (2 ^ 1074)) u (g .value)) (refl, refl)
 
 -- ---- |L(x)| >= 2^-20 outside [0.999999, 1.000001)
-pub log-far : (x r : Float) → fits binary64 x ≡ true → L x ≡ gives r → negligible x ≡ false → T (le (ofBits binary64 0x3eb0_0000_0000_0000) (abs r))
+pub log-far : (x r : Float) → fits binary64 x ≡ true → L x ≡ gives r → negligible x ≡ false → T (le (twoTo (negℤ (pos 20))) (abs r))
 unfolding ofBits
 log-far x r f h n =
     let a = answered x r h in

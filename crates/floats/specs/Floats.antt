@@ -17,7 +17,7 @@ zeroF = ofBits binary64 0
 
 -- 1.0
 abbrev pub oneF : Float
-oneF = ofBits binary64 0x3ff0_0000_0000_0000
+oneF = twoTo (pos 0)
 
 -- the size: the sign cleared
 unfoldable pub abs : Float → Float

@@ -21,7 +21,7 @@ use Rattle.floats.proofs.Sized.{Sized, sized-more, floor-sized, signed-sized, s
 use Rattle.explog.specs.Rules.{E, L, logOf, powerOf, floorOf}
 use Rattle.explog.proofs.Reach.{log-sized, exp-within, sized-powers}
 use Rattle.pitch.specs.Given.{computed}
-use Rattle.pitch.specs.NearestFraction.{fraction, start, turns, walked, quotientOf, bestFor, nearestFraction}
+use Rattle.pitch.specs.NearestFraction.{fraction, start, turns, walked, floatOf, bestFor, nearestFraction}
 use Rattle.pitch.specs.Ratios.{fromOctaves, upward}
 use Rattle.pitch.specs.declared.nearest.Fraction.{Fraction}
 use Rattle.pitch.specs.declared.nearest.Walk.{Walk}
@@ -103,7 +103,7 @@ whole-value : (n : ℕ) → n ≤ 65535 → HasValue (ofInt binary64 (pos n)) fa
 unfolding ofInt
 whole-value n h = round-whole binary64 false n (le-trans h (lit≤ tt))
 
-fraction-within : (f : Fraction) → Proper f → Within 16 16 (quotientOf f)
+fraction-within : (f : Fraction) → Proper f → Within 16 16 (floatOf f)
 fraction-within f p =
     quotient-within 16 16 (f .numer) (f .denom) (ofInt binary64 (pos (f .numer))) (ofInt binary64 (pos (f .denom))) (lit≤ tt) (lit≤ tt)
     (whole-value (f .numer) (p .numer-held)) (whole-value (f .denom) (p .denom-held)) (p .denom-some)
@@ -119,10 +119,10 @@ upward-within {a} x h w = go (lt (neg oneF) x && lt x oneF)
 
 -- the target's deviation from a fraction, and the same upwards
 pub deviation-reach : (target : Float) (f : Fraction) → Within 128 128 target → Proper f →
-    (inReach (div binary64 target (quotientOf f)) ≡ true) × (inReach (upward (div binary64 target (quotientOf f))) ≡ true)
+    (inReach (div binary64 target (floatOf f)) ≡ true) × (inReach (upward (div binary64 target (floatOf f))) ≡ true)
 deviation-reach target f t p =
-    let w : Within 144 144 (div binary64 target (quotientOf f)) = over-within (lit≤ tt) (lit≤ tt) t (fraction-within f p) in
-    (reach-of {a = 144} {b = 144} (lit≤ tt) (lit≤ tt) w, reach-of {a = 144} {b = 144} (lit≤ tt) (lit≤ tt) (upward-within (div binary64 target (quotientOf f)) (lit≤ tt) w))
+    let w : Within 144 144 (div binary64 target (floatOf f)) = over-within (lit≤ tt) (lit≤ tt) t (fraction-within f p) in
+    (reach-of {a = 144} {b = 144} (lit≤ tt) (lit≤ tt) w, reach-of {a = 144} {b = 144} (lit≤ tt) (lit≤ tt) (upward-within (div binary64 target (floatOf f)) (lit≤ tt) w))
 
 -- the fraction in the middle of a state of the walk, where its numbers have 16 bits
 pub middle-proper : {target : Float} {limit : ℕ} {w : Walk} → State target limit w → (n d : ℕ) → n ≡ w .low .numer + w .high .numer → d ≡ w .low .denom + w .high .denom → n ≤ 65535 → d ≤ 65535 → Proper (fraction n d)

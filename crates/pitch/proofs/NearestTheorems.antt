@@ -11,7 +11,7 @@ use Rattle.floats.specs.Ranges.{inReach, inSearch}
 use Rattle.floats.proofs.Ranges.{Within}
 use Rattle.explog.specs.Rules.{L}
 use Rattle.math.specs.OddPart.{halvedWhileEven}
-use Rattle.pitch.specs.NearestFraction.{fraction, start, turns, walked, quotientOf, bothOver, bothWithin, turnAt, stepOf, bestFor, nearestFraction}
+use Rattle.pitch.specs.NearestFraction.{fraction, start, turns, walked, floatOf, bothOver, bothWithin, turnAt, stepOf, bestFor, nearestFraction}
 use Rattle.pitch.specs.Ratios.{upward}
 use Rattle.pitch.specs.declared.nearest.NearestFraction.{NearestFraction}
 use Rattle.pitch.specs.declared.nearest.Walk.{Walk}
@@ -59,7 +59,7 @@ limit-zero r f s =
 pub walk-in-reach : (target : Float) (limit k n d : ℕ) → Within 128 128 target →
     n ≡ walked k start target limit .low .numer + walked k start target limit .high .numer → d ≡ walked k start target limit .low .denom + walked k start target limit .high .denom →
     n ≤ 65535 → d ≤ 65535 →
-    (inReach (div binary64 target (quotientOf (fraction n d))) ≡ true) × (inReach (upward (div binary64 target (quotientOf (fraction n d)))) ≡ true)
+    (inReach (div binary64 target (floatOf (fraction n d))) ≡ true) × (inReach (upward (div binary64 target (floatOf (fraction n d)))) ≡ true)
 walk-in-reach target limit k n d t p q h g = deviation-reach target (fraction n d) t (middle-proper (state-walked target limit k) n d p q h g)
 
 -- what is answered: a fraction within the limit, with a deviation in the range; or 0/0 and an infinite one

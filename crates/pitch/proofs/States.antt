@@ -8,7 +8,7 @@ use lib.Dec.{ltb}
 use lib.Ieee.{Float, inf, binary64, div, lt}
 use borrow.Author.Tests.{ltb-false}
 use Rattle.base.specs.Said.{pick}
-use Rattle.pitch.specs.NearestFraction.{fraction, walkOf, start, quotientOf, bothOver, bothWithin, improved, passed, turnAt, stepOf, endOf, walked}
+use Rattle.pitch.specs.NearestFraction.{fraction, walkOf, start, floatOf, bothOver, bothWithin, improved, passed, turnAt, stepOf, endOf, walked}
 use Rattle.pitch.specs.Ratios.{upward}
 use Rattle.pitch.specs.declared.nearest.Fraction.{Fraction}
 use Rattle.pitch.specs.declared.nearest.Step.{Step}
@@ -28,7 +28,7 @@ pub record Between (w : Walk) : Type 0 where
   pub high : 1 ≤ w .high .numer
 
 -- both are of 16 bits
-pub record Held (w : Walk) : Type 0 where
+pub record InU16 (w : Walk) : Type 0 where
   pub low-numer : w .low .numer ≤ 65535
   pub low-denom : w .low .denom ≤ 65535
   pub high-numer : w .high .numer ≤ 65535
@@ -37,11 +37,11 @@ pub record Held (w : Walk) : Type 0 where
 -- the best so far
 pub data Best (target : Float) (limit : ℕ) (w : Walk) : Type 0 where
   none : w .best ≡ fraction 0 0 → w .deviation ≡ inf false → Best target limit w
-  found : Proper (w .best) → bothWithin (w .best) limit ≡ true → w .deviation ≡ div binary64 target (quotientOf (w .best)) → Best target limit w
+  found : Proper (w .best) → bothWithin (w .best) limit ≡ true → w .deviation ≡ div binary64 target (floatOf (w .best)) → Best target limit w
 
 pub record State (target : Float) (limit : ℕ) (w : Walk) : Type 0 where
   pub between : Between w
-  pub held : Held w
+  pub held : InU16 w
   pub best : Best target limit w
 
 -- the walk after a turn
@@ -100,17 +100,17 @@ module _ (target : Float) (limit : ℕ) where
   both true y e = refl
   both false y e = absurd (true≢false (sym e))
 
-  better : (w : Walk) (mid : Fraction) → State target limit w → Proper mid → State target limit (improved w mid (div binary64 target (quotientOf mid)) limit)
+  better : (w : Walk) (mid : Fraction) → State target limit w → Proper mid → State target limit (improved w mid (div binary64 target (floatOf mid)) limit)
   unfolding improved
-  better w mid s p = go (bothWithin mid limit && lt (upward (div binary64 target (quotientOf mid))) (upward (w .deviation))) (both (bothWithin mid limit) _)
+  better w mid s p = go (bothWithin mid limit && lt (upward (div binary64 target (floatOf mid))) (upward (w .deviation))) (both (bothWithin mid limit) _)
     where
-      go : (t : Bool) → (t ≡ true → bothWithin mid limit ≡ true) → State target limit (pick t (walkOf (w .low) (w .high) mid (div binary64 target (quotientOf mid))) w)
+      go : (t : Bool) → (t ≡ true → bothWithin mid limit ≡ true) → State target limit (pick t (walkOf (w .low) (w .high) mid (div binary64 target (floatOf mid))) w)
       go true f = record { between = record { low = s .between .low; high = s .between .high }; held = record { low-numer = s .held .low-numer; low-denom = s .held .low-denom; high-numer = s .held .high-numer; high-denom = s .held .high-denom }; best = found p (f refl) refl }
       go false f = s
 
   past : (w : Walk) (mid : Fraction) → State target limit w → Proper mid → State target limit (after (passed w mid target))
   unfolding passed
-  past w mid s p = go (lt target (quotientOf mid)) (lt (quotientOf mid) target)
+  past w mid s p = go (lt target (floatOf mid)) (lt (floatOf mid) target)
     where
       go : (a b : Bool) → State target limit (after (pick a (On (walkOf (w .low) mid (w .best) (w .deviation))) (pick b (On (walkOf mid (w .high) (w .best) (w .deviation))) (Done w))))
       go true b = lower mid s p
@@ -121,7 +121,7 @@ module _ (target : Float) (limit : ℕ) where
   unfolding turnAt
   turned w mid s p = go (bothOver mid limit)
     where
-      go : (t : Bool) → State target limit (after (pick t (Done w) (passed (improved w mid (div binary64 target (quotientOf mid)) limit) mid target)))
+      go : (t : Bool) → State target limit (after (pick t (Done w) (passed (improved w mid (div binary64 target (floatOf mid)) limit) mid target)))
       go true = s
       go false = past _ mid (better w mid s p) p
 

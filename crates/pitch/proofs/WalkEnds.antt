@@ -7,19 +7,19 @@ use native.Mathlib.Omega.{arith}
 use lib.Dec.{ltb}
 use lib.Ieee.{Float, binary64, div, lt}
 use Rattle.base.specs.Said.{pick}
-use Rattle.pitch.specs.NearestFraction.{fraction, walkOf, start, turns, quotientOf, bothOver, bothWithin, improved, passed, turnAt, stepOf, endOf, walked}
+use Rattle.pitch.specs.NearestFraction.{fraction, walkOf, start, turns, floatOf, bothOver, bothWithin, improved, passed, turnAt, stepOf, endOf, walked}
 use Rattle.pitch.specs.Ratios.{upward}
 use Rattle.pitch.specs.declared.nearest.Fraction.{Fraction}
 use Rattle.pitch.specs.declared.nearest.Step.{Step}
 use Rattle.pitch.specs.declared.nearest.Step.the-variants.{On, Done}
 use Rattle.pitch.specs.declared.nearest.Walk.{Walk}
-use Rattle.pitch.proofs.States.{Between, Held, Kept, improved-keeps, State, after, state-start, state-step}
+use Rattle.pitch.proofs.States.{Between, InU16, Kept, improved-keeps, State, after, state-start, state-step}
 
 -- what the two fractions add up to
 unfoldable pub size : Walk → ℕ
 size w = w .low .numer + w .low .denom + (w .high .numer + w .high .denom)
 
-held-size : {w : Walk} → Held w → size w ≤ 262140
+held-size : {w : Walk} → InU16 w → size w ≤ 262140
 unfolding size
 held-size h = omega (arith, h .low-numer, h .low-denom, h .high-numer, h .high-denom)
 
@@ -37,7 +37,7 @@ no-end e = let z : _≡_ {A = ℕ} 0 1 = cc in omega arith
 passed-on : (w : Walk) (mid : Fraction) (target : Float) {next : Walk} → passed w mid target ≡ On next →
     (walkOf (w .low) mid (w .best) (w .deviation) ≡ next) ⊎ (walkOf mid (w .high) (w .best) (w .deviation) ≡ next)
 unfolding passed
-passed-on w mid target {next} = go (lt target (quotientOf mid)) (lt (quotientOf mid) target)
+passed-on w mid target {next} = go (lt target (floatOf mid)) (lt (floatOf mid) target)
   where
     go : (a b : Bool) → pick a (On (walkOf (w .low) mid (w .best) (w .deviation))) (pick b (On (walkOf mid (w .high) (w .best) (w .deviation))) (Done w)) ≡ On next →
         (walkOf (w .low) mid (w .best) (w .deviation) ≡ next) ⊎ (walkOf mid (w .high) (w .best) (w .deviation) ≡ next)
@@ -62,7 +62,7 @@ module _ (w : Walk) (b : Between w) where
   turned target limit {next} = go (bothOver mid limit)
     where
       better : Walk
-      better = improved w mid (div binary64 target (quotientOf mid)) limit
+      better = improved w mid (div binary64 target (floatOf mid)) limit
 
       go : (t : Bool) → pick t (Done w) (passed better mid target) ≡ On next → Grown w next
       go true e = absurd (no-end e)

@@ -13,7 +13,7 @@ use Rattle.explog.specs.Log.{bOf, yOf}
 use Rattle.explog.specs.Rules.{E, L, floorOf, timesPower, powerOf, logOf, logAt, ratioOf}
 use Rattle.math.specs.OddPart.{halvedWhileEven}
 use Rattle.pitch.specs.Given.{computed}
-use Rattle.pitch.specs.NearestFraction.{fraction, walked, stepOf, turnAt, passed, improved, bothOver, bothWithin, quotientOf, bestFor, nearestFraction}
+use Rattle.pitch.specs.NearestFraction.{fraction, walked, stepOf, turnAt, passed, improved, bothOver, bothWithin, floatOf, bestFor, nearestFraction}
 use Rattle.pitch.specs.Ratios.{fromOctaves, upward}
 use Rattle.pitch.specs.declared.nearest.NearestFraction.{NearestFraction}
 
@@ -23,7 +23,7 @@ answerOf numer denom deviation = record { numer = numer; denom = denom; deviatio
 
 -- how far x is from a fraction, upwards
 abbrev pub farFrom : ℕ → ℕ → Float → Float
-farFrom numer denom x = upward (div binary64 x (quotientOf (fraction numer denom)))
+farFrom numer denom x = upward (div binary64 x (floatOf (fraction numer denom)))
 
 -- 1.575, by its digits
 abbrev pub x1575 : Float
@@ -34,7 +34,7 @@ unfolding round size
 is-1575 = refl
 
 -- "Ratio 1.25, odd limit 3: 4/3"
-pub four-thirds : nearestFraction (fin false 5 (negsuc 1)) 3 ≡ gives (answerOf 4 3 (div binary64 (fin false 5 (negsuc 1)) (quotientOf (fraction 4 3))))
+pub four-thirds : nearestFraction (fin false 5 (negsuc 1)) 3 ≡ gives (answerOf 4 3 (div binary64 (fin false 5 (negsuc 1)) (floatOf (fraction 4 3))))
 unfolding nearestFraction le lt eq ofBits L logOf logAt ratioOf bOf yOf round size floor toSigned ofInt E floorOf powerOf timesPower tOf root rootFrom pOf neg div bestFor walked stepOf turnAt passed improved bothOver bothWithin halvedWhileEven upward
 four-thirds = refl
 

@@ -1,7 +1,7 @@
 -- The result is std's div_euclid: the whole part of the quotient, one away where the remainder is below zero.
 -- No loop; each way is the definition's tests.
 use mathlib.Core.Path.{ap}
-use lib.Ieee.{Float, binary64, add, sub}
+use lib.Ieee.{Float, binary64, add, sub, ofBits}
 use Rattle.floats.specs.Floats.{oneF}
 use borrow.Author.Needs.{needs}
 use Rattle.floats.proofs.Modulo.{tested}
@@ -15,11 +15,13 @@ rem-of-requires : tie.Need-rem-of-requires
 rem-of-requires c κs = search needs
 
 returns : tie.Need-returns
+unfolding ofBits
 returns c =
     let r = c .before .before .rem-of in
     rw (tested _ _ _ (r .ensures) (c .before .if1 .taken), c .if2 .taken) (ap (λ (y : Float). sub binary64 y oneF) (c .before .before .before .trunc-of .ensures))
 
 returns-2 : tie.Need-returns-2
+unfolding ofBits
 returns-2 c =
     let r = c .before .before .rem-of in
     rw (tested _ _ _ (r .ensures) (c .before .if1 .taken), c .if2 .left) (ap (λ (y : Float). add binary64 y oneF) (c .before .before .before .trunc-of .ensures))
