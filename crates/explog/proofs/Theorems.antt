@@ -16,7 +16,6 @@ use Rattle.floats.specs.Floats.{twoTo, zeroF, oneF, abs}
 use Rattle.floats.specs.Ranges.{inReach, negligible}
 use Rattle.floats.specs.Answers.{saysFloat}
 use Rattle.floats.specs.Units.{unitsOf, negative}
-use Rattle.floats.specs.declared.FloatAnswer.{FloatAnswer}
 use Rattle.floats.proofs.Theorems.{float-one}
 use Rattle.floats.proofs.Power.{power-finite}
 use Rattle.floats.proofs.Ranges.{reach-says}

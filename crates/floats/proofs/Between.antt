@@ -1,9 +1,9 @@
 -- Numbers between two powers of two, and between -n * 2 ^ k and n * 2 ^ k: what rounding, dividing and turning over keep of that.
 -- Assumes nothing.
 use mathlib.Core.Path.{_≡_, refl, sym, ap, _∙_, subst}
-use mathlib.Core.Bool.{Bool, true, false, _&&_, _||_, true≢false}
+use mathlib.Core.Bool.{true, false, _&&_, _||_, true≢false}
 use mathlib.Core.Logic.{inl, inr}
-use Prim.Native.Nat.{ℕ, suc, _+_, _-_, _*_, _^_, _≤_, _<_, zero}
+use Prim.Native.Nat.{ℕ, suc, _+_, _-_, _*_, _^_, _≤_, _<_}
 use native.Mathlib.Nat.{le-trans, le-of-eq, lt-of-le-of-lt, mul-one, one-mul, mul-comm, mul-assoc, mul-right-comm, mul-left-comm, add-comm, mul-le-mul, mul-le-mul-right, mul-le-mul-left, eq-or-lt-of-le, mul-pos, zero-mul}
 use native.Mathlib.Omega.{arith}
 use lib.Dec.{T, ltb, eqb, lt→ltb, eqb-refl, lit<}

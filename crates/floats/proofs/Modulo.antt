@@ -1,8 +1,8 @@
 -- The remainder of two f64s in units of 2 ^ -1074: whole numbers, shifted in pieces. Assumes nothing.
-use mathlib.Core.Path.{_≡_, refl, sym, ap, _∙_, subst}
+use mathlib.Core.Path.{_≡_, refl, sym, ap, _∙_}
 use mathlib.Core.Bool.{Bool, true, false, _&&_, true≢false}
 use Prim.Native.Nat.{ℕ, zero, suc, _+_, _-_, _*_, _/_, _%_, _^_, _≤_, _<_}
-use native.Mathlib.Nat.{mul-one, one-mul, zero-mul, mul-pos, mul-comm, mul-assoc, mul-right-comm, add-mul, div-add-mod', mod-lt, mod-eq-of-lt, mul-add-mod-self-right, mul-lt-mul-of-pos-right, lt-of-lt-of-le, lt-of-le-of-lt, mul-le-mul-right, le-of-eq, le-of-lt, le-trans, pos-of-ne-zero}
+use native.Mathlib.Nat.{zero-mul, mul-pos, mul-comm, mul-assoc, mul-right-comm, add-mul, div-add-mod', mod-lt, mod-eq-of-lt, mul-add-mod-self-right, mul-lt-mul-of-pos-right, lt-of-lt-of-le, mul-le-mul-right, le-of-eq, le-of-lt, le-trans, pos-of-ne-zero}
 use native.Mathlib.Omega.{arith}
 use lib.Arith.{digits-mod}
 use lib.Dec.{T, lit<}

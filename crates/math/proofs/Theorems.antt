@@ -1,13 +1,13 @@
 -- What the calls of this crate mean, and that each has one result. Document 01, "What is taken", 1.
 -- Assumes nothing.
 use mathlib.Core.Path.{_≡_, refl, sym, _∙_, subst}
-use mathlib.Core.Logic.{_↔_, _⊎_, inl, inr}
+use mathlib.Core.Logic.{_↔_, inl, inr}
 use Prim.Native.Nat.{ℕ, zero, suc, _^_, _<_}
 use native.Mathlib.Omega.{arith}
 use lib.IntN.{ℤ}
 use borrow.Author.Tests.{ne-eqb}
 use Rattle.base.specs.Integers.{Divides, floorDiv, floorMod}
-use Rattle.base.specs.Said.{Said, gives, refuses}
+use Rattle.base.specs.Said.{gives, refuses}
 use Rattle.base.proofs.Division.{floor-divides, divides-one}
 use Rattle.base.proofs.Said.{One, Split, one-result, one-plain, one-answer}
 use Rattle.integer_math.specs.Answers.{saysI32}
@@ -16,9 +16,7 @@ use Rattle.math.specs.Answers.{saysU32, saysDivision}
 use Rattle.math.specs.Division.{QuotientAndRemainder, quotientOf, remainderOf, divisionOf}
 use Rattle.math.specs.OddPart.{OddPart, oddPart}
 use Rattle.math.specs.declared.Division.{Division}
-use Rattle.math.specs.declared.U32Answer.{U32Answer}
 use Rattle.math.specs.declared.U32Answer.the-variants as U
-use Rattle.math.specs.declared.DivisionAnswer.{DivisionAnswer}
 use Rattle.math.specs.declared.DivisionAnswer.the-variants as D
 use Rattle.math.proofs.OddPart.{halved-is, one-part}
 

@@ -1,10 +1,12 @@
 -- Inside 2^-64..2^64 `nearest_fraction` always answers: its octaves are at most 64 either way, so neither L nor the count, E
--- or the quotient refuses; and each deviation that its walk computes lies in 2^-900..2^900. Assumes nothing.
+-- or the quotient refuses; each deviation that its walk computes lies in 2^-900..2^900; and with a limit of 1 or more its
+-- best counts. Assumes nothing.
 use mathlib.Core.Path.{_≡_, refl, sym, ap, _∙_, subst}
 use mathlib.Core.Bool.{Bool, true, false, _&&_}
-use Prim.Native.Nat.{ℕ, _+_, _*_, _^_, _≤_, _<_}
-use native.Mathlib.Nat.{le-trans, mul-le-mul-right, mul-le-mul-left}
+use Prim.Native.Nat.{ℕ, suc, _+_, _≤_, _<_}
+use native.Mathlib.Nat.{le-trans}
 use native.Mathlib.Omega.{arith}
+use borrow.Author.Tests.{le-ltb, le-leb}
 use lib.Dec.{lit<, lit≤}
 use lib.IntN.{ℤ, pos}
 use lib.Ieee.{Float, inf, binary64, fits, div, neg, lt, ofInt, toSigned}
@@ -16,16 +18,19 @@ use Rattle.base.specs.Said.{Said, gives, andThen, pick}
 use Rattle.floats.specs.Floats.{floor, count, oneF}
 use Rattle.floats.specs.Ranges.{inReach, inSearch}
 use Rattle.floats.proofs.Between.{quotient-within, over-within, inverse-within, within-more, within-reach}
-use Rattle.floats.proofs.Ranges.{Within, search-says}
+use Rattle.floats.proofs.Ranges.{Within, within-fin, search-says}
 use Rattle.floats.proofs.Sized.{Sized, sized-more, floor-sized, signed-sized, sized-count}
+use Rattle.math.specs.OddPart.{halvedWhileEven}
 use Rattle.explog.specs.Rules.{E, L, logOf, powerOf, floorOf}
 use Rattle.explog.proofs.Reach.{log-sized, exp-within, sized-powers}
 use Rattle.pitch.specs.Given.{computed}
-use Rattle.pitch.specs.NearestFraction.{fraction, start, turns, walked, floatOf, bestFor, nearestFraction}
+use Rattle.pitch.specs.NearestFraction.{fraction, walkOf, start, turns, walked, endOf, floatOf, bothOver, bothWithin, improved, passed, turnAt, stepOf, bestFor, nearestFraction}
 use Rattle.pitch.specs.Ratios.{fromOctaves, upward}
 use Rattle.pitch.specs.declared.nearest.Fraction.{Fraction}
+use Rattle.pitch.specs.declared.nearest.Step.{Step}
+use Rattle.pitch.specs.declared.nearest.Step.the-variants.{On, Done}
 use Rattle.pitch.specs.declared.nearest.Walk.{Walk}
-use Rattle.pitch.proofs.States.{Proper, State, state-walked}
+use Rattle.pitch.proofs.States.{Proper, State, Any, Counted, after, past, state-rest}
 
 reach-of : {a b : ℕ} {x : Float} → a ≤ 900 → b ≤ 900 → Within a b x → inReach x ≡ true
 reach-of h k w = within-reach (within-more h k w)
@@ -125,5 +130,59 @@ deviation-reach target f t p =
     (reach-of {a = 144} {b = 144} (lit≤ tt) (lit≤ tt) w, reach-of {a = 144} {b = 144} (lit≤ tt) (lit≤ tt) (upward-within (div binary64 target (floatOf f)) (lit≤ tt) w))
 
 -- the fraction in the middle of a state of the walk, where its numbers have 16 bits
-pub middle-proper : {target : Float} {limit : ℕ} {w : Walk} → State target limit w → (n d : ℕ) → n ≡ w .low .numer + w .high .numer → d ≡ w .low .denom + w .high .denom → n ≤ 65535 → d ≤ 65535 → Proper (fraction n d)
+pub middle-proper : {w : Walk} → State Any w → (n d : ℕ) → n ≡ w .low .numer + w .high .numer → d ≡ w .low .denom + w .high .denom → n ≤ 65535 → d ≤ 65535 → Proper (fraction n d)
 middle-proper s n d e g h k = record { numer-some = omega (arith, s .between .high); denom-some = omega (arith, s .between .low); numer-held = h; denom-held = k }
+
+-- ---- a limit of 1 or more: the first turn finds 1/1, and from there on the best counts
+module _ (target : Float) (limit : ℕ) (some : 1 ≤ limit) (t : Within 128 128 target) where
+  abbrev one : Fraction
+  one = fraction 1 1
+
+  one-proper : Proper one
+  one-proper = record { numer-some = omega arith; denom-some = omega arith; numer-held = omega arith; denom-held = omega arith }
+
+  abbrev deviation-one : Float
+  deviation-one = div binary64 target (floatOf one)
+
+  not-over : bothOver one limit ≡ false
+  unfolding bothOver halvedWhileEven
+  not-over = rw (le-ltb limit 1 some)
+
+  one-within : bothWithin one limit ≡ true
+  unfolding bothWithin halvedWhileEven
+  one-within = rw (le-leb 1 limit some)
+
+  -- any number is below the infinite deviation of the start
+  below : {x : Float} → Within 144 144 x → lt x (upward (inf false)) ≡ true
+  unfolding lt upward neg
+  below (within-fin m e p l h) = refl
+
+  one-nearer : lt (upward deviation-one) (upward (inf false)) ≡ true
+  one-nearer = below (upward-within deviation-one (lit≤ tt) (over-within (lit≤ tt) (lit≤ tt) t (fraction-within one one-proper)))
+
+  improved-one : improved start one deviation-one limit ≡ walkOf (fraction 0 1) (fraction 1 0) one deviation-one
+  unfolding improved
+  improved-one = rw (one-within, one-nearer)
+
+  new : (mid : Fraction) → Proper mid → bothWithin mid limit ≡ true → Counted target limit mid (div binary64 target (floatOf mid))
+  new mid p e = record { proper = p; within = e; deviation = refl }
+
+  at-one : State (Counted target limit) (walkOf (fraction 0 1) (fraction 1 0) one deviation-one)
+  at-one = record { between = record { low = omega arith; high = omega arith }; held = record { low-numer = omega arith; low-denom = omega arith; high-numer = omega arith; high-denom = omega arith }; best = new one one-proper one-within }
+
+  first : stepOf start target limit ≡ passed (walkOf (fraction 0 1) (fraction 1 0) one deviation-one) one target
+  unfolding stepOf turnAt
+  first = rw (not-over, improved-one)
+
+  counted-after : (k : ℕ) → State (Counted target limit) (walked (suc k) start target limit)
+  unfolding walked
+  counted-after k =
+      subst (λ (e : Step). State (Counted target limit) (endOf e (λ next. walked k next target limit))) (sym first)
+      (go (passed (walkOf (fraction 0 1) (fraction 1 0) one deviation-one) one target) (past target limit (Counted target limit) new _ one at-one one-proper))
+    where
+      go : (e : Step) → State (Counted target limit) (after e) → State (Counted target limit) (endOf e (λ next. walked k next target limit))
+      go (On next) h = state-rest target limit (Counted target limit) new k next h
+      go (Done last) h = h
+
+  pub counted : State (Counted target limit) (walked turns start target limit)
+  counted = counted-after 262143

@@ -1,8 +1,8 @@
 -- What a user of `nearest_fraction` may count on, with the sentences of document 01, "Scales and searches". Assumes nothing.
 use mathlib.Core.Path.{_≡_, refl, sym, ap, _∙_, subst}
-use mathlib.Core.Bool.{Bool, true, false}
+use mathlib.Core.Bool.{true, false}
 use Prim.Native.Nat.{ℕ, _+_, _≤_}
-use lib.IntN.{ℤ, pos}
+use lib.IntN.{ℤ}
 use lib.Ieee.{Float, inf, binary64, fits, div}
 use Rattle.base.specs.Said.{Said, gives, refuses, andThen}
 use Rattle.base.proofs.Said.{same-value}
@@ -15,8 +15,8 @@ use Rattle.pitch.specs.NearestFraction.{fraction, start, turns, walked, 
 use Rattle.pitch.specs.Ratios.{upward}
 use Rattle.pitch.specs.declared.nearest.NearestFraction.{NearestFraction}
 use Rattle.pitch.specs.declared.nearest.Walk.{Walk}
-use Rattle.pitch.proofs.NearestAnswers.{Reduced, reduced, deviation-reach, middle-proper}
-use Rattle.pitch.proofs.States.{Proper, Best, State, state-walked}
+use Rattle.pitch.proofs.NearestAnswers.{reduced, deviation-reach, middle-proper, counted}
+use Rattle.pitch.proofs.States.{Proper, Counted, state-walked}
 use Rattle.pitch.proofs.WalkEnds.{walked-end}
 
 -- "gives 10 for a ratio outside 2^-64..2^64"
@@ -62,20 +62,20 @@ pub walk-in-reach : (target : Float) (limit k n d : ℕ) → Within 128 128 targ
     (inReach (div binary64 target (floatOf (fraction n d))) ≡ true) × (inReach (upward (div binary64 target (floatOf (fraction n d)))) ≡ true)
 walk-in-reach target limit k n d t p q h g = deviation-reach target (fraction n d) t (middle-proper (state-walked target limit k) n d p q h g)
 
--- what is answered: a fraction within the limit, with a deviation in the range; or 0/0 and an infinite one
-pub data Found (limit : ℕ) (q : NearestFraction) : Type 0 where
-  none : q .numer ≡ 0 → q .denom ≡ 0 → q .deviation .0 ≡ inf false → Found limit q
-  some : Proper (fraction (q .numer) (q .denom)) → bothWithin (fraction (q .numer) (q .denom)) limit ≡ true → inReach (q .deviation .0) ≡ true → Found limit q
+-- what is answered with any other limit: a fraction within it, with a deviation in the range
+pub record Answers (limit : ℕ) (q : NearestFraction) : Type 0 where
+  pub proper : Proper (fraction (q .numer) (q .denom))
+  pub within : bothWithin (fraction (q .numer) (q .denom)) limit ≡ true
+  pub deviation : inReach (q .deviation .0) ≡ true
 
-found-best : (target : Float) (octaves : ℤ) (limit : ℕ) → Within 128 128 target → Found limit (bestFor target octaves limit)
+answers-best : (target : Float) (octaves : ℤ) (limit : ℕ) → 1 ≤ limit → Within 128 128 target → Answers limit (bestFor target octaves limit)
 unfolding bestFor
-found-best target octaves limit t = go (walked turns start target limit) (state-walked target limit turns .best)
+answers-best target octaves limit l t = go (walked turns start target limit) (counted target limit l t .best)
   where
-    go : (w : Walk) → Best target limit w → Found limit (record { numer = w .best .numer; denom = w .best .denom; deviation = record { 0 = w .deviation }; «num_octaves» = octaves })
-    go w (Best.none e d) = none (ap (λ f. f .numer) e) (ap (λ f. f .denom) e) d
-    go w (Best.found p b d) = some p b (ap inReach d ∙ deviation-reach target (w .best) t p .0)
+    go : (w : Walk) → Counted target limit (w .best) (w .deviation) → Answers limit (record { numer = w .best .numer; denom = w .best .denom; deviation = record { 0 = w .deviation }; «num_octaves» = octaves })
+    go w c = record { proper = c .proper; within = c .within; deviation = ap inReach (c .deviation) ∙ deviation-reach target (w .best) t (c .proper) .0 }
 
-pub nearest-found : (r : Float) (limit : ℕ) (q : NearestFraction) → fits binary64 r ≡ true → inSearch r ≡ true → nearestFraction r limit ≡ gives q → Found limit q
-nearest-found r limit q f s h =
+pub nearest-within : (r : Float) (limit : ℕ) (q : NearestFraction) → fits binary64 r ≡ true → inSearch r ≡ true → 1 ≤ limit → nearestFraction r limit ≡ gives q → Answers limit q
+nearest-within r limit q f s l h =
     let d = reduced r f s in
-    subst (Found limit) (same-value _ _ (sym (d .nearest-is limit) ∙ h)) (found-best (div binary64 r (d .power)) (d .whole) limit (d .target-within))
+    subst (Answers limit) (same-value _ _ (sym (d .nearest-is limit) ∙ h)) (answers-best (div binary64 r (d .power)) (d .whole) limit l (d .target-within))

@@ -1,5 +1,5 @@
 -- Each call of this crate has one result. Assumes nothing.
-use mathlib.Core.Path.{_≡_, refl}
+use mathlib.Core.Path.{refl}
 use mathlib.Core.Logic.{inl, inr}
 use mathlib.Core.Bool.{Bool}
 use Prim.Native.Nat.{ℕ}
@@ -19,7 +19,6 @@ use Rattle.pitch.specs.declared.nearest.NearestAnswer.the-variants as Of
 use Rattle.pitch.specs.declared.nearest.NearestFraction.{NearestFraction}
 use Rattle.pitch.specs.declared.Order.{Order}
 use Rattle.pitch.specs.declared.OrderAnswer.the-variants as OfOrder
-use Rattle.pitch.specs.declared.Pitch.{Pitch}
 use Rattle.pitch.specs.declared.PitchAnswer.the-variants as OfPitch
 use Rattle.pitch.specs.declared.Ratio.{Ratio}
 use Rattle.pitch.specs.declared.RatioAnswer.the-variants as OfRatio

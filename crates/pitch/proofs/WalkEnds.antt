@@ -1,19 +1,18 @@
 -- The walk of `nearest_fraction` ends: with each turn that goes on, the fractions it is between grow. Assumes nothing.
-use mathlib.Core.Path.{_≡_, refl, sym, _∙_, ap, subst}
+use mathlib.Core.Path.{_≡_, refl, sym, _∙_, subst}
 use mathlib.Core.Logic.{_⊎_, inl, inr}
-use mathlib.Core.Bool.{Bool, true, false, _&&_}
+use mathlib.Core.Bool.{Bool, true, false}
 use Prim.Native.Nat.{ℕ, zero, suc, _+_, _-_, _≤_, _<_}
 use native.Mathlib.Omega.{arith}
 use lib.Dec.{ltb}
 use lib.Ieee.{Float, binary64, div, lt}
 use Rattle.base.specs.Said.{pick}
-use Rattle.pitch.specs.NearestFraction.{fraction, walkOf, start, turns, floatOf, bothOver, bothWithin, improved, passed, turnAt, stepOf, endOf, walked}
-use Rattle.pitch.specs.Ratios.{upward}
+use Rattle.pitch.specs.NearestFraction.{fraction, walkOf, start, turns, floatOf, bothOver, improved, passed, turnAt, stepOf, walked}
 use Rattle.pitch.specs.declared.nearest.Fraction.{Fraction}
 use Rattle.pitch.specs.declared.nearest.Step.{Step}
 use Rattle.pitch.specs.declared.nearest.Step.the-variants.{On, Done}
 use Rattle.pitch.specs.declared.nearest.Walk.{Walk}
-use Rattle.pitch.proofs.States.{Between, InU16, Kept, improved-keeps, State, after, state-start, state-step}
+use Rattle.pitch.proofs.States.{Between, InU16, Kept, improved-keeps, State, Any, after, state-start, state-step-any}
 
 -- what the two fractions add up to
 unfoldable pub size : Walk → ℕ
@@ -132,13 +131,13 @@ module _ (target : Float) (limit : ℕ) where
       go (Done last) e = inr (last, e)
 
   -- two walks with turns enough end alike
-  settled : (k j : ℕ) (w : Walk) → State target limit w → 262141 ≤ k + size w → 262141 ≤ j + size w → walked k w target limit ≡ walked j w target limit
+  settled : (k j : ℕ) (w : Walk) → State Any w → 262141 ≤ k + size w → 262141 ≤ j + size w → walked k w target limit ≡ walked j w target limit
   settled zero j w t p q = absurd (omega (arith, held-size (t .held)))
   settled (suc k) zero w t p q = absurd (omega (arith, held-size (t .held)))
   settled (suc k) (suc j) w t p q = elim (step-cases w) [
     | inl s ↦
         let g = grows w (t .between) target limit (s .1) in
-        let on = subst (λ (e : Step). State target limit (after e)) (s .1) (state-step target limit w t) in
+        let on = subst (λ (e : Step). State Any (after e)) (s .1) (state-step-any target limit w t) in
         walked-on target limit k w (s .0) (s .1) ∙ settled k j (s .0) on (omega (arith, g .more)) (omega (arith, g .more)) ∙ sym (walked-on target limit j w (s .0) (s .1))
     | inr s ↦ walked-end target limit k w (s .0) (s .1) ∙ sym (walked-end target limit j w (s .0) (s .1))
   ]
@@ -146,4 +145,4 @@ module _ (target : Float) (limit : ℕ) where
   -- the walk from its start has ended after so many turns: more change nothing
   pub walk-ends : (more : ℕ) → walked (turns + more) start target limit ≡ walked turns start target limit
   unfolding size
-  walk-ends more = settled (turns + more) turns start (state-start target limit) (omega arith) (omega arith)
+  walk-ends more = settled (turns + more) turns start state-start (omega arith) (omega arith)

@@ -1,11 +1,11 @@
 -- Ratios of two frequencies: the Rust's `Ratio`, "each f64 step in its order, once rounded each", with document 01's E and
 -- L for exp2 and log2. A ratio stands for its number. Assumes nothing.
-use mathlib.Core.Bool.{Bool, true, false, _&&_}
+use mathlib.Core.Bool.{Bool, _&&_}
 use lib.IntN.{pos}
-use lib.Ieee.{Float, binary64, mul, div, neg, lt, le, ofBits}
+use lib.Ieee.{Float, binary64, mul, div, neg, lt, ofBits}
 use Rattle.base.specs.Said.{Said, gives, pick, andThen}
 use Rattle.floats.specs.Floats.{twoTo, oneF}
-use Rattle.floats.specs.Ranges.{inReach, negligible}
+use Rattle.floats.specs.Ranges.{negligible}
 use Rattle.explog.specs.Rules.{E, L}
 use Rattle.pitch.specs.Given.{given, bothGiven, computed}
 use Rattle.pitch.specs.declared.Order.{Order}

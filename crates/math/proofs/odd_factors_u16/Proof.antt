@@ -1,7 +1,6 @@
 -- `math::odd_factors_u16` meets its contract. The invariant: the number is halvedWhileEven on the way to its odd part.
 -- The measure is the number. Assumes nothing.
 use mathlib.Core.Path.{ap, sym}
-use borrow.Author.Needs.{needs}
 use native.Mathlib.Omega.{arith}
 use Rattle.math.specs.OddPart.{halvedWhileEven}
 use Rattle.math.proofs.OddPart.{Halving, begin, turn, end}

@@ -1,6 +1,5 @@
 -- The result is the f64 of the parts.
 -- No loop; the sign is carried along.
-use Prim.Native.Nat.{_*_, _^_}
 use borrow.Author.Needs.{needs}
 use Rattle.floats.proofs.Modulo.{with-sign, without-sign}
 use Rattle.floats.proofs.remainder.pack.Statement.{statement}

@@ -6,9 +6,9 @@ use Prim.Native.Nat.{ℕ, _+_, _-_, _*_, _%_, _^_, _≤_, _<_}
 use native.Mathlib.Nat.{one-mul}
 use native.Mathlib.Omega.{arith}
 use borrow.Author.Needs.{needs}
-use mathlib.Core.Path.{_∙_, ap}
+use mathlib.Core.Path.{_∙_}
 use lib.Dec.{T, lit<, lit≤}
-use lib.Ieee.{Float, binary64, ofBits, nanBits}
+use lib.Ieee.{binary64, ofBits, nanBits}
 use lib.Ieee.Bits.{nanBits-is}
 use lib.Ieee.Exact.{HasValue}
 use lib.Pow.{shl-exact}
