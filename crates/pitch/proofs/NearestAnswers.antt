@@ -3,7 +3,7 @@
 -- best counts. Assumes nothing.
 use mathlib.Core.Path.{_≡_, refl, sym, ap, _∙_, subst}
 use mathlib.Core.Bool.{Bool, true, false, _&&_}
-use Prim.Native.Nat.{ℕ, suc, _+_, _≤_, _<_}
+use Prim.Native.Nat.{ℕ, suc, _-_, _+_, _≤_, _<_}
 use native.Mathlib.Nat.{le-trans}
 use native.Mathlib.Omega.{arith}
 use borrow.Author.Tests.{le-ltb, le-leb}
@@ -185,4 +185,4 @@ module _ (target : Float) (limit : ℕ) (some : 1 ≤ limit) (t : Within 128 128
       go (Done last) h = h
 
   pub counted : State (Counted target limit) (walked turns start target limit)
-  counted = counted-after 262143
+  counted = counted-after (turns - 1)

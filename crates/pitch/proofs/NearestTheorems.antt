@@ -1,7 +1,7 @@
 -- What a user of `nearest_fraction` may count on, with the sentences of document 01, "Scales and searches". Assumes nothing.
 use mathlib.Core.Path.{_≡_, refl, sym, ap, _∙_, subst}
 use mathlib.Core.Bool.{true, false}
-use Prim.Native.Nat.{ℕ, _+_, _≤_}
+use Prim.Native.Nat.{ℕ, _+_, _-_, _≤_}
 use lib.IntN.{ℤ}
 use lib.Ieee.{Float, inf, binary64, fits, div}
 use Rattle.base.specs.Said.{Said, gives, refuses, andThen}
@@ -36,7 +36,7 @@ noFraction octaves = record { numer = 0; denom = 0; deviation = record { 0 = inf
 -- the walk ends where it starts
 pub walk-limit-zero : (target : Float) → walked turns start target 0 ≡ start
 unfolding stepOf turnAt bothOver halvedWhileEven
-walk-limit-zero target = walked-end target 0 262143 start start refl
+walk-limit-zero target = walked-end target 0 (turns - 1) start start refl
 
 best-limit-zero : (target : Float) (octaves : ℤ) → bestFor target octaves 0 ≡ noFraction octaves
 unfolding bestFor
