@@ -45,6 +45,7 @@ pub record Reduced (r : Float) : Type 0 where
   pub count-is : count (floor octaves) ≡ gives whole
   pub power-is : fromOctaves (ofInt binary64 whole) ≡ gives power
   pub nearest-is : (limit : ℕ) → nearestFraction r limit ≡ gives (bestFor (div binary64 r power) whole limit)
+  pub power-within : Within 64 64 power
   pub target-within : Within 128 128 (div binary64 r power)
 
 module _ (r : Float) (f : fits binary64 r ≡ true) (s : inSearch r ≡ true) where
@@ -74,14 +75,14 @@ module _ (r : Float) (f : fits binary64 r ≡ true) (s : inSearch r ≡ true) wh
   unfolding E
   exp-gives = rw (sized-powers (ofInt binary64 whole-of) (sized-more (lit≤ tt) back-sized))
 
-  power-within : Within 64 64 power-at
-  power-within = exp-within 64 (ofInt binary64 whole-of) power-at (lit≤ tt) (is-true (fits binary64 (ofInt binary64 whole-of)) (ofInt-fits binary64 whole-of)) back-sized exp-gives
+  power-fits : Within 64 64 power-at
+  power-fits = exp-within 64 (ofInt binary64 whole-of) power-at (lit≤ tt) (is-true (fits binary64 (ofInt binary64 whole-of)) (ofInt-fits binary64 whole-of)) back-sized exp-gives
 
   power-gives : fromOctaves (ofInt binary64 whole-of) ≡ gives power-at
-  power-gives = ap (λ (a : Said Float). andThen a computed) exp-gives ∙ rw (reach-of {a = 64} {b = 64} (lit≤ tt) (lit≤ tt) power-within)
+  power-gives = ap (λ (a : Said Float). andThen a computed) exp-gives ∙ rw (reach-of {a = 64} {b = 64} (lit≤ tt) (lit≤ tt) power-fits)
 
   quotient-gives : Within 128 128 (div binary64 r power-at)
-  quotient-gives = over-within (lit≤ tt) (lit≤ tt) searched power-within
+  quotient-gives = over-within (lit≤ tt) (lit≤ tt) searched power-fits
 
   target-gives : computed (div binary64 r power-at) ≡ gives (div binary64 r power-at)
   target-gives = rw (reach-of {a = 128} {b = 128} (lit≤ tt) (lit≤ tt) quotient-gives)
@@ -100,6 +101,7 @@ module _ (r : Float) (f : fits binary64 r ≡ true) (s : inSearch r ≡ true) wh
         count-is = count-gives;
         power-is = power-gives;
         nearest-is = nearest-gives;
+        power-within = power-fits;
         target-within = quotient-gives;
       }
 

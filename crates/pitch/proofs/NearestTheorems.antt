@@ -2,12 +2,14 @@
 use mathlib.Core.Path.{_≡_, refl, sym, ap, _∙_, subst}
 use mathlib.Core.Bool.{true, false}
 use Prim.Native.Nat.{ℕ, _+_, _-_, _≤_}
+use lib.Dec.{lit≤}
 use lib.IntN.{ℤ}
 use lib.Ieee.{Float, inf, binary64, fits, div}
 use Rattle.base.specs.Said.{Said, gives, refuses, andThen}
 use Rattle.base.proofs.Said.{same-value}
 use Rattle.floats.specs.Floats.{floor, count}
 use Rattle.floats.specs.Ranges.{inReach, inSearch}
+use Rattle.floats.proofs.Between.{within-more, within-reach}
 use Rattle.floats.proofs.Ranges.{Within}
 use Rattle.explog.specs.Rules.{L}
 use Rattle.math.specs.OddPart.{halvedWhileEven}
@@ -15,7 +17,7 @@ use Rattle.pitch.specs.NearestFraction.{fraction, start, turns, walked, 
 use Rattle.pitch.specs.Ratios.{upward}
 use Rattle.pitch.specs.declared.nearest.NearestFraction.{NearestFraction}
 use Rattle.pitch.specs.declared.nearest.Walk.{Walk}
-use Rattle.pitch.proofs.NearestAnswers.{reduced, deviation-reach, middle-proper, counted}
+use Rattle.pitch.proofs.NearestAnswers.{Reduced, reduced, deviation-reach, middle-proper, counted}
 use Rattle.pitch.proofs.States.{Proper, Counted, state-walked}
 use Rattle.pitch.proofs.WalkEnds.{walked-end}
 
@@ -55,12 +57,18 @@ limit-zero r f s =
     )
 
 -- ---- "A computed pitch or ratio outside 2^-900..2^900 gives 18 at that step": none of the walk does
--- after any number of turns: the deviation from the fraction in the middle, and the same upwards
-pub walk-in-reach : (target : Float) (limit k n d : ℕ) → Within 128 128 target →
-    n ≡ walked k start target limit .low .numer + walked k start target limit .high .numer → d ≡ walked k start target limit .low .denom + walked k start target limit .high .denom →
-    n ≤ 65535 → d ≤ 65535 →
-    (inReach (div binary64 target (floatOf (fraction n d))) ≡ true) × (inReach (upward (div binary64 target (floatOf (fraction n d)))) ≡ true)
-walk-in-reach target limit k n d t p q h g = deviation-reach target (fraction n d) t (middle-proper (state-walked target limit k) n d p q h g)
+-- the power of two and the target; and after any number of turns the deviation from the fraction in the middle, and the
+-- same upwards
+pub steps-in-reach : (r : Float) → fits binary64 r ≡ true → inSearch r ≡ true → (d : Reduced r) × ((inReach (d .power) ≡ true) × (inReach (div binary64 r (d .power)) ≡ true))
+steps-in-reach r f s = let d = reduced r f s in (d, (within-reach (within-more (lit≤ tt) (lit≤ tt) (d .power-within)), within-reach (within-more (lit≤ tt) (lit≤ tt) (d .target-within))))
+
+pub walk-in-reach : {r : Float} (d : Reduced r) (limit k n m : ℕ) →
+    (let w = walked k start (div binary64 r (d .power)) limit in
+    let deviation = div binary64 (div binary64 r (d .power)) (floatOf (fraction n m)) in
+    n ≡ w .low .numer + w .high .numer → m ≡ w .low .denom + w .high .denom → n ≤ 65535 → m ≤ 65535 → (inReach deviation ≡ true) × (inReach (upward deviation) ≡ true))
+walk-in-reach {r} d limit k n m p q h g =
+    let target = div binary64 r (d .power) in
+    deviation-reach target (fraction n m) (d .target-within) (middle-proper (state-walked target limit k) n m p q h g)
 
 -- what is answered with any other limit: a fraction within it, with a deviation in the range
 pub record Answers (limit : ℕ) (q : NearestFraction) : Type 0 where
