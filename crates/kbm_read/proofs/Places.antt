@@ -12,14 +12,14 @@ use Rattle.base.specs.Numbers.{not-utf8, line-missing, float-value, keyboard-ma
 use Rattle.base.specs.Said.{Said, gives, refuses, pick, andThen}
 use Rattle.floats.specs.Ranges.{inPitch}
 use Rattle.kbm.specs.declared.Kbm.{Kbm}
-use Rattle.numeral.specs.DecimalAnswers.{saysDecimal}
-use Rattle.numeral.specs.DecimalScan.{readDecimal}
-use Rattle.numeral.specs.Integer.{Int, value, none, readInt}
-use Rattle.numeral.specs.declared.decimal.DecimalAnswer.{DecimalAnswer}
-use Rattle.numeral.specs.declared.decimal.DecimalAnswer.the-variants as decimal
+use Rattle.decimals.specs.Answers.{saysDecimal}
+use Rattle.decimals.specs.DecimalScan.{readDecimal}
+use Rattle.integers.specs.Integer.{Int, value, none, readInt}
+use Rattle.decimals.specs.declared.DecimalAnswer.{DecimalAnswer}
+use Rattle.decimals.specs.declared.DecimalAnswer.the-variants as decimal
 use Rattle.text.specs.Reading.{Meaning, invalid, dropped, content}
 use Rattle.kbm_read.specs.Language.{Required, Value, required}
-use Rattle.kbm_read.specs.Reader.{intAt, goesOn, placed, entryIn, takeDue, takeToken, takeMeaning, whichOf, mappingOf, finished, start, walk}
+use Rattle.kbm_read.specs.Reader.{intAt, goesOn, placed, entryIn, takeDue, takeToken, takeMeaning, whichOf, mappingOf, finished, unread, walk}
 use Rattle.kbm_read.specs.declared.Due.{Due}
 use Rattle.kbm_read.specs.declared.Due.the-variants as due
 use Rattle.kbm_read.specs.declared.EntryRead.{EntryRead}
@@ -88,7 +88,7 @@ abbrev placeOf : State → Place
 placeOf s = record { fields = fieldsFrom (s .due); head = s .head; count = s .count }
 
 abbrev pub startPlace : Place
-startPlace = placeOf start
+startPlace = placeOf unread
 
 abbrev placesOf : Said State → Said Place
 placesOf r = andThen r (λ s. gives (placeOf s))
@@ -174,5 +174,5 @@ walk-place room k s (m ∷ ms) z = ap (λ r. andThen r (λ q. walkOn room (k + 1
     go (gives s′) p ih = ih s′ (meaning-early room k m s s′ z p)
     go (refuses n d) p ih = refl
 
-pub same-walk : (room : ℕ) (ms : List Meaning) → walkOn room 1 startPlace ms ≡ walk room 1 start ms
-same-walk room ms = walk-place room 1 start ms refl
+pub same-walk : (room : ℕ) (ms : List Meaning) → walkOn room 1 startPlace ms ≡ walk room 1 unread ms
+same-walk room ms = walk-place room 1 unread ms refl

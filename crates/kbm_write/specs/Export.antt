@@ -11,7 +11,7 @@ use Rattle.base.specs.Integers.{held}
 use Rattle.base.specs.Numbers.{unusable, no-room}
 use Rattle.base.specs.Said.{Said, gives, refuses, pick, andThen}
 use Rattle.floats.specs.Ranges.{inPitch}
-use Rattle.numeral.specs.PrintText.{textOf, wholeText}
+use Rattle.printing.specs.PrintText.{textOf, wholeText}
 use Rattle.kbm.specs.Table.{isTable, entriesOf, tableOf}
 use Rattle.kbm.specs.declared.Entry.{Entry}
 use Rattle.kbm.specs.declared.Entry.the-variants.{Mapped, Unmapped}
@@ -81,5 +81,5 @@ exportOf kbm map room =
     pick (isTable (kbm .count) map && inPitch (kbm .root .pitch .0)) (heldText kbm (tableOf (kbm .count) map) room) (refuses unusable 0)
 
 -- the number of bytes written
-abbrev pub sizeOf : Said (List ℕ) → Said ℕ
-sizeOf said = andThen said (λ t. gives (length t))
+abbrev pub textLength : Said (List ℕ) → Said ℕ
+textLength said = andThen said (λ t. gives (length t))

@@ -2,18 +2,18 @@
 // answer, which is a number or `!` and the number of a refusal. Writes how many are the same and how many differ. The list
 // is made by `oracle freeze`.
 use base::Refusal;
+use decimals::DecimalAnswer;
 use floats::FloatAnswer;
 use integer_math::I32Answer;
+use integers::I32;
+use integers::U16;
+use integers::U32;
 use key::KeyAnswer;
 use key::MidiAnswer;
 use key::PianoKey;
 use libc::STDIN_FILENO;
 use libc::STDOUT_FILENO;
 use math::U32Answer;
-use numeral::decimal::DecimalAnswer;
-use numeral::integer::I32;
-use numeral::integer::U16;
-use numeral::integer::U32;
 use pitch::Ratio;
 use pitch::RatioAnswer;
 use pitch::nearest::NearestAnswer;
@@ -57,7 +57,7 @@ fn is_refusal(refusal: Refusal, part: &[u8]) -> bool {
         return false;
     }
     if part[0] == b'!' {
-        return match numeral::integer::read_u32(token(rest(part, 1))) {
+        return match integers::read_u32(token(rest(part, 1))) {
             U32::Is(number) => number == refusal.number,
             U32::IsNot => false,
         };
@@ -67,28 +67,28 @@ fn is_refusal(refusal: Refusal, part: &[u8]) -> bool {
 
 // Numbers of a line; 0 where there is none, which no list has.
 fn i32_of(part: &[u8]) -> i32 {
-    match numeral::integer::read_i32(token(part)) {
+    match integers::read_i32(token(part)) {
         I32::Is(z) => z,
         I32::IsNot => 0,
     }
 }
 
 fn u32_of(part: &[u8]) -> u32 {
-    match numeral::integer::read_u32(token(part)) {
+    match integers::read_u32(token(part)) {
         U32::Is(n) => n,
         U32::IsNot => 0,
     }
 }
 
 fn u16_of(part: &[u8]) -> u16 {
-    match numeral::integer::read_u16(token(part)) {
+    match integers::read_u16(token(part)) {
         U16::Is(n) => n,
         U16::IsNot => 0,
     }
 }
 
 fn f64_of(part: &[u8]) -> f64 {
-    match numeral::decimal::read_decimal(token(part)) {
+    match decimals::read_decimal(token(part)) {
         DecimalAnswer::Is(x) => x,
         DecimalAnswer::Unsupported => 0.0,
         DecimalAnswer::Bad => 0.0,

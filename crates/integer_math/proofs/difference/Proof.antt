@@ -1,4 +1,4 @@
--- `math::difference` meets its contract: 64 bits hold what two numbers of 32 bits make.
+-- `integer_math::difference` meets its contract: 64 bits hold what two numbers of 32 bits make.
 -- Assumes nothing.
 use lib.IntN.{_-ℤ_}
 use mir.Syntax.{w64}

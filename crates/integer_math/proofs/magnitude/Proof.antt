@@ -1,4 +1,4 @@
--- `math::magnitude` meets its contract: -1 - z is the magnitude of a negative z, and z that of any other.
+-- `integer_math::magnitude` meets its contract: -1 - z is the magnitude of a negative z, and z that of any other.
 -- Assumes nothing.
 use mathlib.Core.Path.{ap}
 use lib.IntN.{natAbs}

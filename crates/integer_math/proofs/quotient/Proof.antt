@@ -1,4 +1,4 @@
--- `math::quotient` meets its contract: the magnitude is divided, and a negative quotient is -1 less it.
+-- `integer_math::quotient` meets its contract: the magnitude is divided, and a negative quotient is -1 less it.
 -- Assumes nothing.
 use borrow.Author.Needs.{needs}
 use Rattle.base.proofs.Machine.{quotient-fits, flip-quotient-fits, quotient-below, quotient-above}

@@ -1,4 +1,4 @@
--- `math::remainder` meets its contract: what the magnitude leaves, counted from the other end where it is negative.
+-- `integer_math::remainder` meets its contract: what the magnitude leaves, counted from the other end where it is negative.
 -- Assumes nothing.
 use borrow.Author.Needs.{needs}
 use native.Mathlib.Omega.{arith}

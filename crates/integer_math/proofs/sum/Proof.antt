@@ -1,4 +1,4 @@
--- `math::sum` meets its contract: 64 bits hold what two numbers of 32 bits make.
+-- `integer_math::sum` meets its contract: 64 bits hold what two numbers of 32 bits make.
 -- Assumes nothing.
 use native.Mathlib.Omega.{arith}
 use lib.IntN.{_+ℤ_}

@@ -1,4 +1,4 @@
--- `math::to_i32` meets its contract: within both ends the cast loses nothing, and outside either it is 11.
+-- `integer_math::to_i32` meets its contract: within both ends the cast loses nothing, and outside either it is 11.
 -- Assumes nothing.
 use Rattle.base.proofs.Machine.{narrow-fits, held-here, held-under, held-over}
 use Rattle.integer_math.proofs.to_i32.Statement.{statement}
