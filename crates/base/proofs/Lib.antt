@@ -4,3 +4,4 @@ pub mod Pick
 pub mod Integers
 pub mod Division
 pub mod Machine
+pub mod Arms

@@ -12,7 +12,7 @@ use lib.Pow.{pow-add, pow-pos}
 use Rattle.base.specs.Said.{pick}
 use Rattle.explog.specs.Root.{root, rootFrom}
 use Rattle.explog.specs.Exp.{tOf, pOf, stepE}
-use Rattle.explog.specs.Inner.{Table, Factor, Power}
+use Rattle.explog.specs.Inner.{Factors, Factor, Power}
 use Rattle.explog.proofs.Entries.{t-above}
 
 -- the root's square is at most the number
@@ -71,7 +71,7 @@ step-is true p t = refl
 step-is false p t = mul-div-cancel p (pow-pos 62)
 
 -- the place k * bit holds the factor of the bit
-module _ (t : List ℕ) (h : Table t) where
+module _ (t : List ℕ) (h : Factors t) where
   at-bit : (c k : ℕ) → c < 2 → 1 ≤ k → k ≤ 52 → (getD t (k * c) 0 ≡ pick (eqb c 1) (tOf k) (2 ^ 62)) × (getD t (k * c) 0 < 2 ^ 63)
   at-bit c zero b low high = absurd (omega arith)
   at-bit zero (suc k) b low high = rw (mul-zero (suc k)) (let e = h .entry 0 (omega arith) in (e .is, e .below))

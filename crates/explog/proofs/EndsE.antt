@@ -1,13 +1,13 @@
 -- E from the parts of x: the bounds that its steps ask for, and the value they make. Assumes nothing.
 use mathlib.Core.Path.{_≡_, sym, ap, _∙_, subst}
-use mathlib.Core.Bool.{Bool, true, false, cond}
+use mathlib.Core.Bool.{Bool, true, false}
 use Prim.Native.Nat.{ℕ, _+_, _-_, _*_, _/_, _%_, _^_, _≤_, _<_}
 use native.Mathlib.Nat.{le-trans, le-of-eq, lt-of-lt-of-le, lt-of-not-le, not-le-of-lt, le-of-suc-le-suc, mul-comm, mul-le-mul-right, mul-le-mul-left, div-div-eq-div-mul, le-div-iff-mul-le, div-le-of-le-mul}
 use native.Mathlib.Omega.{arith}
 use lib.Dec.{T, lit<, lit≤}
 use lib.Pow.{pow-pos, pow-mono}
 use lib.Ieee.{Float, binary64, round, fits}
-use Rattle.base.specs.Said.{gives, refuses}
+use Rattle.base.specs.Said.{gives, refuses, pick}
 use Rattle.floats.specs.Units.{Unpacked}
 use Rattle.explog.specs.Exp.{pOf}
 use Rattle.explog.specs.Rules.{E, inPowers}
@@ -15,14 +15,14 @@ use Rattle.explog.proofs.Plain.{plainFloor, plainPower}
 use Rattle.explog.proofs.LiteralE.{e-literal}
 use Rattle.explog.proofs.Range.{e-range}
 
-sides : (s : Bool) (M u : ℕ) → u ≤ 900 * M → (124 * M ≤ cond s (1024 * M - u) (1024 * M + u)) × (cond s (1024 * M - u) (1024 * M + u) ≤ 1924 * M)
+sides : (s : Bool) (M u : ℕ) → u ≤ 900 * M → (124 * M ≤ pick s (1024 * M - u) (1024 * M + u)) × (pick s (1024 * M - u) (1024 * M + u) ≤ 1924 * M)
 sides true M u h = omega arith
 sides false M u h = omega arith
 
 -- n + 1024 lies in 124..1924
-pub whole-range : (s : Bool) (u F : ℕ) → u ≤ 900 * 2 ^ 1074 → F ≡ cond s (2 ^ 1084 - u) (2 ^ 1084 + u) / 2 ^ 1022 → (124 ≤ F / 2 ^ 52) × (F / 2 ^ 52 ≤ 1924)
+pub whole-range : (s : Bool) (u F : ℕ) → u ≤ 900 * 2 ^ 1074 → F ≡ pick s (2 ^ 1084 - u) (2 ^ 1084 + u) / 2 ^ 1022 → (124 ≤ F / 2 ^ 52) × (F / 2 ^ 52 ≤ 1924)
 whole-range s u F h e =
-    let X = cond s (2 ^ 1084 - u) (2 ^ 1084 + u) in
+    let X = pick s (2 ^ 1084 - u) (2 ^ 1084 + u) in
     let q : F / 2 ^ 52 ≡ X / 2 ^ 1074 = ap (λ (z : ℕ). z / 2 ^ 52) e ∙ div-div-eq-div-mul X (2 ^ 1022) (2 ^ 52) in
     let b = sides s (2 ^ 1074) u h in (
       subst (λ (z : ℕ). 124 ≤ z) (sym q) (le-div-iff-mul-le (pow-pos 1074) .1 (b .0)),
@@ -44,13 +44,13 @@ module _ (x : Float) (s : Bool) (d k : ℕ) (p : Unpacked x s d k) (t : inPowers
       not-le-of-lt (lt-of-lt-of-le (lit< tt) (le-trans (mul-le-mul-right (2 ^ 1033) (p .normal z)) (mul-le-mul-left d (pow-mono g)))) size-under))
 
   -- f, moved up by 2 ^ 62, from the parts
-  module _ (F : ℕ) (e : F ≡ cond s (2 ^ 1084 - d * 2 ^ k) (2 ^ 1084 + d * 2 ^ k) / 2 ^ 1022) where
+  module _ (F : ℕ) (e : F ≡ pick s (2 ^ 1084 - d * 2 ^ k) (2 ^ 1084 + d * 2 ^ k) / 2 ^ 1022) where
     pub whole-under : (124 ≤ F / 2 ^ 52) × (F / 2 ^ 52 ≤ 1924)
     whole-under = whole-range s (d * 2 ^ k) F units-small e
 
     floor-is : F ≡ plainFloor x
     unfolding plainFloor
-    floor-is = e ∙ (λ i. cond (p .sign i) (2 ^ 1084 - sym (p .is) i) (2 ^ 1084 + sym (p .is) i) / 2 ^ 1022)
+    floor-is = e ∙ (λ i. pick (p .sign i) (2 ^ 1084 - sym (p .is) i) (2 ^ 1084 + sym (p .is) i) / 2 ^ 1022)
 
     pub power-is : (r : Float) (P : ℕ) → fits binary64 x ≡ true → P ≡ pOf (F % 2 ^ 52) 52 → r ≡ round binary64 false (P * 2 ^ (F / 2 ^ 52)) (2 ^ 1086) → gives r ≡ E x
     unfolding plainPower E

@@ -1,11 +1,11 @@
 -- L from the parts of x: the value that B and the exponent make. Assumes nothing.
 use mathlib.Core.Path.{_≡_, sym, ap, _∙_, subst}
-use mathlib.Core.Bool.{Bool, true, false, cond}
+use mathlib.Core.Bool.{Bool, true, false}
 use Prim.Native.Nat.{ℕ, _+_, _-_, _*_, _^_, _≤_, _<_}
 use borrow.Author.Tests.{le-leb, lt-leb}
 use lib.Dec.{T}
 use lib.Ieee.{Float, binary64, round, neg, fits}
-use Rattle.base.specs.Said.{gives, refuses}
+use Rattle.base.specs.Said.{gives, refuses, pick}
 use Rattle.floats.specs.Ranges.{inReach}
 use Rattle.floats.specs.Units.{unitsOf, Unpacked}
 use Rattle.floats.proofs.Sign.{round-neg}
@@ -18,11 +18,11 @@ use Rattle.explog.proofs.Range.{l-range, some}
 -- the nearest to (a - b) / c, by which is the larger
 pub diff-up : (a b c : ℕ) → b ≤ a → round binary64 false (a - b) c ≡ nearestDiff a b c
 unfolding nearestDiff
-diff-up a b c h = ap (λ (t : Bool). cond t (round binary64 false (a - b) c) (round binary64 true (b - a) c)) (sym (le-leb b a h))
+diff-up a b c h = ap (λ (t : Bool). pick t (round binary64 false (a - b) c) (round binary64 true (b - a) c)) (sym (le-leb b a h))
 
 pub diff-down : (a b c : ℕ) → a < b → neg (round binary64 false (b - a) c) ≡ nearestDiff a b c
 unfolding nearestDiff
-diff-down a b c h = round-neg binary64 false (b - a) c ∙ ap (λ (t : Bool). cond t (round binary64 false (a - b) c) (round binary64 true (b - a) c)) (sym (lt-leb b a h))
+diff-down a b c h = round-neg binary64 false (b - a) c ∙ ap (λ (t : Bool). pick t (round binary64 false (a - b) c) (round binary64 true (b - a) c)) (sym (lt-leb b a h))
 
 module _ (x : Float) (s : Bool) (d k B : ℕ) (p : Unpacked x s d k) (t : inReach x ≡ true) (f : fits binary64 x ≡ true) (e : B ≡ bOf (d * 2 ^ 10) 52) where
   log-is : (r : Float) → r ≡ nearestDiff (k * 2 ^ 52 + B) (1022 * 2 ^ 52) (2 ^ 52) → gives r ≡ L x

@@ -9,7 +9,7 @@ use lib.ListN.{getD}
 use lib.Ieee.Fits.{and-l, and-r}
 use Rattle.explog.specs.Root.{root, rootFrom}
 use Rattle.explog.specs.Exp.{tOf}
-use Rattle.explog.specs.Inner.{Entry, Table, factorAt}
+use Rattle.explog.specs.Inner.{IsFactor, Factors, factorAt}
 use Rattle.explog.proofs.Every.{every, at-each}
 
 -- the table of src/, as a list
@@ -25,7 +25,7 @@ holds : (k : ℕ) → k < 53 → T (right k (getD entries k 0))
 unfolding entries right every tOf root rootFrom
 holds k h = at-each right entries tt k h
 
-entry : (k : ℕ) → k < 53 → Entry k (getD entries k 0)
+entry : (k : ℕ) → k < 53 → IsFactor k (getD entries k 0)
 unfolding right
 entry k h =
     let x = getD entries k 0 in
@@ -39,7 +39,7 @@ entry k h =
       below = ltb→lt x (2 ^ 63) (and-r a (ltb x (2 ^ 63)) u);
     }
 
-pub table-holds : Table entries
+pub table-holds : Factors entries
 table-holds = record { entry = entry }
 
 -- T_k from the table: above 2 ^ 62, and below 2 ^ 63 but for T_0

@@ -6,7 +6,8 @@ use native.Mathlib.Omega.{arith}
 use lib.Dec.{lit<}
 use lib.Arith.{digits-div}
 use lib.Pow.{pow-add, pow-pos, pow-mono, shl-lt, shl-exact}
-use mathlib.Core.Bool.{Bool, true, false, cond}
+use mathlib.Core.Bool.{Bool, true, false}
+use Rattle.base.specs.Said.{pick}
 
 -- v / P, rounded up
 abbrev pub ceil : ℕ → ℕ → ℕ
@@ -88,11 +89,11 @@ module _ (d k : ℕ) where
 
 -- ---- 2 ^ 62 and d * 2 ^ (k - 1022), their sum or difference, rounded down
 -- the result by the rounded quotient
-below-zero : (n : Bool) (v : ℕ) → n ≡ true → v ≤ 2 ^ 1084 → cond n (2 ^ 1084 - v) (2 ^ 1084 + v) / 2 ^ 1022 ≡ 2 ^ 62 - ceil v (2 ^ 1022)
-below-zero n v e h = ap (λ (b : Bool). cond b (2 ^ 1084 - v) (2 ^ 1084 + v) / 2 ^ 1022) e ∙ minus (2 ^ 62) (2 ^ 1022) v (pow-pos 1022) h
+below-zero : (n : Bool) (v : ℕ) → n ≡ true → v ≤ 2 ^ 1084 → pick n (2 ^ 1084 - v) (2 ^ 1084 + v) / 2 ^ 1022 ≡ 2 ^ 62 - ceil v (2 ^ 1022)
+below-zero n v e h = ap (λ (b : Bool). pick b (2 ^ 1084 - v) (2 ^ 1084 + v) / 2 ^ 1022) e ∙ minus (2 ^ 62) (2 ^ 1022) v (pow-pos 1022) h
 
-above-zero : (n : Bool) (v : ℕ) → n ≡ false → cond n (2 ^ 1084 - v) (2 ^ 1084 + v) / 2 ^ 1022 ≡ 2 ^ 62 + v / 2 ^ 1022
-above-zero n v e = ap (λ (b : Bool). cond b (2 ^ 1084 - v) (2 ^ 1084 + v) / 2 ^ 1022) e ∙ plus (2 ^ 62) (2 ^ 1022) v (pow-pos 1022)
+above-zero : (n : Bool) (v : ℕ) → n ≡ false → pick n (2 ^ 1084 - v) (2 ^ 1084 + v) / 2 ^ 1022 ≡ 2 ^ 62 + v / 2 ^ 1022
+above-zero n v e = ap (λ (b : Bool). pick b (2 ^ 1084 - v) (2 ^ 1084 + v) / 2 ^ 1022) e ∙ plus (2 ^ 62) (2 ^ 1022) v (pow-pos 1022)
 
 -- the ways of `floor_sum`, under what it requires
 module _ (n : Bool) (d k : ℕ) (pre : (d < 2 ^ 53) × ((d * 2 ^ k ≤ 2 ^ 1084) × (k ≤ 1032))) where
@@ -107,7 +108,7 @@ module _ (n : Bool) (d k : ℕ) (pre : (d < 2 ^ 53) × ((d * 2 ^ k ≤ 2 ^ 1084)
 
   -- the result
   abbrev res : ℕ
-  res = cond n (2 ^ 1084 - d * 2 ^ k) (2 ^ 1084 + d * 2 ^ k) / 2 ^ 1022
+  res = pick n (2 ^ 1084 - d * 2 ^ k) (2 ^ 1084 + d * 2 ^ k) / 2 ^ 1022
 
   -- k of 1022 and more
   module _ (h : 1022 ≤ k) where

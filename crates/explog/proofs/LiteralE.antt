@@ -1,6 +1,6 @@
 -- E on natural numbers alone is E as the rules have it. Assumes nothing.
 use mathlib.Core.Path.{_≡_, refl, sym, ap, _∙_}
-use mathlib.Core.Bool.{Bool, true, false, cond}
+use mathlib.Core.Bool.{Bool, true, false}
 use Prim.Native.Nat.{ℕ, zero, suc, _+_, _-_, _*_, _/_, _%_, _^_, _≤_, _<_}
 use native.Mathlib.Nat.{le-trans, le-of-eq, add-comm, add-mul, suc-mul, mul-comm, mul-assoc, mul-right-comm, mul-one, mul-sub, mul-div-cancel, div-add-mod', mod-lt, zero-div, le-of-mul-le-mul-right, mul-le-mul-right, div-lt-iff-lt-mul}
 use native.Mathlib.Omega.{arith}
@@ -12,6 +12,7 @@ use lib.Ieee.{Float, fin, binary64, fits, up, down, round}
 use lib.Ieee.Fits.{down-pos}
 use lib.Ieee.Nearest.{div-same}
 use lib.Ieee.Scale.{finite, round-same}
+use Rattle.base.specs.Said.{pick}
 use Rattle.floats.specs.Units.{unitsOf, negative}
 use Rattle.explog.proofs.Floor.{plus}
 use Rattle.explog.specs.Exp.{pOf}
@@ -19,10 +20,10 @@ use Rattle.base.specs.Integers.{floorDiv, floorMod}
 use Rattle.explog.specs.Rules.{signed, floorOf, timesPower, powerOf}
 use Rattle.explog.proofs.Plain.{plainFloor, plainPower}
 use Rattle.explog.proofs.Diff.{Diff, add, moved}
-use Rattle.explog.proofs.Units.{whole-units}
+use Rattle.floats.proofs.Units.{whole-units}
 
 -- ---- the floor, moved up by Q
-floor-diff : (s : Bool) (Q A D : ℕ) → 0 < D → A ≤ Q * D → Diff (floorDiv (signed s A) D) (cond s (Q * D - A) (Q * D + A) / D) Q
+floor-diff : (s : Bool) (Q A D : ℕ) → 0 < D → A ≤ Q * D → Diff (floorDiv (signed s A) D) (pick s (Q * D - A) (Q * D + A) / D) Q
 floor-diff false Q A D p h = plus Q D A p ∙ add-comm Q (A / D)
 floor-diff true Q zero D p h =
     let z : Q * D - 0 ≡ Q * D = omega arith in
@@ -42,7 +43,7 @@ floor-diff true Q (suc a) D p h =
     ap (λ (x : ℕ). x / D + suc q) d ∙ ap (λ (x : ℕ). x + suc q) (digits-div (Q - suc q) b) ∙ s
 
 -- two fractions of the same size
-same-floor : (s : Bool) (Q A D u M : ℕ) → 0 < D → 0 < M → A * M ≡ u * D → cond s (Q * D - A) (Q * D + A) / D ≡ cond s (Q * M - u) (Q * M + u) / M
+same-floor : (s : Bool) (Q A D u M : ℕ) → 0 < D → 0 < M → A * M ≡ u * D → pick s (Q * D - A) (Q * D + A) / D ≡ pick s (Q * M - u) (Q * M + u) / M
 same-floor false Q A D u M p q e = div-same (Q * D + A) D (Q * M + u) M p q (add-mul (Q * D) A M ∙ ap (λ (x : ℕ). x + A * M) (mul-right-comm Q D M) ∙ ap (λ (x : ℕ). Q * M * D + x) e ∙ sym (add-mul (Q * M) u D))
 same-floor true Q A D u M p q e =
     div-same (Q * D - A) D (Q * M - u) M p q
@@ -82,4 +83,4 @@ e-literal (fin s m e) p h b =
     let v : A * 2 ^ 1022 ≡ u * D = mul-assoc (m * up e) (2 ^ 52) (2 ^ 1022) ∙ whole-units (fin s m e) p h .1 in
     let l : A ≤ 2 ^ 62 * D = le-of-mul-le-mul-right (le-trans (le-of-eq v) (le-trans (mul-le-mul-right D (le-trans b (lit≤ tt))) (le-of-eq (mul-right-comm (2 ^ 62) (2 ^ 1022) D)))) (pow-pos 1022) in
     ap plainPower (sym (same-floor s (2 ^ 62) A D u (2 ^ 1022) (down-pos e) (pow-pos 1022) v))
-    ∙ power-literal (floorDiv (signed s A) D) (cond s (2 ^ 62 * D - A) (2 ^ 62 * D + A) / D) (floor-diff s (2 ^ 62) A D (down-pos e) l)
+    ∙ power-literal (floorDiv (signed s A) D) (pick s (2 ^ 62 * D - A) (2 ^ 62 * D + A) / D) (floor-diff s (2 ^ 62) A D (down-pos e) l)

@@ -1,6 +1,6 @@
 -- L on natural numbers alone is L as the rules have it. Assumes nothing.
 use mathlib.Core.Path.{_≡_, refl, sym, ap, _∙_, subst}
-use mathlib.Core.Bool.{Bool, true, false, cond}
+use mathlib.Core.Bool.{Bool, true, false}
 use Prim.Native.Nat.{ℕ, zero, suc, _+_, _-_, _*_, _^_, _≤_, _<_}
 use native.Mathlib.Nat.{le-trans, le-of-eq, lt-of-lt-of-le, lt-of-not-le, not-le-of-lt, lt-irrefl, add-zero, zero-add, zero-mul, mul-assoc, mul-right-comm, mul-one, mul-pos, mul-le-mul-right, eq-of-mul-eq-mul-right}
 use native.Mathlib.Omega.{arith}
@@ -13,13 +13,14 @@ use lib.Ieee.Fits.{down-pos}
 use lib.Ieee.Digits.{size-lt, size-le, size-reaches}
 use lib.Ieee.Scale.{finite}
 use lib.Ieee.Bits.{is-true}
+use Rattle.base.specs.Said.{pick}
 use Rattle.floats.proofs.Fit.{fits-says}
 use Rattle.floats.specs.Units.{unitsOf}
 use Rattle.explog.specs.Log.{bOf}
 use Rattle.explog.specs.Rules.{ratioOf, logAt, logOf}
 use Rattle.explog.proofs.Plain.{nearestDiff, plainLog}
 use Rattle.explog.proofs.Diff.{Diff, add, subtract, times, moved}
-use Rattle.explog.proofs.Units.{whole-units}
+use Rattle.floats.proofs.Units.{whole-units}
 
 -- ---- the last step
 ratio-diff : (z : ℤ) (a b : ℕ) → Diff z a b → nearestDiff a b (2 ^ 52) ≡ ratioOf z
@@ -27,11 +28,11 @@ unfolding nearestDiff ratioOf
 ratio-diff (pos n) a b h =
     let l : b ≤ a = omega arith in
     let e : a - b ≡ n = omega arith in
-    ap (λ (t : Bool). cond t (round binary64 false (a - b) (2 ^ 52)) (round binary64 true (b - a) (2 ^ 52))) (le-leb b a l) ∙ ap (λ (x : ℕ). round binary64 false x (2 ^ 52)) e
+    ap (λ (t : Bool). pick t (round binary64 false (a - b) (2 ^ 52)) (round binary64 true (b - a) (2 ^ 52))) (le-leb b a l) ∙ ap (λ (x : ℕ). round binary64 false x (2 ^ 52)) e
 ratio-diff (negsuc n) a b h =
     let l : a < b = omega arith in
     let e : b - a ≡ suc n = omega arith in
-    ap (λ (t : Bool). cond t (round binary64 false (a - b) (2 ^ 52)) (round binary64 true (b - a) (2 ^ 52))) (lt-leb b a l) ∙ ap (λ (x : ℕ). round binary64 true x (2 ^ 52)) e
+    ap (λ (t : Bool). pick t (round binary64 false (a - b) (2 ^ 52)) (round binary64 true (b - a) (2 ^ 52))) (lt-leb b a l) ∙ ap (λ (x : ℕ). round binary64 true x (2 ^ 52)) e
 
 at-literal : (m k : ℕ) (e : ℤ) → Diff e k 1074 → plainLog m k ≡ logAt m e
 unfolding plainLog logAt

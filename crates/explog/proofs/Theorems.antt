@@ -6,17 +6,16 @@ use native.Mathlib.Nat.{mul-div-cancel, lt-of-le-of-lt, mul-le-mul-left}
 use native.Mathlib.Omega.{arith}
 use lib.Dec.{T, lit<}
 use lib.Pow.{pow-pos}
-use lib.IntN.{pos, negsuc}
+use lib.IntN.{pos, negsuc, negℤ}
 use lib.Ieee.{Float, fin, binary64, le, lt, eq, fits, ofBits}
 use lib.Ieee.Scale.{finite}
 use lib.Ieee.Exact.{HasValue}
 use Rattle.base.specs.Said.{gives}
 use Rattle.base.proofs.Said.{One}
-use Rattle.floats.specs.Floats.{zeroF, oneF, abs}
-use Rattle.floats.specs.Ranges.{negligible}
+use Rattle.floats.specs.Floats.{twoTo, zeroF, oneF, abs}
+use Rattle.floats.specs.Ranges.{inReach, negligible}
 use Rattle.floats.specs.Answers.{saysFloat}
 use Rattle.floats.specs.Units.{unitsOf, negative}
-use Rattle.floats.specs.declared.FloatAnswer.{FloatAnswer}
 use Rattle.floats.proofs.Theorems.{float-one}
 use Rattle.floats.proofs.Power.{power-finite}
 use Rattle.floats.proofs.Ranges.{reach-says}
@@ -33,6 +32,7 @@ use Rattle.explog.proofs.Range.{e-range}
 use Rattle.explog.proofs.LiteralE.{e-literal}
 use Rattle.explog.proofs.EndsE.{whole-range}
 use Rattle.explog.proofs.Values.{given, answered, logged, v-zero}
+use Rattle.explog.proofs.Reach.{exp-in-reach, log-in-powers}
 use Rattle.explog.proofs.Sides.{side-of, sided-finite, sided-equal, one-fits, sided-far, and-false, side-off}
 
 -- "floor of the square root", of any number below 2 ^ 128
@@ -64,6 +64,13 @@ exp-finite x r f h =
     subst (λ (y : Float). T (finite y)) (e-literal x (subst T (sym f) tt) (t .0) (t .1) ∙ a .1)
     (power-finite (pOf (F % 2 ^ 52) 52) (F / 2 ^ 52) (p .above) (power-below (F % 2 ^ 52) 52 (pOf (F % 2 ^ 52) 52) (omega arith) p) (w .0) (w .1))
 
+-- ---- "A computed pitch or ratio outside 2^-900..2^900 gives 18": what E answers never is; and L's octaves are in E's domain
+pub exp-reach : (x r : Float) → fits binary64 x ≡ true → E x ≡ gives r → inReach r ≡ true
+exp-reach = exp-in-reach
+
+pub log-powers : (x r : Float) → fits binary64 x ≡ true → L x ≡ gives r → inPowers r ≡ true
+log-powers = log-in-powers
+
 -- ---- L answers a number: never a NaN, never an infinity
 pub log-finite : (x r : Float) → fits binary64 x ≡ true → L x ≡ gives r → T (finite r)
 log-finite x r f h = let a = answered x r h in sided-finite (side-of x r (logged x f (a .0)) (a .1))
@@ -82,7 +89,7 @@ log-zero x r f h z =
     (subst (λ (n : ℕ). HasValue x false n (2 ^ 1074)) u (g .value)) (refl, refl)
 
 -- ---- |L(x)| >= 2^-20 outside [0.999999, 1.000001)
-pub log-far : (x r : Float) → fits binary64 x ≡ true → L x ≡ gives r → negligible x ≡ false → T (le (ofBits binary64 0x3eb0_0000_0000_0000) (abs r))
+pub log-far : (x r : Float) → fits binary64 x ≡ true → L x ≡ gives r → negligible x ≡ false → T (le (twoTo (negℤ (pos 20))) (abs r))
 unfolding ofBits
 log-far x r f h n =
     let a = answered x r h in

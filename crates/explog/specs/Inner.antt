@@ -14,14 +14,14 @@ factorAt zero = 2 ^ 62
 factorAt (suc k) = tOf (suc k)
 
 -- r stands at place k; T_k is above 2 ^ 62, and below 2 ^ 63
-pub record Entry (k r : ℕ) : Type 0 where
+pub record IsFactor (k r : ℕ) : Type 0 where
   pub is : r ≡ factorAt k
   pub above : 2 ^ 62 < r + (1 - k)
   pub below : r < 2 ^ 63
 
--- t is the table
-pub record Table (t : List ℕ) : Type 0 where
-  pub entry : (k : ℕ) → k < 53 → Entry k (getD t k 0)
+-- t is the list of what E's steps multiply by
+pub record Factors (t : List ℕ) : Type 0 where
+  pub entry : (k : ℕ) → k < 53 → IsFactor k (getD t k 0)
 
 -- r is T_k where b's bit of weight 2 ^ (52 - k) is set, else 2 ^ 62
 pub record Factor (b k r : ℕ) : Type 0 where

@@ -2,7 +2,7 @@
 use mathlib.Core.Bool.{Bool, true, false}
 use Prim.Native.Nat.{ℕ, suc, _-_, _*_, _^_}
 use lib.IntN.{ℤ, pos, negsuc, negℤ, _+ℤ_, _-ℤ_, _*ℤ_}
-use lib.Ieee.{Float, nan, inf, fin, binary64, up, down, round, size, neg, ofBits}
+use lib.Ieee.{Float, nan, inf, fin, binary64, up, down, round, size, neg}
 use Rattle.base.specs.Numbers.{beyond-reach}
 use Rattle.base.specs.Said.{Said, gives, refuses, pick}
 use Rattle.base.specs.Integers.{floorDiv, floorMod}
@@ -29,9 +29,9 @@ timesPower p z = round binary64 false (p * up z) (down z)
 unfoldable pub powerOf : ℤ → Float
 powerOf f = timesPower (pOf (floorMod f (2 ^ 52)) 52) (floorDiv f (2 ^ 52) -ℤ pos 62)
 
--- 900.0
+-- 900.0: 225 * 2 ^ 2
 abbrev pub nineHundred : Float
-nineHundred = ofBits binary64 0x408c_2000_0000_0000
+nineHundred = fin false 225 (pos 2)
 
 -- -900..900
 abbrev pub inPowers : Float → Bool

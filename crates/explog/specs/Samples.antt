@@ -2,25 +2,26 @@
 use mathlib.Core.Path.{_≡_, refl}
 use lib.IntN.{pos, negsuc}
 use mathlib.Core.Bool.{true, false}
-use lib.Ieee.{fin, binary64, le, round, size, ofBits, neg, nan, lt, eq}
+use lib.Ieee.{fin, le, round, size, ofBits, neg, nan, lt, eq}
 use Rattle.base.specs.Said.{gives, refuses}
+use Rattle.floats.specs.Floats.{twoTo, zeroF, oneF}
 use Rattle.explog.specs.Root.{root, rootFrom}
 use Rattle.explog.specs.Exp.{tOf, pOf}
 use Rattle.explog.specs.Log.{bOf, yOf}
 use Rattle.explog.specs.Rules.{E, L, floorOf, timesPower, powerOf, logOf, logAt, ratioOf}
 
 -- L(2) = 1
-pub log-of-two : L (ofBits binary64 0x4000_0000_0000_0000) ≡ gives (ofBits binary64 0x3ff0_0000_0000_0000)
+pub log-of-two : L (twoTo (pos 1)) ≡ gives oneF
 unfolding L logOf logAt ratioOf bOf yOf le round size ofBits
 log-of-two = refl
 
 -- E(1) = 2
-pub power-of-one : E (ofBits binary64 0x3ff0_0000_0000_0000) ≡ gives (ofBits binary64 0x4000_0000_0000_0000)
+pub power-of-one : E oneF ≡ gives (twoTo (pos 1))
 unfolding E floorOf powerOf timesPower tOf root rootFrom pOf le round ofBits neg
 power-of-one = refl
 
 -- L(1) = +0.0, L(10), E(-0.5)
-pub log-of-one : L (ofBits binary64 0x3ff0_0000_0000_0000) ≡ gives (ofBits binary64 0)
+pub log-of-one : L oneF ≡ gives zeroF
 unfolding L logOf logAt ratioOf bOf yOf le round size ofBits
 log-of-one = refl
 
@@ -37,7 +38,7 @@ pub power-of-nan : E nan ≡ refuses 18 0
 unfolding E le lt eq ofBits neg
 power-of-nan = refl
 
-pub log-of-zero : L (ofBits binary64 0) ≡ refuses 18 0
+pub log-of-zero : L zeroF ≡ refuses 18 0
 unfolding L le lt eq ofBits
 log-of-zero = refl
 

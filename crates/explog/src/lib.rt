@@ -1,10 +1,10 @@
 // E and L: the power of two and its logarithm, by whole numbers, the same on every machine. Document 01, "Logarithm and power".
 ghost use mathlib.Core.Path.{_≡_};
-ghost use mathlib.Core.Bool.{cond};
 ghost use Prim.Native.Nat.{_+_, _-_, _*_, _/_, _^_, _≤_, _<_};
+ghost use Rattle.base.specs.Said.{pick};
 ghost use Rattle.floats.specs.Answers.{saysFloat};
 ghost use Rattle.explog.specs.Rules.{E, L, inPowers};
-ghost use Rattle.explog.specs.Inner.{Table, Factor, Power, Bits, topBit};
+ghost use Rattle.explog.specs.Inner.{Factors, Factor, Power, Bits, topBit};
 
 // 2^62 stands for 1 in E's P and in L's y.
 const ONE: u64 = 0x4000_0000_0000_0000;
@@ -74,7 +74,7 @@ const TABLE: [u64; 53] = [
 
 // What step k of E multiplies by: T_k where b's bit is set, else ONE, which changes nothing. A place is read, no branch taken.
 fn factor(table: &[u64; 53], b: u64, k: usize) -> u64
-    requires { ⌜ Table (now table) × (1 ≤ k) × (k ≤ 52) ⌝ }
+    requires { ⌜ Factors (now table) × (1 ≤ k) × (k ≤ 52) ⌝ }
     ensures { λ r. ⌜ Factor b k r ⌝ }
 {
     let bit = (b >> (52 - k)) % 2;
@@ -83,7 +83,7 @@ fn factor(table: &[u64; 53], b: u64, k: usize) -> u64
 
 // P after `to` steps of E, from P after `from` steps.
 fn power_steps(table: &[u64; 53], b: u64, p: u64, from: usize, to: usize) -> u64
-    requires { ⌜ Table (now table) × (from ≤ to) × (to ≤ 52) × Power b from p ⌝ }
+    requires { ⌜ Factors (now table) × (from ≤ to) × (to ≤ 52) × Power b from p ⌝ }
     ensures { λ r. ⌜ Power b to r ⌝ }
 {
     let mut q = p;
@@ -97,7 +97,7 @@ fn power_steps(table: &[u64; 53], b: u64, p: u64, from: usize, to: usize) -> u64
 
 // P after E's first ten steps: they look at the ten highest bits of b alone.
 fn first_ten_steps(table: &[u64; 53], b: u64) -> u64
-    requires { ⌜ Table (now table) ⌝ }
+    requires { ⌜ Factors (now table) ⌝ }
     ensures { λ r. ⌜ Power b 10 r ⌝ }
 {
     power_steps(table, b, ONE, 0, 10)
@@ -140,7 +140,7 @@ fn log_bits(y: u64) -> u64
 // The whole part of 2^62 + v or 2^62 - v, for v = d * 2^(k - 1022), at most 2^62: E's f, moved up to be above zero.
 fn floor_sum(negative: bool, d: u64, k: u64) -> u64
     requires { ⌜ d < 2 ^ 53 ⌝ ∗ ⌜ d * 2 ^ k ≤ 2 ^ 1084 ⌝ ∗ ⌜ k ≤ 1032 ⌝ }
-    ensures { λ r. ⌜ r ≡ cond negative (2 ^ 1084 - d * 2 ^ k) (2 ^ 1084 + d * 2 ^ k) / 2 ^ 1022 ⌝ }
+    ensures { λ r. ⌜ r ≡ pick negative (2 ^ 1084 - d * 2 ^ k) (2 ^ 1084 + d * 2 ^ k) / 2 ^ 1022 ⌝ }
 {
     if 1022 <= k {
         let w = d << (k - 1022);

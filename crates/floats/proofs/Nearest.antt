@@ -1,6 +1,6 @@
 -- Half a quotient and its rest, rounded to the nearest, a tie to the even one. Assumes nothing.
 use mathlib.Core.Path.{_≡_, refl, sym, ap, _∙_, subst}
-use mathlib.Core.Bool.{Bool, true, false, not, cond}
+use mathlib.Core.Bool.{Bool, true, false, not}
 use Prim.Native.Nat.{ℕ, zero, suc, _+_, _-_, _*_, _/_, _%_, _^_, _≤_, _<_, compare, Ordering, Ordering·lt, Ordering·eq, Ordering·gt}
 use native.Mathlib.Nat.{zero-mul, mul-comm, one-mul, mod-lt, div-div-eq-div-mul}
 use native.Mathlib.Omega.{arith}
@@ -9,6 +9,7 @@ use lib.Arith.{digits-div, digits-mod, mod-mul, lt-of-le-ne}
 use lib.Ieee.{nearest}
 use native.Mathlib.Numerals.{add-one}
 use lib.Ieee.Nearest.{closest}
+use Rattle.base.specs.Said.{pick}
 use Rattle.floats.specs.Nearest.{roundedHalf}
 
 -- what `nearest` picks, by the comparison of the rest with a half
@@ -68,7 +69,7 @@ half-closest q e r p =
     h : ℕ
     h = q / 2
 
-    go : (b r : ℕ) → b < 2 → r < e → nearest h (compare ((b * e + r) * 2) (e * 2)) ≡ cond (eqb b 0) h (cond (eqb r 0) (h + h % 2) (h + 1))
+    go : (b r : ℕ) → b < 2 → r < e → nearest h (compare ((b * e + r) * 2) (e * 2)) ≡ pick (eqb b 0) h (pick (eqb r 0) (h + h % 2) (h + 1))
     go zero r l k = near-lt h ((0 * e + r) * 2) (e * 2) (omega (arith, zero-mul e))
     go (suc zero) zero l k = near-eq h ((1 * e + 0) * 2) (e * 2) (omega (arith, one-mul e))
     go (suc zero) (suc r) l k = rw (eqb·suc-zero r) (near-gt h ((1 * e + suc r) * 2) (e * 2) (omega (arith, one-mul e)))
@@ -78,7 +79,7 @@ half-closest q e r p =
 pub half-low : (q r : ℕ) → 2 ^ 53 ≤ q → 2 ^ 52 ≤ roundedHalf q r
 half-low q r h = go (eqb (q % 2) 0) (eqb r 0)
   where
-    go : (a b : Bool) → 2 ^ 52 ≤ cond a (q / 2) (cond b (q / 2 + q / 2 % 2) (q / 2 + 1))
+    go : (a b : Bool) → 2 ^ 52 ≤ pick a (q / 2) (pick b (q / 2 + q / 2 % 2) (q / 2 + 1))
     go true b = omega arith
     go false true = omega arith
     go false false = omega arith
@@ -86,7 +87,7 @@ half-low q r h = go (eqb (q % 2) 0) (eqb r 0)
 pub half-high : (q r : ℕ) → q < 2 ^ 54 → roundedHalf q r ≤ 2 ^ 53
 half-high q r h = go (eqb (q % 2) 0) (eqb r 0)
   where
-    go : (a b : Bool) → cond a (q / 2) (cond b (q / 2 + q / 2 % 2) (q / 2 + 1)) ≤ 2 ^ 53
+    go : (a b : Bool) → pick a (q / 2) (pick b (q / 2 + q / 2 % 2) (q / 2 + 1)) ≤ 2 ^ 53
     go true b = omega arith
     go false true = omega arith
     go false false = omega arith

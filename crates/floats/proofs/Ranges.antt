@@ -5,7 +5,7 @@ use Prim.Native.Nat.{ℕ, suc, _*_, _^_, _≤_, _<_}
 use native.Mathlib.Nat.{mul-one, one-mul, le-trans, le-of-eq}
 use lib.IntN.{ℤ, pos, negsuc}
 use lib.Dec.{T, ltb→lt}
-use lib.Ieee.{Float, nan, inf, fin, up, down, le, ofBits, isNan}
+use lib.Ieee.{Float, nan, inf, fin, up, down, le, isNan}
 use lib.Ieee.Scale.{finite}
 use lib.Ieee.Positive.{num, den, positive, le→cross, between}
 use Rattle.floats.specs.Ranges.{inReach, inSearch, inGenerator, inPitch}
@@ -46,17 +46,13 @@ within-no-nan (within-fin m e p l h) = tt
 
 -- the four ranges
 pub reach-says : (x : Float) → inReach x ≡ true → Within 900 900 x
-unfolding ofBits
 reach-says x = within-says 899 900 x
 
 pub search-says : (x : Float) → inSearch x ≡ true → Within 64 64 x
-unfolding ofBits
 search-says x = within-says 63 64 x
 
 pub generator-says : (x : Float) → inGenerator x ≡ true → Within 32 32 x
-unfolding ofBits
 generator-says x = within-says 31 32 x
 
 pub pitch-says : (x : Float) → inPitch x ≡ true → Within 10 20 x
-unfolding ofBits
 pitch-says x = within-says 9 20 x

@@ -1,15 +1,21 @@
 -- "a public function's contract leaves one possible result" (document 01): a line for each public call. Assumes nothing.
-use mathlib.Core.Path.{refl}
-use mathlib.Core.Bool.{Bool}
+use mathlib.Core.Path.{_≡_, refl, sym, _∙_}
+use mathlib.Core.Bool.{false}
 use mathlib.Core.Logic.{inl, inr}
-use lib.Ieee.{Float}
+use Prim.Native.Nat.{ℕ, _*_, _^_}
+use lib.Ieee.{Float, binary64, rem, round}
 use Rattle.base.specs.Said.{Said}
 use Rattle.base.proofs.Said.{One, Split, one-result, one-plain}
 use Rattle.floats.specs.Floats.{abs, trunc, floor, remEuclid, divEuclid, count}
+use Rattle.floats.specs.Ranges.{inReach, inSearch, inGenerator, inPitch, negligible}
+use Rattle.floats.specs.Nearest.{roundedHalf}
+use Rattle.floats.specs.Units.{Unpacked}
 use Rattle.floats.specs.Answers.{saysFloat}
-use Rattle.math.specs.Answers.{saysI32}
-use Rattle.math.proofs.Theorems.{i32-one}
+use Rattle.integer_math.specs.Answers.{saysI32}
+use Rattle.integer_math.proofs.Theorems.{i32-one}
 use Rattle.floats.specs.declared.FloatAnswer.the-variants as OfFloat
+use Rattle.floats.specs.declared.Parts.{Parts}
+use Rattle.floats.proofs.Units.{same-exponent, same-digits}
 
 pub float-split : Split OfFloat.Is OfFloat.Refused
 float-split (OfFloat.Is x) = inl (x, refl)
@@ -37,6 +43,45 @@ div-euclid-one a b = one-result (divEuclid a b)
 pub count-of-one : (q : Float) → One saysI32 (count q)
 count-of-one q = i32-one (count q)
 
+pub rem-of-one : (a b : Float) → One (λ r. r) (rem binary64 a b)
+rem-of-one a b = one-result (rem binary64 a b)
+
 -- the range tests
-pub range-one : (range : Float → Bool) (x : Float) → One (λ r. r) (range x)
-range-one range x = one-result (range x)
+pub is-in-reach-one : (x : Float) → One (λ r. r) (inReach x)
+is-in-reach-one x = one-result (inReach x)
+
+pub is-in-search-one : (x : Float) → One (λ r. r) (inSearch x)
+is-in-search-one x = one-result (inSearch x)
+
+pub is-in-generator-one : (x : Float) → One (λ r. r) (inGenerator x)
+is-in-generator-one x = one-result (inGenerator x)
+
+pub is-in-pitch-one : (x : Float) → One (λ r. r) (inPitch x)
+is-in-pitch-one x = one-result (inPitch x)
+
+pub is-negligible-one : (x : Float) → One (λ r. r) (negligible x)
+is-negligible-one x = one-result (negligible x)
+
+-- a finite f64 has one sign, one number of digits and one exponent
+pub unpack-one : (x : Float) (p q : Parts) → Unpacked x (p .negative) (p .digits) (p .exponent) → Unpacked x (q .negative) (q .digits) (q .exponent) → p ≡ q
+unpack-one x p q u v =
+    let s : p .negative ≡ q .negative = u .sign ∙ sym (v .sign) in
+    let k : p .exponent ≡ q .exponent = same-exponent u v in
+    let d : p .digits ≡ q .digits = same-digits u v k in
+    λ i. record { negative = s i; digits = d i; exponent = k i }
+
+-- the steps to a nearest f64
+pub pow10-one : (k : ℕ) → One (λ r. r) (10 ^ k)
+pow10-one k = one-result (10 ^ k)
+
+pub rounded-half-one : (q rest : ℕ) → One (λ r. r) (roundedHalf q rest)
+rounded-half-one q rest = one-result (roundedHalf q rest)
+
+pub nearest-scaled-one : (n e up : ℕ) → One (λ r. r) (round binary64 false (n * 2 ^ up) e)
+nearest-scaled-one n e up = one-result (round binary64 false (n * 2 ^ up) e)
+
+pub nearest-power-one : (p n : ℕ) → One (λ r. r) (round binary64 false (p * 2 ^ n) (2 ^ 1086))
+nearest-power-one p n = one-result (round binary64 false (p * 2 ^ n) (2 ^ 1086))
+
+pub nearest-ratio-one : (n : ℕ) → One (λ r. r) (round binary64 false n (2 ^ 52))
+nearest-ratio-one n = one-result (round binary64 false n (2 ^ 52))

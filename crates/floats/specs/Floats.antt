@@ -1,11 +1,15 @@
 -- What Rust's std does to an f64 and document 01 takes over ("All other float steps are the Rust's own"): abs, trunc, floor,
 -- rem_euclid, div_euclid, and a whole quotient as an i32 ("a wraparound count leaves i32" gives 18). Assumes nothing.
-use mathlib.Core.Bool.{true, false, _&&_, cond}
+use mathlib.Core.Bool.{true, false, _&&_}
 use Prim.Native.Nat.{_+_, _-_, _*_, _/_}
-use lib.IntN.{ℤ}
+use lib.IntN.{ℤ, pos}
 use lib.Ieee.{Float, nan, inf, fin, binary64, up, down, round, add, sub, div, rem, lt, le, ofBits, toSigned}
 use Rattle.base.specs.Numbers.{beyond-reach}
 use Rattle.base.specs.Said.{Said, gives, refuses, pick}
+
+-- 2 ^ z
+abbrev pub twoTo : ℤ → Float
+twoTo z = fin false 1 z
 
 -- 0.0
 abbrev pub zeroF : Float
@@ -13,7 +17,7 @@ zeroF = ofBits binary64 0
 
 -- 1.0
 abbrev pub oneF : Float
-oneF = ofBits binary64 0x3ff0_0000_0000_0000
+oneF = twoTo (pos 0)
 
 -- the size: the sign cleared
 unfoldable pub abs : Float → Float
@@ -36,22 +40,22 @@ floor (fin true m e) = round binary64 true ((m * up e + (down e - 1)) / down e) 
 
 -- f64::rem_euclid: the remainder, moved up by |b| where it is below zero
 abbrev pub remEuclid : Float → Float → Float
-remEuclid a b = cond (lt (rem binary64 a b) zeroF) (add binary64 (rem binary64 a b) (abs b)) (rem binary64 a b)
+remEuclid a b = pick (lt (rem binary64 a b) zeroF) (add binary64 (rem binary64 a b) (abs b)) (rem binary64 a b)
 
 -- f64::div_euclid: the whole part of the quotient, one away where the remainder is below zero
 abbrev pub divEuclid : Float → Float → Float
 divEuclid a b =
-    cond (lt (rem binary64 a b) zeroF)
-    (cond (lt zeroF b) (sub binary64 (trunc (div binary64 a b)) oneF) (add binary64 (trunc (div binary64 a b)) oneF))
+    pick (lt (rem binary64 a b) zeroF)
+    (pick (lt zeroF b) (sub binary64 (trunc (div binary64 a b)) oneF) (add binary64 (trunc (div binary64 a b)) oneF))
     (trunc (div binary64 a b))
 
 -- -2 ^ 31, the least i32
 abbrev pub leastI32 : Float
-leastI32 = ofBits binary64 0xc1e0_0000_0000_0000
+leastI32 = fin true 1 (pos 31)
 
 -- 2 ^ 31, past the largest i32
 abbrev pub pastI32 : Float
-pastI32 = ofBits binary64 0x41e0_0000_0000_0000
+pastI32 = twoTo (pos 31)
 
 -- the whole part of q as an i32; 18 outside, a NaN included
 abbrev pub count : Float → Said ℤ

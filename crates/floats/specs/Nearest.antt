@@ -1,9 +1,9 @@
 -- The steps to the f64 nearest to a fraction, as the code takes them; the nearest value itself is `round` of lib.Ieee.
 -- Assumes nothing.
 use mathlib.Core.Path.{_≡_}
-use mathlib.Core.Bool.{cond}
 use Prim.Native.Nat.{ℕ, _+_, _*_, _/_, _%_, _^_, _<_, _≤_}
 use lib.Dec.{eqb}
+use Rattle.base.specs.Said.{pick}
 use Rattle.floats.specs.declared.Quotient.{Quotient}
 
 -- n * 2 ^ steps is q times e and a rest below e; q has 54 binary digits
@@ -16,4 +16,4 @@ pub record Divided (n e : ℕ) (r : Quotient) : Type 0 where
 
 -- half of q and the rest after it, to the nearest whole number, a tie to the even one
 abbrev pub roundedHalf : ℕ → ℕ → ℕ
-roundedHalf q rest = cond (eqb (q % 2) 0) (q / 2) (cond (eqb rest 0) (q / 2 + q / 2 % 2) (q / 2 + 1))
+roundedHalf q rest = pick (eqb (q % 2) 0) (q / 2) (pick (eqb rest 0) (q / 2 + q / 2 % 2) (q / 2 + 1))

@@ -1,5 +1,7 @@
 // What the library does to an f64 besides adding, multiplying and dividing: whole parts and euclidean division as Rust's
 // std has them, the ranges that document 01 names, an f64 taken apart, and the f64 nearest to a fraction.
+pub mod remainder;
+
 ghost use mathlib.Core.Path.{_≡_};
 ghost use mathlib.Core.Bool.{Bool, false};
 ghost use Prim.Native.Nat.{_+_, _*_, _^_, _<_, _≤_};
@@ -9,7 +11,7 @@ ghost use lib.Ieee.{binary64};
 ghost use lib.Ieee.Scale.{finite};
 ghost use Rattle.floats.specs.Floats.{abs, trunc, floor, remEuclid, divEuclid, count};
 ghost use Rattle.floats.specs.Ranges.{inReach, inSearch, inGenerator, inPitch, negligible};
-ghost use Rattle.math.specs.Answers.{saysI32};
+ghost use Rattle.integer_math.specs.Answers.{saysI32};
 ghost use Rattle.floats.specs.Units.{Unpacked};
 ghost use Rattle.floats.specs.Nearest.{Divided, roundedHalf};
 
@@ -85,7 +87,7 @@ pub fn floor_of(x: f64) -> f64
 pub fn rem_euclid(a: f64, b: f64) -> f64
     ensures { λ r. ⌜ r ≡ remEuclid a b ⌝ }
 {
-    let r = a % b;
+    let r = remainder::rem_of(a, b);
     if r < 0.0 { r + abs_of(b) } else { r }
 }
 
@@ -94,7 +96,7 @@ pub fn div_euclid(a: f64, b: f64) -> f64
     ensures { λ r. ⌜ r ≡ divEuclid a b ⌝ }
 {
     let q = trunc_of(a / b);
-    if a % b < 0.0 {
+    if remainder::rem_of(a, b) < 0.0 {
         if b > 0.0 { q - 1.0 } else { q + 1.0 }
     } else {
         q
@@ -102,20 +104,20 @@ pub fn div_euclid(a: f64, b: f64) -> f64
 }
 
 // The whole part of q as an i32: 18 where it leaves i32.
-pub fn count_of(q: f64) -> math::I32Answer
+pub fn count_of(q: f64) -> integer_math::I32Answer
     ensures { λ r. ⌜ saysI32 r ≡ count q ⌝ }
 {
     if q >= -I32_END {
         if q < I32_END {
-            math::I32Answer::Is(std::num::truncating_f64_to_i64(q) as i32)
+            integer_math::I32Answer::Is(std::num::truncating_f64_to_i64(q) as i32)
         } else {
-            math::I32Answer::Refused(base::Refusal {
+            integer_math::I32Answer::Refused(base::Refusal {
                 number: base::BEYOND_REACH,
                 detail: 0,
             })
         }
     } else {
-        math::I32Answer::Refused(base::Refusal {
+        integer_math::I32Answer::Refused(base::Refusal {
             number: base::BEYOND_REACH,
             detail: 0,
         })
@@ -220,13 +222,28 @@ pub fn pow10(k: u64) -> u64
     requires { ⌜ k ≤ 18 ⌝ }
     ensures { λ r. ⌜ r ≡ 10 ^ k ⌝ }
 {
-    let mut p: u64 = 1;
-    let mut i: u64 = 0;
-    while i < k {
-        p = p * 10;
-        i += 1;
+    match k {
+        0 => 1,
+        1 => 10,
+        2 => 100,
+        3 => 1000,
+        4 => 10_000,
+        5 => 100_000,
+        6 => 1_000_000,
+        7 => 10_000_000,
+        8 => 100_000_000,
+        9 => 1_000_000_000,
+        10 => 10_000_000_000,
+        11 => 100_000_000_000,
+        12 => 1_000_000_000_000,
+        13 => 10_000_000_000_000,
+        14 => 100_000_000_000_000,
+        15 => 1_000_000_000_000_000,
+        16 => 10_000_000_000_000_000,
+        17 => 100_000_000_000_000_000,
+        18 => 1_000_000_000_000_000_000,
+        _ => 0,
     }
-    p
 }
 
 // A long division: the quotient, what is left, and how often the dividend was doubled.

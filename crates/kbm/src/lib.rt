@@ -3,9 +3,9 @@
 // A mapping is a value, `Kbm`, and a lent table of `count` entries: in the table a number from -32768 to 32767 is a degree,
 // `UNMAPPED` is no degree, and any other number is unusable (10).
 use base::Refusal;
+use integer_math::I32Answer;
 use key::Degree;
 use key::PianoKey;
-use math::I32Answer;
 use pitch::Pitch;
 
 pub mod builder;
@@ -176,7 +176,7 @@ fn shifted(entry: i16, q: i32, octave: i16) -> i64
 fn checked_degree(z: i64) -> DegreeAnswer
     ensures { λ r. ⌜ saysDegree r ≡ held z ⌝ }
 {
-    match math::to_i32(z) {
+    match integer_math::to_i32(z) {
         I32Answer::Is(number) => DegreeAnswer::Is(Degree(number)),
         I32Answer::Refused(refusal) => DegreeAnswer::Refused(refusal),
     }
@@ -191,9 +191,13 @@ fn degree_at(d: i32, octave: i16, map: &[i32], count: u16) -> DegreeAnswer
         return DegreeAnswer::Is(Degree(d));
     }
     let size = count as u32;
-    let place = math::remainder(d, size) as usize;
+    let place = integer_math::remainder(d, size) as usize;
     match entry_of(map[place]) {
-        Entry::Mapped(entry) => checked_degree(shifted(entry, math::quotient(d, size), octave)),
+        Entry::Mapped(entry) => checked_degree(shifted(
+            entry,
+            integer_math::quotient(d, size),
+            octave,
+        )),
         Entry::Unmapped => DegreeAnswer::Refused(NO_DEGREE),
     }
 }

@@ -1,7 +1,7 @@
 // Keyboard mappings out: the text of a mapping, the Rust's `KbmExport`. Document 01, "Writing".
 use base::Refusal;
+use integer_math::I32Answer;
 use kbm::Kbm;
-use math::I32Answer;
 use printing::Placed;
 ghost use mathlib.Core.Path.{_≡_};
 ghost use mathlib.Core.Bool.{false, true};
@@ -216,8 +216,11 @@ fn write_held(kbm: Kbm, entries: &[i32], out: &mut [u8]) -> SizeAnswer
     let root = kbm.root;
     let reference = root.reference.0;
     let hz = root.pitch.0;
-    match math::to_i32(math::difference(kbm.end.0, 1)) {
-        I32Answer::Is(last) => match math::to_i32(math::sum(reference, root.offset)) {
+    match integer_math::to_i32(integer_math::difference(kbm.end.0, 1)) {
+        I32Answer::Is(last) => match integer_math::to_i32(integer_math::sum(
+            reference,
+            root.offset,
+        )) {
             I32Answer::Is(middle) => write_mapping(
                 size,
                 first,

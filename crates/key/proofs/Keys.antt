@@ -13,8 +13,8 @@ use borrow.Author.Tests.{leb-true}
 use Rattle.base.specs.Integers.{held}
 use Rattle.base.specs.Numbers.{key-out-of-range}
 use Rattle.base.specs.Said.{Said, gives, refuses, refusal, andThen}
-use Rattle.math.specs.Answers.{saysI32}
-use Rattle.math.specs.declared.I32Answer.{I32Answer}
+use Rattle.integer_math.specs.Answers.{saysI32}
+use Rattle.integer_math.specs.declared.I32Answer.{I32Answer}
 use Rattle.key.specs.Keys.{key, keyAfter, midiOf}
 use Rattle.key.specs.declared.PianoKey.{PianoKey}
 

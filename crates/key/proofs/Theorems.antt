@@ -3,8 +3,8 @@ use mathlib.Core.Path.{refl}
 use mathlib.Core.Logic.{inl, inr}
 use lib.IntN.{ℤ}
 use Rattle.base.proofs.Said.{One, Split, one-result, one-plain}
-use Rattle.math.specs.Answers.{saysI32}
-use Rattle.math.proofs.Theorems.{i32-one}
+use Rattle.integer_math.specs.Answers.{saysI32}
+use Rattle.integer_math.proofs.Theorems.{i32-one}
 use Rattle.key.specs.Answers.{saysKey, saysMidi}
 use Rattle.key.specs.Keys.{key, keyAfter, stepsBetween, midiOf}
 use Rattle.key.specs.declared.PianoKey.{PianoKey}

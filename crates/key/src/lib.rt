@@ -1,8 +1,8 @@
 // Keys of a keyboard, and degrees of a scale: numbers that stay apart. The Rust's key.rs; document 01, "What is taken", 2.
 use base::Refusal;
-use math::I32Answer;
+use integer_math::I32Answer;
 ghost use mathlib.Core.Path.{_≡_};
-ghost use Rattle.math.specs.Answers.{saysI32};
+ghost use Rattle.integer_math.specs.Answers.{saysI32};
 ghost use Rattle.key.specs.Answers.{saysKey, saysMidi};
 ghost use Rattle.key.specs.Keys.{key, keyAfter, stepsBetween, midiOf};
 
@@ -60,14 +60,14 @@ impl PianoKey {
     pub fn num_keys_before(self, other: PianoKey) -> I32Answer
         ensures { λ r. ⌜ saysI32 r ≡ stepsBetween self other ⌝ }
     {
-        math::to_i32(math::difference(other.0, self.0))
+        integer_math::to_i32(integer_math::difference(other.0, self.0))
     }
 
     // The key that many steps after this one; 11 outside 32 bits.
     pub fn plus_steps(self, steps: i32) -> KeyAnswer
         ensures { λ r. ⌜ saysKey r ≡ keyAfter self steps ⌝ }
     {
-        match math::to_i32(math::sum(self.0, steps)) {
+        match integer_math::to_i32(integer_math::sum(self.0, steps)) {
             I32Answer::Is(number) => KeyAnswer::Is(PianoKey(number)),
             I32Answer::Refused(refusal) => KeyAnswer::Refused(refusal),
         }

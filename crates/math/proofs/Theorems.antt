@@ -1,29 +1,27 @@
 -- What the calls of this crate mean, and that each has one result. Document 01, "What is taken", 1.
 -- Assumes nothing.
 use mathlib.Core.Path.{_≡_, refl, sym, _∙_, subst}
-use mathlib.Core.Logic.{_↔_, _⊎_, inl, inr}
+use mathlib.Core.Logic.{_↔_, inl, inr}
 use Prim.Native.Nat.{ℕ, zero, suc, _^_, _<_}
 use native.Mathlib.Omega.{arith}
 use lib.IntN.{ℤ}
 use borrow.Author.Tests.{ne-eqb}
 use Rattle.base.specs.Integers.{Divides, floorDiv, floorMod}
-use Rattle.base.specs.Said.{Said, gives, refuses}
+use Rattle.base.specs.Said.{gives, refuses}
 use Rattle.base.proofs.Division.{floor-divides, divides-one}
 use Rattle.base.proofs.Said.{One, Split, one-result, one-plain, one-answer}
-use Rattle.math.specs.Answers.{saysI32, saysU32, saysDivision}
-use Rattle.math.specs.Division.{Parts, quotientOf, remainderOf, divisionOf}
+use Rattle.integer_math.specs.Answers.{saysI32}
+use Rattle.integer_math.proofs.Theorems.{i32-one}
+use Rattle.math.specs.Answers.{saysU32, saysDivision}
+use Rattle.math.specs.Division.{QuotientAndRemainder, quotientOf, remainderOf, divisionOf}
 use Rattle.math.specs.OddPart.{OddPart, oddPart}
 use Rattle.math.specs.declared.Division.{Division}
-use Rattle.math.specs.declared.I32Answer.{I32Answer}
-use Rattle.math.specs.declared.I32Answer.the-variants as I
-use Rattle.math.specs.declared.U32Answer.{U32Answer}
 use Rattle.math.specs.declared.U32Answer.the-variants as U
-use Rattle.math.specs.declared.DivisionAnswer.{DivisionAnswer}
 use Rattle.math.specs.declared.DivisionAnswer.the-variants as D
 use Rattle.math.proofs.OddPart.{halved-is, one-part}
 
 -- both parts, from each
-abbrev parts : ℤ → ℕ → Parts
+abbrev parts : ℤ → ℕ → QuotientAndRemainder
 parts q r = record { quotient = q; remainder = r }
 
 pub gives-parts : {q q′ : ℤ} {r r′ : ℕ} → q ≡ q′ → r ≡ r′ → gives (parts q r) ≡ gives (parts q′ r′)
@@ -40,13 +38,13 @@ pub positive-gives : (z : ℤ) (s : ℕ) → 0 < s →
 unfolding quotientOf remainderOf divisionOf
 positive-gives z s h = let t = ne-eqb s 0 (λ e. omega (arith, e, h)) in (rw t, rw t, rw t)
 
-given-positive : (z : ℤ) (s : ℕ) (p : Parts) → divisionOf z s ≡ gives p → 0 < s
+given-positive : (z : ℤ) (s : ℕ) (p : QuotientAndRemainder) → divisionOf z s ≡ gives p → 0 < s
 unfolding divisionOf
 given-positive z zero p e = let no : _≡_ {A = ℕ} 0 1 = cc in absurd (omega arith)
 given-positive z (suc k) p e = omega arith
 
 -- numer = q*denom + r, 0 <= r < denom: what is given divides, and what divides is given
-pub division-gives : (z : ℤ) (s : ℕ) (p : Parts) → (divisionOf z s ≡ gives p) ↔ Divides z s (p .quotient) (p .remainder)
+pub division-gives : (z : ℤ) (s : ℕ) (p : QuotientAndRemainder) → (divisionOf z s ≡ gives p) ↔ Divides z s (p .quotient) (p .remainder)
 division-gives z s p = (there, back)
   where
     there : divisionOf z s ≡ gives p → Divides z s (p .quotient) (p .remainder)
@@ -54,7 +52,7 @@ division-gives z s p = (there, back)
         let h = given-positive z s p e in
         let given : gives (parts (floorDiv z s) (floorMod z s)) ≡ gives p = sym (positive-gives z s h .2) ∙ e in
         let same : parts (floorDiv z s) (floorMod z s) ≡ p = cc in
-        subst (λ (p : Parts). Divides z s (p .quotient) (p .remainder)) same (floor-divides z s h)
+        subst (λ (p : QuotientAndRemainder). Divides z s (p .quotient) (p .remainder)) same (floor-divides z s h)
 
     back : Divides z s (p .quotient) (p .remainder) → divisionOf z s ≡ gives p
     back d =
@@ -70,10 +68,6 @@ pub odd-part-one : (n m m′ : ℕ) → OddPart n m → OddPart n m′ → m ≡
 odd-part-one n m m′ = one-part
 
 -- ---- two results of one input are equal
-pub i32-split : Split I.Is I.Refused
-i32-split (I.Is a) = inl (a, refl)
-i32-split (I.Refused r) = inr (r, refl)
-
 pub u32-split : Split U.Is U.Refused
 u32-split (U.Is a) = inl (a, refl)
 u32-split (U.Refused r) = inr (r, refl)
@@ -82,16 +76,12 @@ pub division-split : Split D.Is D.Refused
 division-split (D.Is a) = inl (a, refl)
 division-split (D.Refused r) = inr (r, refl)
 
-partsOf : Division → Parts
+partsOf : Division → QuotientAndRemainder
 partsOf d = parts (d .quotient) (d .remainder)
 
 parts-apart : (a b : Division) → partsOf a ≡ partsOf b → a ≡ b
 unfolding partsOf
 parts-apart a b e = λ i. record { quotient = e i .quotient; remainder = e i .remainder }
-
--- every call that answers an i32 or a refusal
-pub i32-one : (s : Said ℤ) → One saysI32 s
-i32-one = one-plain i32-split saysI32 (λ a. refl) (λ r. refl)
 
 pub i32-div-u-one : (z : ℤ) (s : ℕ) → One saysI32 (quotientOf z s)
 i32-div-u-one z s = i32-one (quotientOf z s)

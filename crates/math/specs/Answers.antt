@@ -1,23 +1,16 @@
 -- What each answer of this crate says, in document 01's numbers and values. Assumes nothing.
 use Prim.Native.Nat.{ℕ}
-use lib.IntN.{ℤ}
 use Rattle.base.specs.Said.{Said, gives, refusal}
-use Rattle.math.specs.Division.{Parts}
-use Rattle.math.specs.declared.I32Answer.{I32Answer}
-use Rattle.math.specs.declared.I32Answer.the-variants as I
+use Rattle.math.specs.Division.{QuotientAndRemainder}
 use Rattle.math.specs.declared.U32Answer.{U32Answer}
 use Rattle.math.specs.declared.U32Answer.the-variants as U
 use Rattle.math.specs.declared.DivisionAnswer.{DivisionAnswer}
 use Rattle.math.specs.declared.DivisionAnswer.the-variants as D
 
-abbrev pub saysI32 : I32Answer → Said ℤ
-saysI32 (I.Is q) = gives q
-saysI32 (I.Refused r) = refusal r
-
 abbrev pub saysU32 : U32Answer → Said ℕ
 saysU32 (U.Is r) = gives r
 saysU32 (U.Refused r) = refusal r
 
-abbrev pub saysDivision : DivisionAnswer → Said Parts
+abbrev pub saysDivision : DivisionAnswer → Said QuotientAndRemainder
 saysDivision (D.Is d) = gives (record { quotient = d .quotient; remainder = d .remainder })
 saysDivision (D.Refused r) = refusal r

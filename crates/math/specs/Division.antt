@@ -8,7 +8,7 @@ use Rattle.base.specs.Numbers.{unusable}
 use Rattle.base.specs.Said.{Said, gives, refuses, pick}
 
 -- quotient and remainder together
-pub record Parts : Type 0 where
+pub record QuotientAndRemainder : Type 0 where
   pub quotient : ℤ
   pub remainder : ℕ
 
@@ -21,5 +21,5 @@ unfoldable pub remainderOf : ℤ → ℕ → Said ℕ
 remainderOf z s = pick (eqb s 0) (refuses unusable 0) (gives (floorMod z s))
 
 -- both
-unfoldable pub divisionOf : ℤ → ℕ → Said Parts
+unfoldable pub divisionOf : ℤ → ℕ → Said QuotientAndRemainder
 divisionOf z s = pick (eqb s 0) (refuses unusable 0) (gives (record { quotient = floorDiv z s; remainder = floorMod z s }))

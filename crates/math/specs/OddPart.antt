@@ -9,11 +9,11 @@ pub data OddPart (n m : ℕ) : Type 0 where
   none : n ≡ 0 → m ≡ 0 → OddPart n m
   odd : (k : ℕ) → n ≡ m * 2 ^ k → m % 2 ≡ 1 → OddPart n m
 
--- n halved while it is even, at most so many times
-unfoldable pub halved : ℕ → ℕ → ℕ
-halved zero n = n
-halved (suc k) n = pick (eqb (n % 2) 0) (halved k (n / 2)) n
+-- n halvedWhileEven while it is even, at most so many times
+unfoldable pub halvedWhileEven : ℕ → ℕ → ℕ
+halvedWhileEven zero n = n
+halvedWhileEven (suc k) n = pick (eqb (n % 2) 0) (halvedWhileEven k (n / 2)) n
 
 -- the odd part of a number of 16 bits; that it is that is `odd-part` of proofs/Theorems.antt
 abbrev pub oddPart : ℕ → ℕ
-oddPart n = halved 16 n
+oddPart n = halvedWhileEven 16 n

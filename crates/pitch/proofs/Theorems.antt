@@ -1,33 +1,27 @@
--- Each call of this crate has one result, and odd limit 0 answers 0/0. Assumes nothing.
-use mathlib.Core.Path.{_≡_, refl}
+-- Each call of this crate has one result. Assumes nothing.
+use mathlib.Core.Path.{refl}
 use mathlib.Core.Logic.{inl, inr}
 use mathlib.Core.Bool.{Bool}
 use Prim.Native.Nat.{ℕ}
 use lib.Ieee.{Float}
 use Rattle.base.specs.Said.{Said}
-use Rattle.base.proofs.Said.{One, Split, one-plain, one-answer}
+use Rattle.base.proofs.Said.{One, Split, one-result, one-plain, one-answer}
 use Rattle.floats.specs.Answers.{saysFloat}
+use Rattle.floats.specs.Floats.{oneF}
 use Rattle.floats.proofs.Theorems.{float-one}
-use Rattle.math.specs.OddPart.{halved}
 use Rattle.pitch.specs.Answers.{saysRatio, saysPitch, saysBool, saysOrder, saysNearest}
-use Rattle.pitch.specs.NearestFraction.{start, turns, walked, nearestFraction, stepOf, turnAt, bothOver}
+use Rattle.pitch.specs.Given.{computed}
+use Rattle.pitch.specs.NearestFraction.{nearestFraction}
 use Rattle.pitch.specs.Pitches.{fromHz, asHz, pitchTimes, pitchOver, betweenPitches}
-use Rattle.pitch.specs.Ratios.{fromFloat, fromOctaves, fromSemitones, fromCents, asFloat, asOctaves, asSemitones, asCents, stretchedBy, deviationFrom, repeated, dividedInto, stepsOfSize, inverse, absolute, isNegligible, totalCmp}
+use Rattle.pitch.specs.Ratios.{twoF, upward, fromFloat, fromOctaves, fromSemitones, fromCents, asFloat, asOctaves, asSemitones, asCents, stretchedBy, deviationFrom, repeated, dividedInto, stepsOfSize, inverse, absolute, isNegligible, totalCmp}
 use Rattle.pitch.specs.declared.BoolAnswer.the-variants as OfBool
 use Rattle.pitch.specs.declared.nearest.NearestAnswer.the-variants as OfNearest
 use Rattle.pitch.specs.declared.nearest.NearestFraction.{NearestFraction}
 use Rattle.pitch.specs.declared.Order.{Order}
 use Rattle.pitch.specs.declared.OrderAnswer.the-variants as OfOrder
-use Rattle.pitch.specs.declared.Pitch.{Pitch}
 use Rattle.pitch.specs.declared.PitchAnswer.the-variants as OfPitch
 use Rattle.pitch.specs.declared.Ratio.{Ratio}
 use Rattle.pitch.specs.declared.RatioAnswer.the-variants as OfRatio
-use Rattle.pitch.proofs.WalkEnds.{walked-end}
-
--- "odd limit 0 answers 0/0 with infinite deviation": the walk ends where it starts
-pub limit-zero : (target : Float) → walked turns start target 0 ≡ start
-unfolding stepOf turnAt bothOver halved
-limit-zero target = walked-end target 0 262143 start start refl
 
 -- ---- an answer is a value or a refusal
 pub ratio-split : Split OfRatio.Is OfRatio.Refused
@@ -66,6 +60,21 @@ pub nearest-one : (s : Said NearestFraction) → One saysNearest s
 nearest-one = one-plain nearest-split saysNearest (λ a. refl) (λ r. refl)
 
 -- ---- two results of one input are equal
+pub checked-ratio-one : (x : Float) → One saysRatio (computed x)
+checked-ratio-one x = ratio-one (computed x)
+
+pub checked-pitch-one : (x : Float) → One saysPitch (computed x)
+checked-pitch-one x = pitch-one (computed x)
+
+pub upwards-one : (x : Float) → One (λ r. r) (upward x)
+upwards-one x = one-result (upward x)
+
+pub octave-one : One {A = Ratio} (λ r. r) (record { 0 = twoF })
+octave-one = one-result (record { 0 = twoF })
+
+pub unison-one : One {A = Ratio} (λ r. r) (record { 0 = oneF })
+unison-one = one-result (record { 0 = oneF })
+
 pub from-hz-one : (hz : Float) → One saysPitch (fromHz hz)
 from-hz-one hz = pitch-one (fromHz hz)
 

@@ -1,27 +1,26 @@
 -- The walk of `nearest_fraction` ends: with each turn that goes on, the fractions it is between grow. Assumes nothing.
-use mathlib.Core.Path.{_≡_, refl, sym, _∙_, ap, subst}
+use mathlib.Core.Path.{_≡_, refl, sym, _∙_, subst}
 use mathlib.Core.Logic.{_⊎_, inl, inr}
-use mathlib.Core.Bool.{Bool, true, false, _&&_}
+use mathlib.Core.Bool.{Bool, true, false}
 use Prim.Native.Nat.{ℕ, zero, suc, _+_, _-_, _≤_, _<_}
 use native.Mathlib.Omega.{arith}
 use lib.Dec.{ltb}
 use lib.Ieee.{Float, binary64, div, lt}
 use Rattle.base.specs.Said.{pick}
-use Rattle.pitch.specs.NearestFraction.{fraction, walkOf, start, turns, quotientOf, bothOver, bothWithin, improved, passed, turnAt, stepOf, endOf, walked}
-use Rattle.pitch.specs.Ratios.{upward}
+use Rattle.pitch.specs.NearestFraction.{fraction, walkOf, start, turns, floatOf, bothOver, improved, passed, turnAt, stepOf, walked}
 use Rattle.pitch.specs.declared.nearest.Fraction.{Fraction}
 use Rattle.pitch.specs.declared.nearest.Step.{Step}
 use Rattle.pitch.specs.declared.nearest.Step.the-variants.{On, Done}
 use Rattle.pitch.specs.declared.nearest.Walk.{Walk}
+use Rattle.pitch.proofs.States.{Between, InU16, Kept, improved-keeps, State, Any, after, state-start, state-step-any}
 
 -- what the two fractions add up to
 unfoldable pub size : Walk → ℕ
 size w = w .low .numer + w .low .denom + (w .high .numer + w .high .denom)
 
--- neither fraction is 0/0
-pub record Between (w : Walk) : Type 0 where
-  pub low : 1 ≤ w .low .denom
-  pub high : 1 ≤ w .high .numer
+held-size : {w : Walk} → InU16 w → size w ≤ 262140
+unfolding size
+held-size h = omega (arith, h .low-numer, h .low-denom, h .high-numer, h .high-denom)
 
 -- a turn that goes on grows
 pub record Grown (w next : Walk) : Type 0 where
@@ -37,26 +36,13 @@ no-end e = let z : _≡_ {A = ℕ} 0 1 = cc in omega arith
 passed-on : (w : Walk) (mid : Fraction) (target : Float) {next : Walk} → passed w mid target ≡ On next →
     (walkOf (w .low) mid (w .best) (w .deviation) ≡ next) ⊎ (walkOf mid (w .high) (w .best) (w .deviation) ≡ next)
 unfolding passed
-passed-on w mid target {next} = go (lt target (quotientOf mid)) (lt (quotientOf mid) target)
+passed-on w mid target {next} = go (lt target (floatOf mid)) (lt (floatOf mid) target)
   where
     go : (a b : Bool) → pick a (On (walkOf (w .low) mid (w .best) (w .deviation))) (pick b (On (walkOf mid (w .high) (w .best) (w .deviation))) (Done w)) ≡ On next →
         (walkOf (w .low) mid (w .best) (w .deviation) ≡ next) ⊎ (walkOf mid (w .high) (w .best) (w .deviation) ≡ next)
     go true b e = inl (on-is e)
     go false true e = inr (on-is e)
     go false false e = absurd (no-end e)
-
--- the best may change; the two fractions stay
-record Kept (w better : Walk) : Type 0 where
-  low : better .low ≡ w .low
-  high : better .high ≡ w .high
-
-improved-keeps : (w : Walk) (mid : Fraction) (deviation : Float) (limit : ℕ) → Kept w (improved w mid deviation limit)
-unfolding improved
-improved-keeps w mid deviation limit = go (bothWithin mid limit && lt (upward deviation) (upward (w .deviation)))
-  where
-    go : (t : Bool) → Kept w (pick t (walkOf (w .low) (w .high) mid deviation) w)
-    go true = record { low = refl; high = refl }
-    go false = record { low = refl; high = refl }
 
 module _ (w : Walk) (b : Between w) where
   mid : Fraction
@@ -75,7 +61,7 @@ module _ (w : Walk) (b : Between w) where
   turned target limit {next} = go (bothOver mid limit)
     where
       better : Walk
-      better = improved w mid (div binary64 target (quotientOf mid)) limit
+      better = improved w mid (div binary64 target (floatOf mid)) limit
 
       go : (t : Bool) → pick t (Done w) (passed better mid target) ≡ On next → Grown w next
       go true e = absurd (no-end e)
@@ -134,3 +120,29 @@ module _ (target : Float) (limit : ℕ) where
   -- each turn that goes on is one fewer
   pub walking-less : {w next : Walk} → Walking target limit w → stepOf w target limit ≡ On next → size next ≤ 262140 → 262140 - size next < 262140 - size w
   walking-less {w} s e small = omega (arith, grows w (s .between) target limit e .more)
+
+-- ---- the turns are enough: what the two fractions hold stays within 16 bits, so that a walk cannot grow for ever
+module _ (target : Float) (limit : ℕ) where
+  step-cases : (w : Walk) → ((next : Walk) × (stepOf w target limit ≡ On next)) ⊎ ((last : Walk) × (stepOf w target limit ≡ Done last))
+  step-cases w = go (stepOf w target limit) refl
+    where
+      go : (s : Step) → stepOf w target limit ≡ s → ((next : Walk) × (stepOf w target limit ≡ On next)) ⊎ ((last : Walk) × (stepOf w target limit ≡ Done last))
+      go (On next) e = inl (next, e)
+      go (Done last) e = inr (last, e)
+
+  -- two walks with turns enough end alike
+  settled : (k j : ℕ) (w : Walk) → State Any w → 262141 ≤ k + size w → 262141 ≤ j + size w → walked k w target limit ≡ walked j w target limit
+  settled zero j w t p q = absurd (omega (arith, held-size (t .held)))
+  settled (suc k) zero w t p q = absurd (omega (arith, held-size (t .held)))
+  settled (suc k) (suc j) w t p q = elim (step-cases w) [
+    | inl s ↦
+        let g = grows w (t .between) target limit (s .1) in
+        let on = subst (λ (e : Step). State Any (after e)) (s .1) (state-step-any target limit w t) in
+        walked-on target limit k w (s .0) (s .1) ∙ settled k j (s .0) on (omega (arith, g .more)) (omega (arith, g .more)) ∙ sym (walked-on target limit j w (s .0) (s .1))
+    | inr s ↦ walked-end target limit k w (s .0) (s .1) ∙ sym (walked-end target limit j w (s .0) (s .1))
+  ]
+
+  -- the walk from its start has ended after so many turns: more change nothing
+  pub walk-ends : (more : ℕ) → walked (turns + more) start target limit ≡ walked turns start target limit
+  unfolding size
+  walk-ends more = settled (turns + more) turns start state-start (omega arith) (omega arith)

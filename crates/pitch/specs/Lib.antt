@@ -3,3 +3,4 @@ pub mod Ratios
 pub mod Pitches
 pub mod NearestFraction
 pub mod Answers
+pub mod Samples

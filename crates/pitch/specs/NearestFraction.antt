@@ -1,6 +1,6 @@
 -- The walk of `nearest_fraction`: document 01, "Scales and searches": it "follows its loop: odd limit 0 answers 0/0 with
 -- infinite deviation", and 10 outside 2^-64..2^64. The Rust's `NearestFraction::for_ratio`, step by step. Assumes nothing.
-use mathlib.Core.Bool.{Bool, true, false, _&&_}
+use mathlib.Core.Bool.{Bool, false, _&&_}
 use Prim.Native.Nat.{ℕ, zero, suc, _+_}
 use lib.Dec.{ltb, leb}
 use lib.IntN.{ℤ, pos}
@@ -30,8 +30,8 @@ abbrev pub start : Walk
 start = walkOf (fraction 0 1) (fraction 1 0) (fraction 0 0) (inf false)
 
 -- a fraction as a float
-abbrev pub quotientOf : Fraction → Float
-quotientOf f = div binary64 (ofInt binary64 (pos (f .numer))) (ofInt binary64 (pos (f .denom)))
+abbrev pub floatOf : Fraction → Float
+floatOf f = div binary64 (ofInt binary64 (pos (f .numer))) (ofInt binary64 (pos (f .denom)))
 
 -- both odd parts are over the limit: the walk ends
 unfoldable pub bothOver : Fraction → ℕ → Bool
@@ -49,13 +49,13 @@ improved w mid deviation limit =
 -- past the fraction in the middle: below it, above it, or there
 unfoldable pub passed : Walk → Fraction → Float → Step
 passed w mid target =
-    pick (lt target (quotientOf mid)) (On (walkOf (w .low) mid (w .best) (w .deviation)))
-    (pick (lt (quotientOf mid) target) (On (walkOf mid (w .high) (w .best) (w .deviation))) (Done w))
+    pick (lt target (floatOf mid)) (On (walkOf (w .low) mid (w .best) (w .deviation)))
+    (pick (lt (floatOf mid) target) (On (walkOf mid (w .high) (w .best) (w .deviation))) (Done w))
 
 -- one turn at the fraction in the middle
 unfoldable pub turnAt : Walk → Fraction → Float → ℕ → Step
 turnAt w mid target limit =
-    pick (bothOver mid limit) (Done w) (passed (improved w mid (div binary64 target (quotientOf mid)) limit) mid target)
+    pick (bothOver mid limit) (Done w) (passed (improved w mid (div binary64 target (floatOf mid)) limit) mid target)
 
 -- one turn: the fraction in the middle adds numerators and denominators; the walk ends where one of them leaves 16 bits
 unfoldable pub stepOf : Walk → Float → ℕ → Step

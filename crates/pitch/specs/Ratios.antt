@@ -1,10 +1,11 @@
 -- Ratios of two frequencies: the Rust's `Ratio`, "each f64 step in its order, once rounded each", with document 01's E and
 -- L for exp2 and log2. A ratio stands for its number. Assumes nothing.
-use mathlib.Core.Bool.{Bool, true, false, _&&_, cond}
-use lib.Ieee.{Float, binary64, mul, div, neg, lt, le, ofBits}
+use mathlib.Core.Bool.{Bool, _&&_}
+use lib.IntN.{pos}
+use lib.Ieee.{Float, binary64, mul, div, neg, lt, ofBits}
 use Rattle.base.specs.Said.{Said, gives, pick, andThen}
-use Rattle.floats.specs.Floats.{oneF}
-use Rattle.floats.specs.Ranges.{inReach, negligible}
+use Rattle.floats.specs.Floats.{twoTo, oneF}
+use Rattle.floats.specs.Ranges.{negligible}
 use Rattle.explog.specs.Rules.{E, L}
 use Rattle.pitch.specs.Given.{given, bothGiven, computed}
 use Rattle.pitch.specs.declared.Order.{Order}
@@ -12,7 +13,7 @@ use Rattle.pitch.specs.declared.Order.the-variants.{Lower, Same, Higher}
 
 -- 2.0, 12.0, 100.0, 1200.0
 abbrev pub twoF : Float
-twoF = ofBits binary64 0x4000_0000_0000_0000
+twoF = twoTo (pos 1)
 
 abbrev pub twelveF : Float
 twelveF = ofBits binary64 0x4028_0000_0000_0000
@@ -76,7 +77,7 @@ abbrev pub inverse : Float → Said Float
 inverse r = given r (computed (div binary64 oneF r))
 
 unfoldable pub upward : Float → Float
-upward r = cond (lt (neg oneF) r && lt r oneF) (div binary64 oneF r) r
+upward r = pick (lt (neg oneF) r && lt r oneF) (div binary64 oneF r) r
 
 abbrev pub absolute : Float → Said Float
 absolute r = given r (computed (upward r))

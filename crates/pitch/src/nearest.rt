@@ -2,11 +2,11 @@
 use crate::RatioAnswer;
 use base::Refusal;
 use floats::FloatAnswer;
-use math::I32Answer;
+use integer_math::I32Answer;
 ghost use mathlib.Core.Path.{_≡_};
 ghost use Prim.Native.Nat.{_+_};
 ghost use Rattle.pitch.specs.Answers.{saysNearest};
-ghost use Rattle.pitch.specs.NearestFraction.{quotientOf, bothOver, bothWithin, improved, passed, turnAt, stepOf, start, turns, walked, bestFor, withoutOctaves, reducedNearest, nearestFraction};
+ghost use Rattle.pitch.specs.NearestFraction.{floatOf, bothOver, bothWithin, improved, passed, turnAt, stepOf, start, turns, walked, bestFor, withoutOctaves, reducedNearest, nearestFraction};
 
 pub struct Fraction {
     pub numer: u16,
@@ -41,7 +41,7 @@ pub enum Step {
 
 // The fraction as a float.
 fn quotient(f: Fraction) -> f64
-    ensures { λ r. ⌜ r ≡ quotientOf f ⌝ }
+    ensures { λ r. ⌜ r ≡ floatOf f ⌝ }
 {
     (f.numer as f64) / (f.denom as f64)
 }

@@ -1,6 +1,6 @@
 -- The nearest whole number to m * 10^d / 2^t, from parts that 64 bits hold. Assumes nothing.
 use mathlib.Core.Path.{_≡_, refl, sym, ap, _∙_}
-use mathlib.Core.Bool.{Bool, cond}
+use mathlib.Core.Bool.{Bool}
 use mathlib.Core.Logic.{_⊎_, inl, inr}
 use Prim.Native.Nat.{ℕ, _+_, _-_, _*_, _/_, _%_, _^_, _≤_, _<_, compare, Ordering, Ordering·lt, Ordering·eq, Ordering·gt}
 use native.Mathlib.Nat.{add-mul, add-assoc, mul-assoc, mul-comm, mul-right-comm, mul-le-mul, le-trans, eq-zero-or-pos, div-add-mod', mod-lt, div-mul-le-self, mod-eq-of-lt, lt-of-lt-of-le, mul-add-div-right, mul-add-mod-self-right, mul-lt-mul-of-pos-right, le-of-eq}
@@ -11,6 +11,7 @@ use lib.Arith.{digits-lt}
 use lib.Ieee.{nearest}
 use lib.Ieee.Nearest.{closest, closest-same, closest-mono}
 use borrow.Author.Tests.{eq-eqb, ne-eqb}
+use Rattle.base.specs.Said.{pick}
 use Rattle.floats.specs.Nearest.{roundedHalf}
 use Rattle.floats.proofs.Nearest.{half-closest}
 use Rattle.printing.specs.PrintText.{cutAt}
@@ -46,7 +47,7 @@ scaled-is a p l u t et ea hl =
     ap (λ (x : ℕ). closest a x) b
     ∙ ap (λ (x : ℕ). closest x (E * 2)) s
     ∙ half-closest q E r small
-    ∙ ap (λ (z : Bool). cond (eqb (q % 2) 0) (q / 2) (cond z (q / 2 + q / 2 % 2) (q / 2 + 1))) (same-zero c l)
+    ∙ ap (λ (z : Bool). pick (eqb (q % 2) 0) (q / 2) (pick z (q / 2 + q / 2 % 2) (q / 2 + 1))) (same-zero c l)
 
 -- the machine's shifts
 pub cut : (p u : ℕ) → p < 2 ^ 64 → p / 2 ^ u * 2 ^ u % 2 ^ 64 ≡ p / 2 ^ u * 2 ^ u

@@ -4,6 +4,7 @@
 use base::Refusal;
 use decimals::DecimalAnswer;
 use floats::FloatAnswer;
+use integer_math::I32Answer;
 use integers::I32;
 use integers::U16;
 use integers::U32;
@@ -12,7 +13,6 @@ use key::MidiAnswer;
 use key::PianoKey;
 use libc::STDIN_FILENO;
 use libc::STDOUT_FILENO;
-use math::I32Answer;
 use math::U32Answer;
 use pitch::Ratio;
 use pitch::RatioAnswer;

@@ -2,10 +2,10 @@
 // room for it, and a refusal leaves that room as it was.
 use base::Refusal;
 use floats::FloatAnswer;
+use integer_math::I32Answer;
 use kbm::DegreeAnswer;
 use key::KeyAnswer;
 use key::MidiAnswer;
-use math::I32Answer;
 use math::U32Answer;
 use pitch::BoolAnswer;
 use pitch::PitchAnswer;
@@ -14,7 +14,8 @@ ghost use mathlib.Core.Path.{_≡_};
 ghost use Rattle.floats.specs.Answers.{saysFloat};
 ghost use Rattle.kbm.specs.Answers.{saysDegree};
 ghost use Rattle.key.specs.Answers.{saysMidi, saysKey};
-ghost use Rattle.math.specs.Answers.{saysI32, saysU32};
+ghost use Rattle.integer_math.specs.Answers.{saysI32};
+ghost use Rattle.math.specs.Answers.{saysU32};
 ghost use Rattle.pitch.specs.Answers.{saysRatio, saysPitch, saysBool};
 ghost use Rattle.telbijan_answers.specs.Interface.{code, result, kept, partOf};
 

@@ -1,38 +1,36 @@
 -- The result is 10 ^ k.
--- Invariant: p is 10 ^ i, and i is at most k. Measure: k - i.
-use mathlib.Core.Path.{_≡_, refl, sym, ap, _∙_}
-use Prim.Native.Nat.{ℕ, _*_, _-_, _^_, _≤_, _<_}
-use native.Mathlib.Nat.{pow-le-pow-right}
+-- No loop; each arm is a power, and no number up to 18 is left for the last.
+use mathlib.Core.Path.{_≡_, sym, ap}
+use Prim.Native.Nat.{ℕ, _^_}
 use native.Mathlib.Omega.{arith}
-use lib.Dec.{lit<}
-use Rattle.floats.proofs.Steps.{pow-more}
+use Rattle.base.proofs.Arms.{past}
 use Rattle.floats.proofs.pow10.Statement.{statement}
 use Rattle.floats.proofs.pow10.Tie as tie
 
-abbrev Inv-loop : tie.InvT-loop
-Inv-loop k p₀ i₀ p i = (i ≤ k) × (p ≡ 10 ^ i)
-
-abbrev μ-loop : tie.MeasureT-loop
-μ-loop k p₀ i₀ p i = k - i
-
-loop-holds : tie.Need-loop-holds Inv-loop μ-loop
-loop-holds c = (omega arith, refl)
-
-mul-p : tie.Need-mul-p Inv-loop μ-loop
-mul-p c = omega (arith, pow-le-pow-right {n = 10} (lit< tt) {i = c .before .loop .i} {j = 17} (omega arith))
-
-add-i : tie.Need-add-i Inv-loop μ-loop
-add-i c = omega arith
-
-loop-less : tie.Need-loop-less Inv-loop μ-loop
-loop-less c = omega arith
-
-loop-again : tie.Need-loop-again Inv-loop μ-loop
-loop-again c = (omega arith, ap (λ (x : ℕ). x * 10) (c .before .loop .inv .1) ∙ sym (pow-more 10 (c .before .loop .i)))
-
-returns : tie.Need-returns Inv-loop μ-loop
-returns c = c .before .loop .inv .1 ∙ ap (λ (x : ℕ). 10 ^ x) (omega arith)
+power : (k n : ℕ) → k ≡ n → 10 ^ n ≡ 10 ^ k
+power k n e = ap (λ (z : ℕ). 10 ^ z) (sym e)
 
 pub pow10-spec : {M : Type 1} → statement M
 pow10-spec =
-    tie.close (tie.spec Inv-loop μ-loop loop-holds mul-p add-i loop-less loop-again returns)
+    tie.close
+    (tie.spec
+    (λ c. power (c .before .args .k) 0 (c .match .keys1))
+    (λ c. power (c .before .args .k) 1 (c .match .keys2))
+    (λ c. power (c .before .args .k) 2 (c .match .keys3))
+    (λ c. power (c .before .args .k) 3 (c .match .keys4))
+    (λ c. power (c .before .args .k) 4 (c .match .keys5))
+    (λ c. power (c .before .args .k) 5 (c .match .keys6))
+    (λ c. power (c .before .args .k) 6 (c .match .keys7))
+    (λ c. power (c .before .args .k) 7 (c .match .keys8))
+    (λ c. power (c .before .args .k) 8 (c .match .keys9))
+    (λ c. power (c .before .args .k) 9 (c .match .keys10))
+    (λ c. power (c .before .args .k) 10 (c .match .keys11))
+    (λ c. power (c .before .args .k) 11 (c .match .keys12))
+    (λ c. power (c .before .args .k) 12 (c .match .keys13))
+    (λ c. power (c .before .args .k) 13 (c .match .keys14))
+    (λ c. power (c .before .args .k) 14 (c .match .keys15))
+    (λ c. power (c .before .args .k) 15 (c .match .keys16))
+    (λ c. power (c .before .args .k) 16 (c .match .keys17))
+    (λ c. power (c .before .args .k) 17 (c .match .keys18))
+    (λ c. power (c .before .args .k) 18 (c .match .keys19))
+    (λ c. absurd (omega (arith, past 19 _ (c .match .rest), c .before .pre))))

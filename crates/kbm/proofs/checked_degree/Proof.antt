@@ -5,7 +5,7 @@ use mathlib.Core.Path.{sym, _∙_, ap}
 use mir.Facts.{toZ-ofZ}
 use mir.Syntax.{w32}
 use Rattle.base.specs.Integers.{held}
-use Rattle.math.specs.Answers.{saysI32}
+use Rattle.integer_math.specs.Answers.{saysI32}
 use Rattle.kbm.proofs.checked_degree.Statement.{statement}
 use Rattle.kbm.proofs.checked_degree.Tie as tie
 

@@ -5,7 +5,7 @@ use mathlib.Core.Path.{_∙_}
 use mir.Facts.{toZ-ofZ}
 use mir.Syntax.{w32}
 use Rattle.base.proofs.Said.{and-then}
-use Rattle.math.specs.Answers.{saysI32}
+use Rattle.integer_math.specs.Answers.{saysI32}
 use Rattle.kbm.specs.Degree.{degreeAt}
 use Rattle.kbm.specs.Table.{tableOf}
 use Rattle.kbm.proofs.degree_from.Statement.{statement}

@@ -10,7 +10,7 @@ use mir.Syntax.{w16, w32}
 use mir.Val.{SFits}
 use Rattle.base.specs.Integers.{held}
 use Rattle.base.proofs.Machine.{told-held}
-use Rattle.math.specs.Answers.{saysI32}
+use Rattle.integer_math.specs.Answers.{saysI32}
 use Rattle.kbm_write.specs.Export.{lastOf, middleOf}
 use Rattle.kbm_write.proofs.Room.{held-is}
 use borrow.Author.Needs.{needs}

@@ -1,9 +1,8 @@
--- `math::odd_factors_u16` meets its contract. The invariant: the number is halved on the way to its odd part.
+-- `math::odd_factors_u16` meets its contract. The invariant: the number is halvedWhileEven on the way to its odd part.
 -- The measure is the number. Assumes nothing.
 use mathlib.Core.Path.{ap, sym}
-use borrow.Author.Needs.{needs}
 use native.Mathlib.Omega.{arith}
-use Rattle.math.specs.OddPart.{halved}
+use Rattle.math.specs.OddPart.{halvedWhileEven}
 use Rattle.math.proofs.OddPart.{Halving, begin, turn, end}
 use Rattle.math.proofs.odd_factors_u16.Statement.{statement}
 use Rattle.math.proofs.odd_factors_u16.Tie as tie
@@ -17,8 +16,8 @@ abbrev μ-loop : tie.MeasureT-loop
 μ-loop number n₀ n = n
 
 returns : tie.Need-returns Inv-loop μ-loop
-unfolding halved
-returns c = sym (ap (halved 16) (c .if1 .taken))
+unfolding halvedWhileEven
+returns c = sym (ap (halvedWhileEven 16) (c .if1 .taken))
 
 loop-holds : tie.Need-loop-holds Inv-loop μ-loop
 loop-holds c = begin (c .before .fits .number) (c .if1 .left)

@@ -4,7 +4,7 @@ use borrow.Author.Needs.{needs}
 use denote.Ref.{now}
 use mir.Facts.{toZ-ofZ}
 use mir.Syntax.{w32}
-use Rattle.math.specs.Answers.{saysI32}
+use Rattle.integer_math.specs.Answers.{saysI32}
 use Rattle.telbijan_answers.proofs.Interface.{accepted, refused, stays, stored}
 use Rattle.telbijan_answers.proofs.store_i32.Statement.{statement}
 use Rattle.telbijan_answers.proofs.store_i32.Tie as tie

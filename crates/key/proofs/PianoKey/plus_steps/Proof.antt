@@ -6,7 +6,7 @@ use lib.IntN.{_+ℤ_}
 use mir.Facts.{toZ-ofZ}
 use mir.Syntax.{w32}
 use Rattle.base.specs.Integers.{held}
-use Rattle.math.specs.Answers.{saysI32}
+use Rattle.integer_math.specs.Answers.{saysI32}
 use Rattle.base.proofs.Machine.{told-held}
 use Rattle.key.proofs.Keys.{key-after}
 use Rattle.key.proofs.PianoKey.plus_steps.Statement.{statement}

@@ -2,6 +2,7 @@
 -- Assumes nothing.
 use borrow.Author.Needs.{needs}
 use mathlib.Core.Path.{sym, _∙_}
+use lib.Ieee.{ofBits}
 use Rattle.pitch.proofs.Ratio.inv.Statement.{statement}
 use Rattle.pitch.proofs.Ratio.inv.Tie as tie
 
@@ -12,6 +13,7 @@ checked-ratio-requires : tie.Need-checked-ratio-requires
 checked-ratio-requires c κs = search needs
 
 returns : tie.Need-returns
+unfolding ofBits
 returns c = rw (sym (c .before .before .is-in-reach .ensures) ∙ c .before .if1 .taken) (c .checked-ratio .ensures)
 
 returns-2 : tie.Need-returns-2

@@ -2,7 +2,7 @@
 -- Assumes nothing.
 use Rattle.base.proofs.Said.{and-then}
 use Rattle.floats.specs.Answers.{saysFloat}
-use Rattle.math.specs.Answers.{saysI32}
+use Rattle.integer_math.specs.Answers.{saysI32}
 use Rattle.floats.specs.Floats.{count}
 use Rattle.pitch.specs.NearestFraction.{withoutOctaves, withoutWhole}
 use borrow.Author.Needs.{needs}

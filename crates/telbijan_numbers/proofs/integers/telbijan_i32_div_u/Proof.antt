@@ -2,7 +2,7 @@
 use borrow.Author.Needs.{needs}
 use denote.Ref.{now}
 use mir.Facts.{toZ-ofZ}
-use Rattle.math.specs.Answers.{saysI32}
+use Rattle.integer_math.specs.Answers.{saysI32}
 use Rattle.telbijan_answers.specs.Interface.{kept}
 use Rattle.telbijan_answers.proofs.Interface.{handed-on}
 use Rattle.telbijan_numbers.proofs.integers.telbijan_i32_div_u.Statement.{statement}

@@ -1,9 +1,9 @@
--- `math::quotient` meets its contract: the magnitude is divided, and a negative quotient is -1 less it.
+-- `integer_math::quotient` meets its contract: the magnitude is divided, and a negative quotient is -1 less it.
 -- Assumes nothing.
 use borrow.Author.Needs.{needs}
 use Rattle.base.proofs.Machine.{quotient-fits, flip-quotient-fits, quotient-below, quotient-above}
-use Rattle.math.proofs.quotient.Statement.{statement}
-use Rattle.math.proofs.quotient.Tie as tie
+use Rattle.integer_math.proofs.quotient.Statement.{statement}
+use Rattle.integer_math.proofs.quotient.Tie as tie
 
 magnitude-requires : tie.Need-magnitude-requires
 magnitude-requires c κs = search needs

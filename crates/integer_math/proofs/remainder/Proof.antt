@@ -1,11 +1,11 @@
--- `math::remainder` meets its contract: what the magnitude leaves, counted from the other end where it is negative.
+-- `integer_math::remainder` meets its contract: what the magnitude leaves, counted from the other end where it is negative.
 -- Assumes nothing.
 use borrow.Author.Needs.{needs}
 use native.Mathlib.Omega.{arith}
 use native.Mathlib.Nat.{mod-lt}
 use Rattle.base.proofs.Machine.{remainder-below, remainder-above}
-use Rattle.math.proofs.remainder.Statement.{statement}
-use Rattle.math.proofs.remainder.Tie as tie
+use Rattle.integer_math.proofs.remainder.Statement.{statement}
+use Rattle.integer_math.proofs.remainder.Tie as tie
 
 magnitude-requires : tie.Need-magnitude-requires
 magnitude-requires c κs = search needs

@@ -1,11 +1,11 @@
--- `math::difference` meets its contract: 64 bits hold what two numbers of 32 bits make.
+-- `integer_math::difference` meets its contract: 64 bits hold what two numbers of 32 bits make.
 -- Assumes nothing.
 use lib.IntN.{_-ℤ_}
 use mir.Syntax.{w64}
 use Rattle.base.proofs.Integers.{mag-sub}
 use Rattle.base.proofs.Machine.{widen-fits, exact-fits, exact-is}
-use Rattle.math.proofs.difference.Statement.{statement}
-use Rattle.math.proofs.difference.Tie as tie
+use Rattle.integer_math.proofs.difference.Statement.{statement}
+use Rattle.integer_math.proofs.difference.Tie as tie
 
 cast-result : tie.Need-cast-result
 cast-result c = widen-fits w64 tt (c .fits .a)

@@ -1,12 +1,12 @@
--- `math::sum` meets its contract: 64 bits hold what two numbers of 32 bits make.
+-- `integer_math::sum` meets its contract: 64 bits hold what two numbers of 32 bits make.
 -- Assumes nothing.
 use native.Mathlib.Omega.{arith}
 use lib.IntN.{_+ℤ_}
 use mir.Syntax.{w64}
 use Rattle.base.proofs.Integers.{mag-add}
 use Rattle.base.proofs.Machine.{widen-fits, exact-fits, exact-is}
-use Rattle.math.proofs.sum.Statement.{statement}
-use Rattle.math.proofs.sum.Tie as tie
+use Rattle.integer_math.proofs.sum.Statement.{statement}
+use Rattle.integer_math.proofs.sum.Tie as tie
 
 cast-result : tie.Need-cast-result
 cast-result c = widen-fits w64 tt (c .fits .a)

@@ -1,8 +1,8 @@
--- `math::to_i32` meets its contract: within both ends the cast loses nothing, and outside either it is 11.
+-- `integer_math::to_i32` meets its contract: within both ends the cast loses nothing, and outside either it is 11.
 -- Assumes nothing.
 use Rattle.base.proofs.Machine.{narrow-fits, held-here, held-under, held-over}
-use Rattle.math.proofs.to_i32.Statement.{statement}
-use Rattle.math.proofs.to_i32.Tie as tie
+use Rattle.integer_math.proofs.to_i32.Statement.{statement}
+use Rattle.integer_math.proofs.to_i32.Tie as tie
 
 cast-t4 : tie.Need-cast-t4
 cast-t4 c = narrow-fits (c .before .before .fits .z) (c .before .if1 .taken) (c .if2 .taken)

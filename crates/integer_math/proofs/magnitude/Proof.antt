@@ -1,10 +1,10 @@
--- `math::magnitude` meets its contract: -1 - z is the magnitude of a negative z, and z that of any other.
+-- `integer_math::magnitude` meets its contract: -1 - z is the magnitude of a negative z, and z that of any other.
 -- Assumes nothing.
 use mathlib.Core.Path.{ap}
 use lib.IntN.{natAbs}
 use Rattle.base.proofs.Machine.{flip-fits, flipped, kept, mag-cast}
-use Rattle.math.proofs.magnitude.Statement.{statement}
-use Rattle.math.proofs.magnitude.Tie as tie
+use Rattle.integer_math.proofs.magnitude.Statement.{statement}
+use Rattle.integer_math.proofs.magnitude.Tie as tie
 
 sub-result : tie.Need-sub-result
 sub-result c = flip-fits (c .before .fits .z) (c .if1 .taken)
