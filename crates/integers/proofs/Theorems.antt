@@ -7,7 +7,7 @@ use mathlib.Core.Logic.{_↔_}
 use Prim.Native.Nat.{ℕ, _^_, _<_}
 use native.Mathlib.Omega.{arith}
 use lib.IntN.{ℤ, natAbs}
-use Rattle.base.proofs.Said.{One}
+use Rattle.base.proofs.Said.{One, one-result}
 use Rattle.base.proofs.Apart.{one-back}
 use Rattle.integers.specs.Integer.{Int, value, none, readInt, u16Of, u32Of, i16Of, i32Of}
 use Rattle.integers.specs.IntegerText.{IntText}
@@ -90,3 +90,6 @@ module _ (s : List ℕ) where
 
   pub read-i32-one : One i32Of (readInt true (2 ^ 31) s)
   read-i32-one = one-back i32Of toI32 same-i32 (readInt true (2 ^ 31) s)
+
+pub wide-one : (b : ℕ) → One (λ r. r) b
+wide-one b = one-result b
