@@ -1,0 +1,176 @@
+// Mappings, tables and roots as fields of a line. Where a part of an answer differs, what is left of the line is nothing, and a
+// table after it differs.
+use base::Refusal;
+use frozen::Float;
+use frozen::Size;
+use kbm::Kbm;
+use kbm::KbmRoot;
+use key::PianoKey;
+use numeral::integer::I16;
+use numeral::integer::I32;
+use numeral::integer::U16;
+use pitch::Pitch;
+
+pub enum Mapping {
+    Is(Kbm),
+    IsNot,
+}
+
+pub enum Root {
+    Is(KbmRoot),
+    IsNot,
+}
+
+pub enum Place {
+    Is { places: usize, after: usize },
+    IsNot,
+}
+
+fn put(map: &mut [i32; 16], k: usize, z: i32) {
+    if k < 16 {
+        map[k] = z;
+    }
+}
+
+fn get(map: &[i32; 16], k: usize) -> i32 {
+    if k < 16 { map[k] } else { 0 }
+}
+
+// A table of at most 16 places: how many it has, and where the next field starts.
+pub fn read_table(line: &[u8], at: usize, map: &mut [i32; 16]) -> Place {
+    let Size::Is(places) = frozen::size_of(line, at) else {
+        return Place::IsNot;
+    };
+    if 16 < places {
+        return Place::IsNot;
+    }
+    let mut after = frozen::next(line, at);
+    let mut k = 0;
+    while k < places {
+        let I32::Is(z) = numeral::integer::read_i32(frozen::field(line, after)) else {
+            return Place::IsNot;
+        };
+        put(map, k, z);
+        after = frozen::next(line, after);
+        k += 1;
+    }
+    Place::Is { places, after }
+}
+
+// Whether the places of a table are the last fields of a line, of which there must be one.
+pub fn is_table(map: &[i32; 16], places: usize, line: &[u8], at: usize) -> bool {
+    if frozen::is_size(places, line, at) {
+        let mut after = frozen::next(line, at);
+        let mut k = 0;
+        while k < places {
+            if frozen::is_i32(get(map, k), line, after) {
+                after = frozen::next(line, after);
+                k += 1;
+            } else {
+                return false;
+            }
+        }
+        return frozen::is_end(line, after);
+    }
+    false
+}
+
+// The root of three fields: reference key, pitch, offset.
+pub fn read_root(line: &[u8], at: usize) -> Root {
+    let I32::Is(reference) = numeral::integer::read_i32(frozen::field(line, at)) else {
+        return Root::IsNot;
+    };
+    let Float::Is(hz) = frozen::float_of(frozen::field(line, frozen::later(line, at, 1))) else {
+        return Root::IsNot;
+    };
+    let I32::Is(offset) = numeral::integer::read_i32(frozen::field(line, frozen::later(line, at, 2))) else {
+        return Root::IsNot;
+    };
+    Root::Is(KbmRoot {
+        reference: PianoKey(reference),
+        pitch: Pitch(hz),
+        offset,
+    })
+}
+
+// The mapping of seven fields.
+pub fn read_mapping(line: &[u8], at: usize) -> Mapping {
+    let U16::Is(count) = numeral::integer::read_u16(frozen::field(line, at)) else {
+        return Mapping::IsNot;
+    };
+    let I32::Is(start) = numeral::integer::read_i32(frozen::field(line, frozen::later(line, at, 1))) else {
+        return Mapping::IsNot;
+    };
+    let I32::Is(end) = numeral::integer::read_i32(frozen::field(line, frozen::later(line, at, 2))) else {
+        return Mapping::IsNot;
+    };
+    let Root::Is(root) = read_root(line, frozen::later(line, at, 3)) else {
+        return Mapping::IsNot;
+    };
+    let I16::Is(octave) = numeral::integer::read_i16(frozen::field(line, frozen::later(line, at, 6))) else {
+        return Mapping::IsNot;
+    };
+    Mapping::Is(Kbm {
+        root,
+        start: PianoKey(start),
+        end: PianoKey(end),
+        octave,
+        count,
+    })
+}
+
+// Whether the root's three fields are these.
+fn is_root(root: KbmRoot, line: &[u8], at: usize) -> bool {
+    let reference = root.reference;
+    let pitch = root.pitch;
+    if frozen::is_i32(reference.0, line, at) {
+        if frozen::is_float(pitch.0, line, frozen::later(line, at, 1)) {
+            return frozen::is_i32(root.offset, line, frozen::later(line, at, 2));
+        }
+    }
+    false
+}
+
+fn wide(z: i16) -> i32 {
+    z as i32
+}
+
+// Whether the mapping's seven fields are these.
+fn is_mapping(kbm: Kbm, line: &[u8], at: usize) -> bool {
+    let start = kbm.start;
+    let end = kbm.end;
+    if frozen::is_u32(kbm.count as u32, line, at) {
+        if frozen::is_i32(start.0, line, frozen::later(line, at, 1)) {
+            if frozen::is_i32(end.0, line, frozen::later(line, at, 2)) {
+                if is_root(kbm.root, line, frozen::later(line, at, 3)) {
+                    return frozen::is_i32(wide(kbm.octave), line, frozen::later(line, at, 6));
+                }
+            }
+        }
+    }
+    false
+}
+
+// Where the field after this mapping starts; the line's end where another stands there.
+pub fn after_mapping(kbm: Kbm, line: &[u8], at: usize) -> usize {
+    if is_mapping(kbm, line, at) {
+        return frozen::later(line, at, 7);
+    }
+    line.len()
+}
+
+// Where the field after this refusal starts; the line's end where another stands there.
+pub fn after_refusal(refusal: Refusal, line: &[u8], at: usize) -> usize {
+    if frozen::is_refusal(refusal, line, at) {
+        return frozen::later(line, at, 2);
+    }
+    line.len()
+}
+
+// Where the field after this size starts; the line's end where another stands there.
+pub fn after_size(size: usize, line: &[u8], at: usize) -> usize {
+    if frozen::is_size(size, line, at) {
+        return frozen::next(line, at);
+    }
+    line.len()
+}

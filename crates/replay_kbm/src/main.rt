@@ -1,0 +1,294 @@
+// Replays frozen answers on mappings (the crate `frozen` says how a line is written): writes how many are the same and how many
+// differ. The list is made by `oracle freeze`.
+//
+// A mapping is seven fields: count, start, end, reference key, pitch, offset, formal octave. A table is the number of its places
+// and each of them. An answer ends with what every lent place or byte is after the call.
+use frozen::Counts;
+use frozen::Size;
+use kbm::DegreeAnswer;
+use kbm::KbmAnswer;
+use kbm::KbmRoot;
+use kbm::RootAnswer;
+use kbm::builder::BuilderAnswer;
+use kbm::builder::KbmBuilder;
+use kbm::builder::Octave;
+use kbm_write::SizeAnswer;
+use key::PianoKey;
+use libc::STDIN_FILENO;
+use libc::STDOUT_FILENO;
+use numeral::integer::I16;
+use numeral::integer::I32;
+use pitch::Pitch;
+
+mod fields;
+
+use crate::fields::Mapping;
+use crate::fields::Place;
+use crate::fields::Root;
+
+// What a table holds before a call, and what lent bytes are.
+const PATTERN: i32 = 1515870810;
+const BYTE: u8 = 238;
+
+// `degree TABLE MAPPING KEY`: the degree, or a refusal.
+fn is_same_degree(line: &[u8], at: usize) -> bool {
+    let mut map = [PATTERN; 16];
+    let Place::Is { places, after } = fields::read_table(line, at, &mut map) else {
+        return false;
+    };
+    let Mapping::Is(kbm) = fields::read_mapping(line, after) else {
+        return false;
+    };
+    let key = frozen::later(line, after, 7);
+    let I32::Is(number) = numeral::integer::read_i32(frozen::field(line, key)) else {
+        return false;
+    };
+    let answer = frozen::next(line, key);
+    if 16 < places {
+        return false;
+    }
+    match kbm::scale_degree_of(kbm, &map[..places], PianoKey(number)) {
+        DegreeAnswer::Is(degree) => {
+            frozen::is_last(frozen::is_i32(degree.0, line, answer), line, answer)
+        }
+        DegreeAnswer::Refused(refusal) => frozen::is_refused(refusal, line, answer),
+    }
+}
+
+// `read TEXT ROOM`: the mapping or a refusal, then the table.
+fn is_same_read(line: &[u8], at: usize) -> bool {
+    let mut text = [0; 512];
+    let Size::Is(length) = frozen::unhex(line, at, &mut text) else {
+        return false;
+    };
+    let size = frozen::next(line, at);
+    let Size::Is(room) = frozen::size_of(line, size) else {
+        return false;
+    };
+    let answer = frozen::next(line, size);
+    let mut map = [PATTERN; 16];
+    if room <= 16 {
+        if length <= 512 {
+            let after = match kbm_read::read_kbm(&text[..length], &mut map[..room]) {
+                KbmAnswer::Is(kbm) => fields::after_mapping(kbm, line, answer),
+                KbmAnswer::Refused(refusal) => fields::after_refusal(refusal, line, answer),
+            };
+            return fields::is_table(&map, room, line, after);
+        }
+    }
+    false
+}
+
+// `export TABLE MAPPING ROOM`: the size or a refusal, then the lent bytes.
+fn is_same_export(line: &[u8], at: usize) -> bool {
+    let mut map = [PATTERN; 16];
+    let Place::Is { places, after } = fields::read_table(line, at, &mut map) else {
+        return false;
+    };
+    let Mapping::Is(kbm) = fields::read_mapping(line, after) else {
+        return false;
+    };
+    let size = frozen::later(line, after, 7);
+    let Size::Is(room) = frozen::size_of(line, size) else {
+        return false;
+    };
+    let answer = frozen::next(line, size);
+    let mut out = [BYTE; 512];
+    if 512 < room {
+        return false;
+    }
+    if 16 < places {
+        return false;
+    }
+    let last = match kbm_write::export_kbm(kbm, &map[..places], &mut out[..room]) {
+        SizeAnswer::Is(written) => fields::after_size(written, line, answer),
+        SizeAnswer::Refused(refusal) => fields::after_refusal(refusal, line, answer),
+    };
+    frozen::is_last(frozen::is_hex(&out[..room], line, last), line, last)
+}
+
+// `root REFERENCE PITCH OFFSET`: `usable`, or a refusal.
+fn is_same_root(line: &[u8], at: usize) -> bool {
+    let Root::Is(root) = fields::read_root(line, at) else {
+        return false;
+    };
+    let answer = frozen::later(line, at, 3);
+    match KbmRoot::new(root.reference, root.pitch, root.offset) {
+        RootAnswer::Is(_) => {
+            frozen::is_last(check::same(frozen::field(line, answer), b"usable"), line, answer)
+        }
+        RootAnswer::Refused(refusal) => frozen::is_refused(refusal, line, answer),
+    }
+}
+
+// One push of a field, `x` or a degree.
+fn pushed(builder: KbmBuilder, map: &mut [i32], field: &[u8]) -> BuilderAnswer {
+    match numeral::integer::read_i16(field) {
+        I16::Is(degree) => builder.push_mapped_key(map, degree),
+        I16::IsNot => builder.push_unmapped_key(map),
+    }
+}
+
+// Where the answers of a push go on: the new count, or a refusal.
+fn after_push(answer: BuilderAnswer, line: &[u8], at: usize) -> usize {
+    match answer {
+        BuilderAnswer::Is(builder) => fields::after_size(builder.count, line, at),
+        BuilderAnswer::Refused(refusal) => fields::after_refusal(refusal, line, at),
+    }
+}
+
+// A builder after a push, or as it was.
+fn kept(answer: BuilderAnswer, old: KbmBuilder) -> KbmBuilder {
+    match answer {
+        BuilderAnswer::Is(builder) => builder,
+        BuilderAnswer::Refused(_) => old,
+    }
+}
+
+struct Done {
+    builder: KbmBuilder,
+    answer: usize,
+}
+
+// All pushes of a line, each beside its answer: the builder after them, and where the next answer stands.
+fn run(first: KbmBuilder, map: &mut [i32], pushes: usize, line: &[u8], from: usize, answers: usize) -> Done {
+    let mut builder = first;
+    let mut at = from;
+    let mut answer = answers;
+    let mut k = 0;
+    while k < pushes {
+        let said = pushed(builder, map, frozen::field(line, at));
+        answer = after_push(said, line, answer);
+        builder = kept(said, builder);
+        at = frozen::next(line, at);
+        k += 1;
+    }
+    Done { builder, answer }
+}
+
+// A builder with the formal octave of a field; with none for `-`.
+fn with_octave(builder: KbmBuilder, field: &[u8]) -> KbmBuilder {
+    match numeral::integer::read_i16(field) {
+        I16::Is(octave) => builder.formal_octave(octave),
+        I16::IsNot => builder,
+    }
+}
+
+// Where the answers go on after the pushes and the build.
+fn after_build(builder: KbmBuilder, map: &mut [i32], line: &[u8], at: usize) -> usize {
+    let Size::Is(pushes) = frozen::size_of(line, at) else {
+        return line.len();
+    };
+    let from = frozen::next(line, at);
+    let done = run(builder, map, pushes, line, from, frozen::later(line, from, pushes));
+    let last = done.builder;
+    match last.build(map) {
+        KbmAnswer::Is(kbm) => fields::after_mapping(kbm, line, done.answer),
+        KbmAnswer::Refused(refusal) => fields::after_refusal(refusal, line, done.answer),
+    }
+}
+
+// `build ROOM REFERENCE PITCH OFFSET START END OCTAVE PUSHES ..`: the answer of each push, the mapping or a refusal, then the table.
+fn is_same_build(line: &[u8], at: usize) -> bool {
+    let Size::Is(room) = frozen::size_of(line, at) else {
+        return false;
+    };
+    let Root::Is(root) = fields::read_root(line, frozen::later(line, at, 1)) else {
+        return false;
+    };
+    let I32::Is(start) = numeral::integer::read_i32(frozen::field(line, frozen::later(line, at, 4))) else {
+        return false;
+    };
+    let I32::Is(end) = numeral::integer::read_i32(frozen::field(line, frozen::later(line, at, 5))) else {
+        return false;
+    };
+    let mut map = [PATTERN; 16];
+    if 16 < room {
+        return false;
+    }
+    let BuilderAnswer::Is(new) = KbmBuilder::new(root, &map[..room]) else {
+        return false;
+    };
+    let ranged = new.range(PianoKey(start), PianoKey(end));
+    let builder = with_octave(ranged, frozen::field(line, frozen::later(line, at, 6)));
+    let after = after_build(builder, &mut map[..room], line, frozen::later(line, at, 7));
+    fields::is_table(&map, room, line, after)
+}
+
+// `push TABLE ROOM COUNT DEGREE` on a state that need not be the table's: the new count or a refusal, then the table.
+fn is_same_push(line: &[u8], at: usize) -> bool {
+    let mut map = [PATTERN; 16];
+    let Place::Is { places, after } = fields::read_table(line, at, &mut map) else {
+        return false;
+    };
+    let Size::Is(room) = frozen::size_of(line, after) else {
+        return false;
+    };
+    let Size::Is(count) = frozen::size_of(line, frozen::later(line, after, 1)) else {
+        return false;
+    };
+    let degree = frozen::field(line, frozen::later(line, after, 2));
+    let root = KbmRoot { reference: PianoKey(0), pitch: Pitch(440.0), offset: 0 };
+    let builder = KbmBuilder { root, start: PianoKey(0), end: PianoKey(128), octave: Octave::Missing, room, count };
+    if places <= 16 {
+        let said = pushed(builder, &mut map[..places], degree);
+        let last = after_push(said, line, frozen::later(line, after, 3));
+        return fields::is_table(&map, places, line, last);
+    }
+    false
+}
+
+// Whether a call gives the answer of its line.
+fn is_same(line: &[u8]) -> bool {
+    let name = frozen::field(line, frozen::next(line, 0));
+    let at = frozen::later(line, 0, 2);
+    if check::same(name, b"degree") {
+        return is_same_degree(line, at);
+    }
+    if check::same(name, b"read") {
+        return is_same_read(line, at);
+    }
+    if check::same(name, b"export") {
+        return is_same_export(line, at);
+    }
+    if check::same(name, b"root") {
+        return is_same_root(line, at);
+    }
+    if check::same(name, b"push") {
+        return is_same_push(line, at);
+    }
+    if check::same(name, b"build") {
+        return is_same_build(line, at);
+    }
+    false
+}
+
+// The counts of all lines.
+fn counted_all(list: &[u8]) -> Counts {
+    let mut counts = Counts { same: 0, differ: 0 };
+    let mut at: usize = 0;
+    while at < list.len() {
+        let line = frozen::line(list, at);
+        if frozen::is_who(line) {
+            counts = frozen::counted(counts, is_same(line));
+        } else {
+            counts = frozen::counted(counts, false);
+        }
+        let following = frozen::following(list, at);
+        if following <= at {
+            return frozen::counted(counts, false);
+        }
+        at = following;
+    }
+    counts
+}
+
+fn main() {
+    let mut list = io::large_buffer();
+    let n = io::read_full(STDIN_FILENO, &mut list);
+    let counts = counted_all(&list[..n]);
+    io::print_decimal(STDOUT_FILENO, counts.same);
+    io::write_all(STDOUT_FILENO, b" same, ");
+    io::print_decimal(STDOUT_FILENO, counts.differ);
+    io::write_all(STDOUT_FILENO, b" differ\n");
+}
