@@ -5,8 +5,8 @@
 // and L, `rules` for a refusal that the Rust lacks. A float is 16 hex digits of its bits, a text the hex digits of its bytes (`-`
 // for none), a refusal `!NUMBER DETAIL`.
 use base::Refusal;
-use numeral::integer::I32;
-use numeral::integer::U32;
+use integers::I32;
+use integers::U32;
 
 // The most bytes of a text, and the most places of a table, that a line has.
 pub const BYTES: usize = 512;
@@ -184,14 +184,14 @@ pub fn is_float(x: f64, line: &[u8], at: usize) -> bool {
 }
 
 pub fn is_i32(z: i32, line: &[u8], at: usize) -> bool {
-    match numeral::integer::read_i32(field(line, at)) {
+    match integers::read_i32(field(line, at)) {
         I32::Is(n) => z == n,
         I32::IsNot => false,
     }
 }
 
 pub fn is_u32(n: u32, line: &[u8], at: usize) -> bool {
-    match numeral::integer::read_u32(field(line, at)) {
+    match integers::read_u32(field(line, at)) {
         U32::Is(m) => n == m,
         U32::IsNot => false,
     }
@@ -206,7 +206,7 @@ pub fn is_size(n: usize, line: &[u8], at: usize) -> bool {
 
 // A size of a field.
 pub fn size_of(line: &[u8], at: usize) -> Size {
-    match numeral::integer::read_u32(field(line, at)) {
+    match integers::read_u32(field(line, at)) {
         U32::Is(n) => Size::Is(n as usize),
         U32::IsNot => Size::IsNot,
     }
@@ -219,7 +219,7 @@ pub fn is_refusal(refusal: Refusal, line: &[u8], at: usize) -> bool {
         return false;
     }
     if s[0] == b'!' {
-        return match numeral::integer::read_u32(&s[1..]) {
+        return match integers::read_u32(&s[1..]) {
             U32::Is(number) => {
                 if number == refusal.number {
                     return is_size(refusal.detail, line, next(line, at));

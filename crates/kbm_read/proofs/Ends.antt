@@ -15,7 +15,7 @@ use Rattle.base.proofs.Said.{same-value}
 use Rattle.base.proofs.Pick.{true-not-false}
 use Rattle.kbm.specs.declared.Entry.{Entry}
 use Rattle.kbm.specs.declared.Kbm.{Kbm}
-use Rattle.numeral.specs.IntegerText.{IntText}
+use Rattle.integers.specs.IntegerText.{IntText}
 use Rattle.text.specs.Reading.{Meaning, invalid, dropped, content}
 use Rattle.kbm_read.specs.Language.{Required, Values, GiveAll, Entries, Tokens, Begins, required, sizeOf, blanks, added, WrongEnd}
 use Rattle.kbm_read.specs.Reader.{givenFrom, mappingOf}

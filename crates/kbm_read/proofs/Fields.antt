@@ -16,16 +16,16 @@ use Rattle.base.specs.Said.{Said, gives, refuses, pick, andThen}
 use Rattle.base.proofs.Pick.{true-not-false}
 use Rattle.base.proofs.Said.{same-value}
 use Rattle.floats.specs.Ranges.{inPitch}
-use Rattle.numeral.proofs.DecimalLanguage.{gives-sound, gives-complete, leaves-sound, leaves-complete, refuses-sound, refuses-complete}
-use Rattle.numeral.proofs.IntegerLanguage.{sound, complete}
-use Rattle.numeral.proofs.IntegerTheorems.{refused}
-use Rattle.numeral.specs.DecimalAnswers.{saysDecimal}
-use Rattle.numeral.specs.DecimalScan.{readDecimal}
-use Rattle.numeral.specs.DecimalText.{DecimalText}
-use Rattle.numeral.specs.Integer.{Int, value, none, readInt}
-use Rattle.numeral.specs.IntegerText.{IntText}
-use Rattle.numeral.specs.declared.decimal.DecimalAnswer.{DecimalAnswer}
-use Rattle.numeral.specs.declared.decimal.DecimalAnswer.the-variants as decimal
+use Rattle.decimals.proofs.Language.{gives-sound, gives-complete, leaves-sound, leaves-complete, refuses-sound, refuses-complete}
+use Rattle.integers.proofs.Language.{sound, complete}
+use Rattle.integers.proofs.Theorems.{refused}
+use Rattle.decimals.specs.Answers.{saysDecimal}
+use Rattle.decimals.specs.DecimalScan.{readDecimal}
+use Rattle.decimals.specs.DecimalText.{DecimalText}
+use Rattle.integers.specs.Integer.{Int, value, none, readInt}
+use Rattle.integers.specs.IntegerText.{IntText}
+use Rattle.decimals.specs.declared.DecimalAnswer.{DecimalAnswer}
+use Rattle.decimals.specs.declared.DecimalAnswer.the-variants as decimal
 use Rattle.kbm_read.specs.Language.{Required, Value, Gives, NoInteger, Wrong}
 use Rattle.kbm_read.specs.Reader.{intAt}
 use Rattle.kbm_read.proofs.Walks.{no-value}

@@ -15,9 +15,9 @@ use Rattle.base.proofs.Pick.{true-not-false}
 use Rattle.base.proofs.Said.{same-value}
 use Rattle.kbm.specs.declared.Entry.{Entry}
 use Rattle.kbm.specs.declared.Entry.the-variants.{Mapped, Unmapped}
-use Rattle.numeral.proofs.IntegerLanguage.{sound, complete}
-use Rattle.numeral.specs.Integer.{Int, value, none, readInt}
-use Rattle.numeral.specs.IntegerText.{IntText}
+use Rattle.integers.proofs.Language.{sound, complete}
+use Rattle.integers.specs.Integer.{Int, value, none, readInt}
+use Rattle.integers.specs.IntegerText.{IntText}
 use Rattle.text.specs.Reading.{Meaning, invalid, dropped, content}
 use Rattle.kbm_read.specs.Language.{Required, Value, Values, Gives, GiveAll, EntryText, Entries, Tokens}
 use Rattle.kbm_read.specs.Reader.{isCross, degreeIn, entryIn}

@@ -12,11 +12,11 @@ use Rattle.base.specs.Numbers.{not-utf8, line-missing, float-value, keyboard-ma
 use Rattle.base.specs.Said.{Said, gives, refuses, pick, andThen}
 use Rattle.floats.specs.Ranges.{inPitch}
 use Rattle.kbm.specs.declared.Kbm.{Kbm}
-use Rattle.numeral.specs.DecimalAnswers.{saysDecimal}
-use Rattle.numeral.specs.DecimalScan.{readDecimal}
-use Rattle.numeral.specs.Integer.{Int, value, none, readInt}
-use Rattle.numeral.specs.declared.decimal.DecimalAnswer.{DecimalAnswer}
-use Rattle.numeral.specs.declared.decimal.DecimalAnswer.the-variants as decimal
+use Rattle.decimals.specs.Answers.{saysDecimal}
+use Rattle.decimals.specs.DecimalScan.{readDecimal}
+use Rattle.integers.specs.Integer.{Int, value, none, readInt}
+use Rattle.decimals.specs.declared.DecimalAnswer.{DecimalAnswer}
+use Rattle.decimals.specs.declared.DecimalAnswer.the-variants as decimal
 use Rattle.text.specs.Reading.{Meaning, invalid, dropped, content}
 use Rattle.kbm_read.specs.Language.{Required, Value, required}
 use Rattle.kbm_read.specs.Reader.{intAt, goesOn, placed, entryIn, takeDue, takeToken, takeMeaning, whichOf, mappingOf, finished, start, walk}

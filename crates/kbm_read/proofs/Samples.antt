@@ -8,9 +8,9 @@ use Rattle.base.specs.Said.{gives, refuses}
 use Rattle.kbm.specs.declared.Entry.the-variants.{Mapped, Unmapped}
 use Rattle.kbm.specs.declared.Kbm.{Kbm}
 use Rattle.key.specs.Keys.{key}
-use Rattle.numeral.specs.DecimalScan.{spelled, scanOf, readDecimal}
-use Rattle.numeral.specs.DecimalScan as decimals
-use Rattle.numeral.specs.Integer.{scan, magnitudeOf, readSigned}
+use Rattle.decimals.specs.DecimalScan.{spelled, scanOf, readDecimal}
+use Rattle.decimals.specs.DecimalScan as decimals
+use Rattle.integers.specs.Integer.{scan, magnitudeOf, readSigned}
 use Rattle.text.specs.Cut.{lines}
 use Rattle.text.specs.ReadLine.{tokenLength, meaningBy, meanings}
 use Rattle.text.specs.Trim.{widthBy, run}

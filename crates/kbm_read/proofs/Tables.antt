@@ -17,7 +17,7 @@ use Rattle.kbm.specs.Table.{numberOf, numbersOf, isEntry, entryOf, areEntries, 
 use Rattle.kbm.specs.declared.Entry.{Entry}
 use Rattle.kbm.specs.declared.Entry.the-variants.{Mapped}
 use Rattle.kbm.specs.declared.Kbm.{Kbm}
-use Rattle.numeral.specs.IntegerText.{IntText}
+use Rattle.integers.specs.IntegerText.{IntText}
 use Rattle.kbm_read.specs.Language.{EntryText, Entries, blanks, sizeOf}
 use Rattle.kbm_read.specs.Reader.{readOf, entriesIn}
 use Rattle.kbm_read.proofs.Ends.{length-added}

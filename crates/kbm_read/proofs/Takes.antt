@@ -18,14 +18,14 @@ use Rattle.base.proofs.Integers.{mag-sub}
 use Rattle.base.specs.Numbers.{line-missing, keyboard-mapping, unusable, overflow, no-room, too-large, inconsistent-count}
 use Rattle.base.specs.Said.{Said, gives, refuses, andThen}
 use Rattle.floats.specs.Ranges.{inPitch}
-use Rattle.numeral.specs.DecimalScan.{readDecimal}
-use Rattle.numeral.specs.Integer.{Int, readInt, i16Of, i32Of}
-use Rattle.numeral.specs.declared.decimal.DecimalAnswer.{DecimalAnswer}
-use Rattle.numeral.specs.declared.decimal.DecimalAnswer.the-variants as decimal
-use Rattle.numeral.specs.declared.integer.I16.{I16}
-use Rattle.numeral.specs.declared.integer.I32.{I32}
-use Rattle.numeral.specs.declared.integer.I32.the-variants as i32
-use Rattle.numeral.proofs.decimal.DecimalAnswer.{the-type}
+use Rattle.decimals.specs.DecimalScan.{readDecimal}
+use Rattle.integers.specs.Integer.{Int, readInt, i16Of, i32Of}
+use Rattle.decimals.specs.declared.DecimalAnswer.{DecimalAnswer}
+use Rattle.decimals.specs.declared.DecimalAnswer.the-variants as decimal
+use Rattle.integers.specs.declared.I16.{I16}
+use Rattle.integers.specs.declared.I32.{I32}
+use Rattle.integers.specs.declared.I32.the-variants as i32
+use Rattle.decimals.proofs.DecimalAnswer.{the-type}
 use Rattle.text.proofs.Shown.{Within}
 use Rattle.text.specs.ReadLine.{part, shown}
 use Rattle.text.specs.declared.line.LineSays.{LineSays}

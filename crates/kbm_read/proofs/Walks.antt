@@ -12,10 +12,10 @@ use Rattle.base.proofs.Said.{same-value}
 use Rattle.base.specs.Numbers.{unusable, overflow, no-room}
 use Rattle.base.specs.Said.{gives, refuses, pick, andThen}
 use Rattle.floats.specs.Ranges.{inPitch}
-use Rattle.numeral.specs.DecimalScan.{readDecimal}
-use Rattle.numeral.specs.Integer.{Int, value, none, readInt}
-use Rattle.numeral.specs.declared.decimal.DecimalAnswer.{DecimalAnswer}
-use Rattle.numeral.specs.declared.decimal.DecimalAnswer.the-variants as decimal
+use Rattle.decimals.specs.DecimalScan.{readDecimal}
+use Rattle.integers.specs.Integer.{Int, value, none, readInt}
+use Rattle.decimals.specs.declared.DecimalAnswer.{DecimalAnswer}
+use Rattle.decimals.specs.declared.DecimalAnswer.the-variants as decimal
 use Rattle.text.specs.Cut.{lines}
 use Rattle.text.specs.ReadLine.{meanings}
 use Rattle.text.specs.Reading.{Meaning, invalid, dropped, content}

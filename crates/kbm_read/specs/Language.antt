@@ -14,8 +14,8 @@ use Rattle.kbm.specs.declared.Entry.{Entry}
 use Rattle.kbm.specs.declared.Entry.the-variants.{Mapped, Unmapped}
 use Rattle.kbm.specs.declared.Kbm.{Kbm}
 use Rattle.key.specs.Keys.{key}
-use Rattle.numeral.specs.DecimalText.{Form, FloatText, UnsupportedText, DecimalText}
-use Rattle.numeral.specs.IntegerText.{IntText}
+use Rattle.decimals.specs.DecimalText.{Form, FloatText, UnsupportedText, DecimalText}
+use Rattle.integers.specs.IntegerText.{IntText}
 use Rattle.text.specs.Reading.{Meaning, invalid, dropped, content, Says, strict}
 
 -- "Size (u16), first and last key (i32), middle key, reference key (i16), reference pitch (f64, 7), formal octave (i16)"

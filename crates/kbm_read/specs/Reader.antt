@@ -16,11 +16,11 @@ use Rattle.kbm.specs.declared.Entry.{Entry}
 use Rattle.kbm.specs.declared.Entry.the-variants.{Mapped, Unmapped}
 use Rattle.kbm.specs.declared.Kbm.{Kbm}
 use Rattle.key.specs.Keys.{key}
-use Rattle.numeral.specs.DecimalAnswers.{saysDecimal}
-use Rattle.numeral.specs.DecimalScan.{readDecimal}
-use Rattle.numeral.specs.Integer.{Int, value, none, readInt}
-use Rattle.numeral.specs.declared.decimal.DecimalAnswer.{DecimalAnswer}
-use Rattle.numeral.specs.declared.decimal.DecimalAnswer.the-variants as decimal
+use Rattle.decimals.specs.Answers.{saysDecimal}
+use Rattle.decimals.specs.DecimalScan.{readDecimal}
+use Rattle.integers.specs.Integer.{Int, value, none, readInt}
+use Rattle.decimals.specs.declared.DecimalAnswer.{DecimalAnswer}
+use Rattle.decimals.specs.declared.DecimalAnswer.the-variants as decimal
 use Rattle.text.specs.Cut.{lines}
 use Rattle.text.specs.ReadLine.{meanings, strictly}
 use Rattle.text.specs.Reading.{Meaning, invalid, dropped, content}

@@ -2,19 +2,19 @@
 //
 // A first pass goes over the lines and finds the mapping or the first fault; a second, which cannot fail, writes the entries.
 use base::Refusal;
+use decimals::DecimalAnswer;
+use decimals::read_decimal;
+use integers::I16;
+use integers::I32;
+use integers::U16;
+use integers::read_i16;
+use integers::read_i32;
+use integers::read_u16;
 use kbm::Entry;
 use kbm::Kbm;
 use kbm::KbmAnswer;
 use kbm::KbmRoot;
 use key::PianoKey;
-use numeral::decimal::DecimalAnswer;
-use numeral::decimal::read_decimal;
-use numeral::integer::I16;
-use numeral::integer::I32;
-use numeral::integer::U16;
-use numeral::integer::read_i16;
-use numeral::integer::read_i32;
-use numeral::integer::read_u16;
 use pitch::Pitch;
 use text::line::LineSays;
 use text::line::read_line;

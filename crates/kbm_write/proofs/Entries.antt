@@ -6,7 +6,7 @@ use native.Mathlib.Numerals.{add-one}
 use lib.IntN.{ℤ, pos}
 use lib.ListN.{length, drop, getD, length-append}
 use lib.Seq.{sets, drop-cons, drop-length}
-use Rattle.numeral.proofs.PrintTexts.{sets-append}
+use Rattle.printing.proofs.Texts.{sets-append}
 use Rattle.kbm.specs.Table.{entryOf, entriesOf}
 use Rattle.kbm_write.specs.Export.{line, linesText, entryText, entryTexts, tableText}
 

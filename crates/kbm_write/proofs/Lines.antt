@@ -15,10 +15,10 @@ use borrow.Author.Tests.{le-leb}
 use Rattle.floats.specs.Ranges.{inPitch}
 use Rattle.floats.specs.Units.{negative}
 use Rattle.floats.proofs.Ranges.{Within, within-fin, pitch-says}
-use Rattle.numeral.specs.PrintText.{limited, scaledOf, textOf, wholeText, integerText, widthOf, room, placed, written}
-use Rattle.numeral.specs.declared.print.Placed.{Placed}
-use Rattle.numeral.specs.declared.print.Placed.the-variants.{At, Full}
-use Rattle.numeral.proofs.PrintTexts.{sets-append, parts-length, width-le, sign-le, point-le}
+use Rattle.printing.specs.PrintText.{limited, scaledOf, textOf, wholeText, integerText, widthOf, room, placed, written}
+use Rattle.printing.specs.declared.Placed.{Placed}
+use Rattle.printing.specs.declared.Placed.the-variants.{At, Full}
+use Rattle.printing.proofs.Texts.{sets-append, parts-length, width-le, sign-le, point-le}
 use Rattle.kbm.specs.Table.{isUnmapped, entryOf}
 use Rattle.kbm.specs.declared.Entry.{Entry}
 use Rattle.kbm.specs.declared.Entry.the-variants.{Mapped, Unmapped}

@@ -18,15 +18,15 @@ use Rattle.floats.specs.Ranges.{inPitch}
 use Rattle.floats.specs.Units.{negative}
 use Rattle.floats.proofs.Ranges.{Within, within-fin, pitch-says}
 use Rattle.text.specs.Characters.{Each}
-use Rattle.numeral.specs.Digits.{decimal}
-use Rattle.numeral.specs.DecimalText.{DecimalText}
-use Rattle.numeral.specs.IntegerText.{Digits, IntText}
-use Rattle.numeral.specs.PrintForm.{FixedText}
-use Rattle.numeral.specs.PrintText.{scaledOf, digitsOf, widthOf, signText, pointText, partsText, integerText, wholeText, textOf}
-use Rattle.numeral.proofs.DecimalScans.{all-append}
-use Rattle.numeral.proofs.IntegerTheorems.{one-value}
-use Rattle.numeral.proofs.PrintForm.{fixed-text, printed, reads-back}
-use Rattle.numeral.proofs.PrintTexts.{length-digits}
+use Rattle.integers.specs.Digits.{decimal}
+use Rattle.decimals.specs.DecimalText.{DecimalText}
+use Rattle.integers.specs.IntegerText.{Digits, IntText}
+use Rattle.printing.specs.PrintForm.{FixedText}
+use Rattle.printing.specs.PrintText.{scaledOf, digitsOf, widthOf, signText, pointText, partsText, integerText, wholeText, textOf}
+use Rattle.decimals.proofs.Scans.{all-append}
+use Rattle.integers.proofs.Theorems.{one-value}
+use Rattle.printing.proofs.Form.{fixed-text, printed, reads-back}
+use Rattle.printing.proofs.Texts.{length-digits}
 use Rattle.kbm.specs.declared.Entry.{Entry}
 use Rattle.kbm.specs.declared.Entry.the-variants.{Mapped, Unmapped}
 use Rattle.kbm_write.specs.Again.{nearestThree}

@@ -18,9 +18,9 @@ use Rattle.base.proofs.Said.{same-value}
 use Rattle.floats.specs.Ranges.{inPitch}
 use Rattle.floats.specs.Units.{negative}
 use Rattle.floats.proofs.Ranges.{Within, within-fin, pitch-says}
-use Rattle.numeral.specs.DecimalText as Decimal
-use Rattle.numeral.specs.PrintText.{scaledOf, textOf, wholeText, signText}
-use Rattle.numeral.proofs.PrintForm.{printed}
+use Rattle.decimals.specs.DecimalText as Decimal
+use Rattle.printing.specs.PrintText.{scaledOf, textOf, wholeText, signText}
+use Rattle.printing.proofs.Form.{printed}
 use Rattle.kbm.specs.Degree.{degreeOfEntry, degreeAt}
 use Rattle.kbm.specs.declared.Entry.{Entry}
 use Rattle.kbm.specs.declared.Entry.the-variants.{Mapped, Unmapped}

@@ -5,7 +5,7 @@ use mathlib.Core.Bool.{true}
 use Prim.Native.Nat.{_^_}
 use lib.Ieee.{Float, round, binary64}
 use Rattle.floats.specs.Units.{negative}
-use Rattle.numeral.specs.PrintText.{scaledOf}
+use Rattle.printing.specs.PrintText.{scaledOf}
 use Rattle.kbm.specs.Table.{inI16}
 use Rattle.kbm.specs.declared.Kbm.{Kbm}
 use Rattle.kbm_write.specs.Export.{middleOf}

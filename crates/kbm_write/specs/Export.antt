@@ -11,7 +11,7 @@ use Rattle.base.specs.Integers.{held}
 use Rattle.base.specs.Numbers.{unusable, no-room}
 use Rattle.base.specs.Said.{Said, gives, refuses, pick, andThen}
 use Rattle.floats.specs.Ranges.{inPitch}
-use Rattle.numeral.specs.PrintText.{textOf, wholeText}
+use Rattle.printing.specs.PrintText.{textOf, wholeText}
 use Rattle.kbm.specs.Table.{isTable, entriesOf, tableOf}
 use Rattle.kbm.specs.declared.Entry.{Entry}
 use Rattle.kbm.specs.declared.Entry.the-variants.{Mapped, Unmapped}

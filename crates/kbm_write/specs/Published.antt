@@ -9,9 +9,9 @@ use lib.ListN.{length, getD}
 use Rattle.base.specs.Integers.{Divides}
 use Rattle.text.specs.Characters.{Each}
 use Rattle.text.specs.Lines.{Lines}
-use Rattle.numeral.specs.DecimalText as Decimal
-use Rattle.numeral.specs.Digits.{decimal}
-use Rattle.numeral.specs.IntegerText.{Digits}
+use Rattle.decimals.specs.DecimalText as Decimal
+use Rattle.integers.specs.Digits.{decimal}
+use Rattle.integers.specs.IntegerText.{Digits}
 use Rattle.kbm.specs.declared.Entry.{Entry}
 use Rattle.kbm.specs.declared.Entry.the-variants.{Mapped, Unmapped}
 
@@ -52,7 +52,7 @@ pub data Whole (t : List ℕ) (z : ℤ) : Type 0 where
 pub record Hertz (t : List ℕ) (n k : ℕ) : Type 0 where
   pub whole : List ℕ
   pub part : List ℕ
-  pub digits : Decimal.Digits t whole part
+  pub digits : Decimal.DottedDigits t whole part
   pub value : n ≡ decimal (whole ++ part)
   pub places : k ≡ length part
 

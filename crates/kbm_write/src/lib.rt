@@ -2,7 +2,7 @@
 use base::Refusal;
 use kbm::Kbm;
 use math::I32Answer;
-use numeral::print::Placed;
+use printing::Placed;
 ghost use mathlib.Core.Path.{_≡_};
 ghost use mathlib.Core.Bool.{false, true};
 ghost use mathlib.Core.List.{_++_};
@@ -12,7 +12,7 @@ ghost use lib.ListN.{length};
 ghost use lib.Seq.{sets};
 ghost use Rattle.base.specs.Tables.{after};
 ghost use Rattle.floats.specs.Ranges.{inPitch};
-ghost use Rattle.numeral.specs.PrintText.{textOf, wholeText};
+ghost use Rattle.printing.specs.PrintText.{textOf, wholeText};
 ghost use Rattle.kbm.specs.Table.{isTable, entryOf, entriesOf};
 ghost use Rattle.kbm_write.specs.Answers.{saysSize};
 ghost use Rattle.kbm_write.specs.Export.{line, linesText, keyTexts, soundTexts, tableText, mappingText, entryText, entryTexts, fitted, heldText, exportOf, sizeOf};
@@ -44,7 +44,7 @@ fn write_line(z: i32, out: &mut [u8], at: usize) -> usize
     ensures { λ r. ⌜ r ≡ at + length (line (wholeText z)) ⌝ }
     ensures { λ r. ⌜ now (out .exit) ≡ sets (now (out .entry)) at (line (wholeText z)) ⌝ }
 {
-    let Placed::At(next) = numeral::print::write_i32(z, out, at) else {
+    let Placed::At(next) = printing::write_i32(z, out, at) else {
         return at;
     };
     out[next] = b'\n';
@@ -57,7 +57,7 @@ fn write_pitch(hz: f64, out: &mut [u8], at: usize) -> usize
     ensures { λ r. ⌜ r ≡ at + length (line (textOf 3 false hz)) ⌝ }
     ensures { λ r. ⌜ now (out .exit) ≡ sets (now (out .entry)) at (line (textOf 3 false hz)) ⌝ }
 {
-    let Placed::At(next) = numeral::print::write_fixed(hz, 3, false, out, at) else {
+    let Placed::At(next) = printing::write_fixed(hz, 3, false, out, at) else {
         return at;
     };
     out[next] = b'\n';

@@ -1,5 +1,5 @@
 // The program kbmcopy: reads a mapping from standard input and prints its export, or one line `refused NUMBER DETAIL`. Document 01,
-// "Writing". What it prints is said by `kbm_copy::print_copy`; this reads and writes.
+// "Writing". What it prints is said by `copying::print_copy`; this reads and writes.
 use libc::STDIN_FILENO;
 use libc::STDOUT_FILENO;
 
@@ -18,6 +18,6 @@ fn main() {
     let mut map = [0i32; PLACES];
     let mut out = [0u8; OUTPUT];
     let n = io::read_full(STDIN_FILENO, &mut text);
-    let m = kbm_copy::print_copy(&text[..n], &mut map, &mut out);
+    let m = copying::print_copy(&text[..n], &mut map, &mut out);
     io::write_all(STDOUT_FILENO, &out[..m]);
 }

@@ -1,14 +1,14 @@
 // Lines, tokens and numerals, for the comparison with Rust's std. The results are compared, not promised.
-use numeral::decimal::DecimalAnswer;
-use numeral::integer::I16;
-use numeral::integer::I32;
-use numeral::integer::U16;
-use numeral::integer::U32;
-use numeral::print::Placed;
+use decimals::DecimalAnswer;
+use integers::I16;
+use integers::I32;
+use integers::U16;
+use integers::U32;
+use printing::Placed;
 use text::line::LineSays;
 ghost use Prim.Native.Nat.{_≤_};
 ghost use lib.Dec.{T};
-ghost use Rattle.numeral.specs.PrintText.{limited};
+ghost use Rattle.printing.specs.PrintText.{limited};
 
 // The end of the line that starts at a place; the start of the next is stored.
 #[no_mangle]
@@ -47,7 +47,7 @@ pub extern "C" fn probe_read_line(
 
 #[no_mangle]
 pub extern "C" fn probe_read_u16(s: &[u8], value: &mut u16) -> bool {
-    match numeral::integer::read_u16(s) {
+    match integers::read_u16(s) {
         U16::Is(n) => {
             *value = n;
             true
@@ -58,7 +58,7 @@ pub extern "C" fn probe_read_u16(s: &[u8], value: &mut u16) -> bool {
 
 #[no_mangle]
 pub extern "C" fn probe_read_u32(s: &[u8], value: &mut u32) -> bool {
-    match numeral::integer::read_u32(s) {
+    match integers::read_u32(s) {
         U32::Is(n) => {
             *value = n;
             true
@@ -69,7 +69,7 @@ pub extern "C" fn probe_read_u32(s: &[u8], value: &mut u32) -> bool {
 
 #[no_mangle]
 pub extern "C" fn probe_read_i16(s: &[u8], value: &mut i16) -> bool {
-    match numeral::integer::read_i16(s) {
+    match integers::read_i16(s) {
         I16::Is(n) => {
             *value = n;
             true
@@ -80,7 +80,7 @@ pub extern "C" fn probe_read_i16(s: &[u8], value: &mut i16) -> bool {
 
 #[no_mangle]
 pub extern "C" fn probe_read_i32(s: &[u8], value: &mut i32) -> bool {
-    match numeral::integer::read_i32(s) {
+    match integers::read_i32(s) {
         I32::Is(n) => {
             *value = n;
             true
@@ -92,7 +92,7 @@ pub extern "C" fn probe_read_i32(s: &[u8], value: &mut i32) -> bool {
 // 0 no decimal, 1 unsupported, 2 a decimal, which is stored.
 #[no_mangle]
 pub extern "C" fn probe_read_decimal(s: &[u8], value: &mut f64) -> u32 {
-    match numeral::decimal::read_decimal(s) {
+    match decimals::read_decimal(s) {
         DecimalAnswer::Is(x) => {
             *value = x;
             2
@@ -114,7 +114,7 @@ pub extern "C" fn probe_write_fixed(
 ) -> bool
     requires { ⌜ T (limited x) × (decimals ≤ 4) ⌝ }
 {
-    match numeral::print::write_fixed(x, decimals, plus, out, at) {
+    match printing::write_fixed(x, decimals, plus, out, at) {
         Placed::At(place) => {
             *next = place;
             true
@@ -125,7 +125,7 @@ pub extern "C" fn probe_write_fixed(
 
 #[no_mangle]
 pub extern "C" fn probe_write_i32(z: i32, out: &mut [u8], at: usize, next: &mut usize) -> bool {
-    match numeral::print::write_i32(z, out, at) {
+    match printing::write_i32(z, out, at) {
         Placed::At(place) => {
             *next = place;
             true
@@ -136,7 +136,7 @@ pub extern "C" fn probe_write_i32(z: i32, out: &mut [u8], at: usize, next: &mut 
 
 #[no_mangle]
 pub extern "C" fn probe_write_u32(n: u32, out: &mut [u8], at: usize, next: &mut usize) -> bool {
-    match numeral::print::write_u32(n, out, at) {
+    match printing::write_u32(n, out, at) {
         Placed::At(place) => {
             *next = place;
             true

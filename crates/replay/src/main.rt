@@ -9,9 +9,9 @@ use libc::STDOUT_FILENO;
 use math::DivisionAnswer;
 use math::I32Answer;
 use math::U32Answer;
-use numeral::integer::I32;
-use numeral::integer::U16;
-use numeral::integer::U32;
+use integers::I32;
+use integers::U16;
+use integers::U32;
 
 fn is_i32(answer: I32Answer, line: &[u8], at: usize) -> bool {
     match answer {
@@ -58,7 +58,7 @@ fn is_midi(answer: MidiAnswer, line: &[u8], at: usize) -> bool {
 
 // Whether a division of a by the number at a place gives the answer of its line.
 fn is_same_division(name: &[u8], a: i32, line: &[u8], at: usize) -> bool {
-    let U32::Is(b) = numeral::integer::read_u32(frozen::field(line, at)) else {
+    let U32::Is(b) = integers::read_u32(frozen::field(line, at)) else {
         return false;
     };
     let answer = frozen::next(line, at);
@@ -76,7 +76,7 @@ fn is_same_division(name: &[u8], a: i32, line: &[u8], at: usize) -> bool {
 
 // Whether a call of the key a and the number at a place gives the answer of its line.
 fn is_same_key(name: &[u8], a: i32, line: &[u8], at: usize) -> bool {
-    let I32::Is(b) = numeral::integer::read_i32(frozen::field(line, at)) else {
+    let I32::Is(b) = integers::read_i32(frozen::field(line, at)) else {
         return false;
     };
     let answer = frozen::next(line, at);
@@ -87,7 +87,7 @@ fn is_same_key(name: &[u8], a: i32, line: &[u8], at: usize) -> bool {
 }
 
 fn is_same_odd(line: &[u8], at: usize) -> bool {
-    let U16::Is(n) = numeral::integer::read_u16(frozen::field(line, at)) else {
+    let U16::Is(n) = integers::read_u16(frozen::field(line, at)) else {
         return false;
     };
     let answer = frozen::next(line, at);
@@ -102,7 +102,7 @@ fn is_same(line: &[u8]) -> bool {
     if check::same(name, b"odd_factors_u16") {
         return is_same_odd(line, at);
     }
-    let I32::Is(a) = numeral::integer::read_i32(frozen::field(line, at)) else {
+    let I32::Is(a) = integers::read_i32(frozen::field(line, at)) else {
         return false;
     };
     let after = frozen::next(line, at);

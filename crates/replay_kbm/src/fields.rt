@@ -6,9 +6,9 @@ use frozen::Size;
 use kbm::Kbm;
 use kbm::KbmRoot;
 use key::PianoKey;
-use numeral::integer::I16;
-use numeral::integer::I32;
-use numeral::integer::U16;
+use integers::I16;
+use integers::I32;
+use integers::U16;
 use pitch::Pitch;
 
 pub enum Mapping {
@@ -47,7 +47,7 @@ pub fn read_table(line: &[u8], at: usize, map: &mut [i32; 16]) -> Place {
     let mut after = frozen::next(line, at);
     let mut k = 0;
     while k < places {
-        let I32::Is(z) = numeral::integer::read_i32(frozen::field(line, after)) else {
+        let I32::Is(z) = integers::read_i32(frozen::field(line, after)) else {
             return Place::IsNot;
         };
         put(map, k, z);
@@ -77,13 +77,13 @@ pub fn is_table(map: &[i32; 16], places: usize, line: &[u8], at: usize) -> bool 
 
 // The root of three fields: reference key, pitch, offset.
 pub fn read_root(line: &[u8], at: usize) -> Root {
-    let I32::Is(reference) = numeral::integer::read_i32(frozen::field(line, at)) else {
+    let I32::Is(reference) = integers::read_i32(frozen::field(line, at)) else {
         return Root::IsNot;
     };
     let Float::Is(hz) = frozen::float_of(frozen::field(line, frozen::later(line, at, 1))) else {
         return Root::IsNot;
     };
-    let I32::Is(offset) = numeral::integer::read_i32(frozen::field(line, frozen::later(line, at, 2))) else {
+    let I32::Is(offset) = integers::read_i32(frozen::field(line, frozen::later(line, at, 2))) else {
         return Root::IsNot;
     };
     Root::Is(KbmRoot {
@@ -95,19 +95,19 @@ pub fn read_root(line: &[u8], at: usize) -> Root {
 
 // The mapping of seven fields.
 pub fn read_mapping(line: &[u8], at: usize) -> Mapping {
-    let U16::Is(count) = numeral::integer::read_u16(frozen::field(line, at)) else {
+    let U16::Is(count) = integers::read_u16(frozen::field(line, at)) else {
         return Mapping::IsNot;
     };
-    let I32::Is(start) = numeral::integer::read_i32(frozen::field(line, frozen::later(line, at, 1))) else {
+    let I32::Is(start) = integers::read_i32(frozen::field(line, frozen::later(line, at, 1))) else {
         return Mapping::IsNot;
     };
-    let I32::Is(end) = numeral::integer::read_i32(frozen::field(line, frozen::later(line, at, 2))) else {
+    let I32::Is(end) = integers::read_i32(frozen::field(line, frozen::later(line, at, 2))) else {
         return Mapping::IsNot;
     };
     let Root::Is(root) = read_root(line, frozen::later(line, at, 3)) else {
         return Mapping::IsNot;
     };
-    let I16::Is(octave) = numeral::integer::read_i16(frozen::field(line, frozen::later(line, at, 6))) else {
+    let I16::Is(octave) = integers::read_i16(frozen::field(line, frozen::later(line, at, 6))) else {
         return Mapping::IsNot;
     };
     Mapping::Is(Kbm {

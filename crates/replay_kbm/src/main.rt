@@ -16,8 +16,8 @@ use kbm_write::SizeAnswer;
 use key::PianoKey;
 use libc::STDIN_FILENO;
 use libc::STDOUT_FILENO;
-use numeral::integer::I16;
-use numeral::integer::I32;
+use integers::I16;
+use integers::I32;
 use pitch::Pitch;
 
 mod fields;
@@ -40,7 +40,7 @@ fn is_same_degree(line: &[u8], at: usize) -> bool {
         return false;
     };
     let key = frozen::later(line, after, 7);
-    let I32::Is(number) = numeral::integer::read_i32(frozen::field(line, key)) else {
+    let I32::Is(number) = integers::read_i32(frozen::field(line, key)) else {
         return false;
     };
     let answer = frozen::next(line, key);
@@ -123,7 +123,7 @@ fn is_same_root(line: &[u8], at: usize) -> bool {
 
 // One push of a field, `x` or a degree.
 fn pushed(builder: KbmBuilder, map: &mut [i32], field: &[u8]) -> BuilderAnswer {
-    match numeral::integer::read_i16(field) {
+    match integers::read_i16(field) {
         I16::Is(degree) => builder.push_mapped_key(map, degree),
         I16::IsNot => builder.push_unmapped_key(map),
     }
@@ -168,7 +168,7 @@ fn run(first: KbmBuilder, map: &mut [i32], pushes: usize, line: &[u8], from: usi
 
 // A builder with the formal octave of a field; with none for `-`.
 fn with_octave(builder: KbmBuilder, field: &[u8]) -> KbmBuilder {
-    match numeral::integer::read_i16(field) {
+    match integers::read_i16(field) {
         I16::Is(octave) => builder.formal_octave(octave),
         I16::IsNot => builder,
     }
@@ -196,10 +196,10 @@ fn is_same_build(line: &[u8], at: usize) -> bool {
     let Root::Is(root) = fields::read_root(line, frozen::later(line, at, 1)) else {
         return false;
     };
-    let I32::Is(start) = numeral::integer::read_i32(frozen::field(line, frozen::later(line, at, 4))) else {
+    let I32::Is(start) = integers::read_i32(frozen::field(line, frozen::later(line, at, 4))) else {
         return false;
     };
-    let I32::Is(end) = numeral::integer::read_i32(frozen::field(line, frozen::later(line, at, 5))) else {
+    let I32::Is(end) = integers::read_i32(frozen::field(line, frozen::later(line, at, 5))) else {
         return false;
     };
     let mut map = [PATTERN; 16];

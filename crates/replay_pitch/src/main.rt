@@ -5,7 +5,7 @@ use frozen::Counts;
 use frozen::Float;
 use libc::STDIN_FILENO;
 use libc::STDOUT_FILENO;
-use numeral::integer::U16;
+use integers::U16;
 use pitch::BoolAnswer;
 use pitch::Order;
 use pitch::OrderAnswer;
@@ -176,7 +176,7 @@ fn is_same_pair(name: &[u8], x: f64, y: f64, line: &[u8], at: usize) -> bool {
 }
 
 fn is_same_nearest(x: f64, line: &[u8], at: usize) -> bool {
-    let U16::Is(limit) = numeral::integer::read_u16(frozen::field(line, at)) else {
+    let U16::Is(limit) = integers::read_u16(frozen::field(line, at)) else {
         return false;
     };
     is_nearest(Ratio(x).nearest_fraction(limit), line, frozen::next(line, at))

@@ -12,7 +12,7 @@ use Rattle.kbm.specs.Degree.{scaleDegreeOf}
 use Rattle.kbm.specs.Samples.{sample, sampleTable}
 use Rattle.key.specs.Keys.{key}
 use Rattle.math.specs.Division.{divisionOf}
-use Rattle.numeral.specs.PrintText.{textOf}
+use Rattle.printing.specs.PrintText.{textOf}
 use Rattle.pitch.specs.declared.Pitch.{Pitch}
 
 -- a decimal with four places, as 0.0625

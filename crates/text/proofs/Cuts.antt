@@ -13,7 +13,9 @@ use borrow.Author.Tests.{eq-eqb, ne-eqb}
 use Rattle.base.specs.Said.{pick}
 use Rattle.base.proofs.Pick.{pick-both, pick-never}
 use Rattle.text.specs.Cut.{lines, cut, isCR, push, len, skip}
+use Rattle.text.specs.Eights.{Passed}
 use Rattle.text.specs.declared.lines.Ends.{Ends}
+use Rattle.text.proofs.Passes.{pass-over}
 
 -- `drop-cons` at the code's `i + 1`
 pub drop-next : (s : List ℕ) (i : ℕ) → i < length s → drop i s ≡ getD s i 0 ∷ drop (i + 1) s
@@ -40,6 +42,12 @@ module _ (s : List ℕ) (i : ℕ) (h : i < length s) where
 
   pub cr-alone : getD s i 0 ≡ 13 → i + 1 < length s → (getD s (i + 1) 0 ≡ 10 → ⊥) → isCR (getD s i 0) (drop (i + 1) s) ≡ false
   cr-alone e g n = rw (e, drop-next s (i + 1) g, ne-eqb _ 10 n)
+
+-- bytes after CR end no line
+pub cut-pass : {s : List ℕ} {high at r : ℕ} → Passed 14 high s at r → cut at (drop at s) ≡ cut r (drop r s)
+cut-pass {s} p =
+    pass-over (λ (k : ℕ). cut k (drop k s)) p
+    (λ k h l u. cut-on s k h (λ e. omega arith) (no-cr s k h (λ e. omega arith)))
 
 pub cut-end : (s : List ℕ) (i : ℕ) → length s ≤ i → record { end = i; next = i } ≡ cut i (drop i s)
 unfolding cut

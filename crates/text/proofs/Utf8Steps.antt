@@ -1,6 +1,6 @@
 -- The laws of the UTF-8 machine, as the code meets them: what a first byte asks, a step inside a character, a turn of the loop.
 -- Assumes nothing.
-use mathlib.Core.Path.{_≡_, refl}
+use mathlib.Core.Path.{_≡_, refl, _∙_}
 use mathlib.Core.List.{List, [], _∷_}
 use mathlib.Core.Bool.{Bool, true, false}
 use Prim.Native.Nat.{ℕ, zero, suc, _+_, _-_, _≤_, _<_}
@@ -13,10 +13,12 @@ use lib.Dec.{leb, eqb}
 use borrow.Author.Tests.{lt-ltb, le-ltb, leb-true, eq-eqb, ne-eqb}
 use Rattle.base.specs.Said.{pick}
 use Rattle.base.proofs.Pick.{pick-both}
-use Rattle.text.specs.Utf8Machine.{state, Entry, lookup, entries, leadOf, stepOf, onward, runOf}
+use Rattle.text.specs.Utf8Machine.{state, start, Entry, lookup, entries, leadOf, stepOf, onward, runOf}
+use Rattle.text.specs.Eights.{Passed}
 use Rattle.text.specs.declared.utf8.State.{State}
 use Rattle.text.specs.declared.utf8.Step.{Step}
 use Rattle.text.specs.declared.utf8.Step.the-variants.{Go, Stop}
+use Rattle.text.proofs.Passes.{pass-over}
 
 -- THE LAW OF AN ENTRY: where the numbers of a table rise, entry n answers from the number before its own on and below its own
 
@@ -88,3 +90,9 @@ run-turn st s i h p q = rw (drop-cons s i 0 h, add-one i, ← p, q)
 pub run-end : (st : State) (s : List ℕ) (i : ℕ) → length s ≤ i → runOf st (drop i s) ≡ eqb (st .need) 0
 unfolding runOf
 run-end st s i h = rw (drop-of-length-le s h)
+
+-- bytes below 128 are characters by themselves
+pub run-pass : {s : List ℕ} {low r : ℕ} → Passed low 127 s 0 r → runOf start s ≡ runOf start (drop r s)
+run-pass {s} p =
+    pass-over (λ (k : ℕ). runOf start (drop k s)) p
+    (λ k h l u. run-turn start s k h refl (step-lead start (getD s k 0) refl ∙ lead-at 0 (getD s k 0) (omega arith) (omega arith)))

@@ -1,7 +1,11 @@
 // The lines of a text. Document 01, "Lines": a line ends at LF or at the end of the text; a CR directly before LF goes with it.
+use crate::eights::pass;
 ghost use mathlib.Core.Path.{_≡_};
 ghost use lib.ListN.{drop};
 ghost use Rattle.text.specs.Cut.{cut};
+
+// The first byte after CR, the last of those that can end a line.
+const AFTER_CR: u8 = 14;
 
 // A line ends before `end`, and the next starts at `next`.
 pub struct Ends {
@@ -13,7 +17,7 @@ pub struct Ends {
 pub fn next_line(text: &[u8], at: usize) -> Ends
     ensures { λ r. ⌜ r ≡ cut at (drop at (now (text .entry))) ⌝ }
 {
-    let mut i = at;
+    let mut i = pass(text, at, AFTER_CR, 255);
     while i < text.len() {
         let b = text[i];
         if b == 10 {

@@ -1,6 +1,10 @@
 // Whether a line is UTF-8. Document 01, "Lines": each line, comment or not, must be UTF-8.
+use crate::eights::pass;
 ghost use mathlib.Core.Path.{_≡_};
 ghost use Rattle.text.specs.Utf8Machine.{leadOf, stepOf, runOf, start};
+
+// The last byte that is a character by itself.
+const ASCII_END: u8 = 127;
 
 // So many bytes of a character are still due, and the next of them lies from `lo` to `hi`.
 pub struct State {
@@ -87,7 +91,7 @@ pub fn is_utf8(s: &[u8]) -> bool
         lo: 128,
         hi: 191,
     };
-    let mut i = 0;
+    let mut i = pass(s, 0, 0, ASCII_END);
     while i < s.len() {
         let Step::Go(t) = advance(st, s[i]) else {
             return false;

@@ -5,7 +5,7 @@ use mathlib.Core.Path.{_∙_}
 use native.Mathlib.Omega.{arith}
 use mir.Facts.{toZ-ofZ}
 use mir.Syntax.{w32}
-use Rattle.numeral.specs.Integer.{i32Of}
+use Rattle.integers.specs.Integer.{i32Of}
 use Rattle.kbm_read.proofs.Takes.{int-step}
 use Rattle.kbm_read.proofs.take_first.Statement.{statement}
 use Rattle.kbm_read.proofs.take_first.Tie as tie

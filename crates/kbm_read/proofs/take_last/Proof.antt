@@ -7,7 +7,7 @@ use lib.IntN.{_+ℤ_, pos}
 use mir.Facts.{toZ-ofZ}
 use mir.Syntax.{w32}
 use mir.Val.{SFits}
-use Rattle.numeral.specs.Integer.{i32Of}
+use Rattle.integers.specs.Integer.{i32Of}
 use Rattle.kbm_read.proofs.Takes.{int-step, next-fits, last-over, last-is}
 use Rattle.kbm_read.proofs.take_last.Statement.{statement}
 use Rattle.kbm_read.proofs.take_last.Tie as tie

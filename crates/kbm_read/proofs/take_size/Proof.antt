@@ -2,7 +2,7 @@
 -- No loop: what the numeral's reader answered goes through the law of a required line.
 use borrow.Author.Needs.{needs}
 use mathlib.Core.Path.{_∙_}
-use Rattle.numeral.specs.Integer.{u16Of}
+use Rattle.integers.specs.Integer.{u16Of}
 use Rattle.kbm_read.proofs.Takes.{int-step}
 use Rattle.kbm_read.proofs.take_size.Statement.{statement}
 use Rattle.kbm_read.proofs.take_size.Tie as tie

@@ -3,7 +3,7 @@
 use native.Mathlib.Omega.{arith}
 use mir.Facts.{toZ-ofZ}
 use mir.Syntax.{w32}
-use Rattle.numeral.specs.PrintText.{wholeText}
+use Rattle.printing.specs.PrintText.{wholeText}
 use Rattle.kbm_write.proofs.Lines.{five-length}
 use borrow.Author.Needs.{needs}
 use Rattle.kbm_write.proofs.keys_length.Statement.{statement}

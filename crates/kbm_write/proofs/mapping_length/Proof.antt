@@ -5,7 +5,7 @@ use native.Mathlib.Omega.{arith}
 use denote.Ref.{now}
 use mir.Facts.{toZ-ofZ}
 use mir.Syntax.{w32}
-use Rattle.numeral.specs.PrintText.{textOf, wholeText}
+use Rattle.printing.specs.PrintText.{textOf, wholeText}
 use Rattle.kbm.specs.Table.{entriesOf}
 use Rattle.kbm_write.specs.Export.{keyTexts, entryTexts}
 use Rattle.kbm_write.proofs.Room.{four-length}

@@ -5,7 +5,7 @@ use denote.Ref.{now}
 use mir.Facts.{toZ-ofZ}
 use mir.Syntax.{w32}
 use borrow.Author.Needs.{needs}
-use Rattle.numeral.specs.PrintText.{wholeText}
+use Rattle.printing.specs.PrintText.{wholeText}
 use Rattle.kbm_write.proofs.Lines.{five-length, five-written}
 use Rattle.kbm_write.proofs.write_keys.Statement.{statement}
 use Rattle.kbm_write.proofs.write_keys.Tie as tie

@@ -6,7 +6,7 @@ use denote.Ref.{now}
 use borrow.Author.Needs.{needs}
 use mir.Facts.{toZ-ofZ}
 use mir.Syntax.{w32}
-use Rattle.numeral.specs.PrintText.{wholeText, placed, written}
+use Rattle.printing.specs.PrintText.{wholeText, placed, written}
 use Rattle.kbm_write.proofs.Lines.{not-full, line-end, line-fits, line-written}
 use Rattle.kbm_write.proofs.write_line.Statement.{statement}
 use Rattle.kbm_write.proofs.write_line.Tie as tie

@@ -10,8 +10,8 @@ use lib.ListN.{length}
 use lib.Seq.{sets}
 use mir.Facts.{toZ-ofZ}
 use mir.Syntax.{w32}
-use Rattle.numeral.specs.PrintText.{textOf, wholeText}
-use Rattle.numeral.proofs.PrintTexts.{chain}
+use Rattle.printing.specs.PrintText.{textOf, wholeText}
+use Rattle.printing.proofs.Texts.{chain}
 use Rattle.kbm.specs.Table.{entriesOf}
 use Rattle.kbm_write.specs.Export.{line, linesText, keyTexts, entryTexts, tableText, mappingText}
 use Rattle.kbm_write.proofs.Room.{four-runs, four-length, too-long, long-enough}

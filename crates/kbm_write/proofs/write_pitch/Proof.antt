@@ -4,7 +4,7 @@ use mathlib.Core.Bool.{false}
 use native.Mathlib.Omega.{arith}
 use denote.Ref.{now}
 use borrow.Author.Needs.{needs}
-use Rattle.numeral.specs.PrintText.{textOf}
+use Rattle.printing.specs.PrintText.{textOf}
 use Rattle.kbm_write.proofs.Lines.{pitch-limited, not-full, line-end, line-fits, line-written}
 use Rattle.kbm_write.proofs.write_pitch.Statement.{statement}
 use Rattle.kbm_write.proofs.write_pitch.Tie as tie

@@ -1,13 +1,14 @@
 -- `next_line` answers where the line from `at` on ends, and where the next one starts.
 -- Invariant: the cut of the text from `at` on is that of the rest from `i` on.
-use mathlib.Core.Path.{_≡_, refl, sym, _∙_}
+use mathlib.Core.Path.{_≡_, sym, _∙_}
 use mathlib.Core.Logic.{⊎-elim}
 use Prim.Native.Nat.{_≤_, _-_}
 use native.Mathlib.Omega.{arith}
+use borrow.Author.Needs.{needs}
 use denote.Ref.{now}
 use lib.ListN.{length, drop}
 use Rattle.text.specs.Cut.{cut}
-use Rattle.text.proofs.Cuts.{cut-lf, cut-crlf, cut-on, cut-end, no-cr, cr-last, cr-alone}
+use Rattle.text.proofs.Cuts.{cut-pass, cut-lf, cut-crlf, cut-on, cut-end, no-cr, cr-last, cr-alone}
 use Rattle.text.proofs.lines.next_line.Statement.{statement}
 use Rattle.text.proofs.lines.next_line.Tie as tie
 
@@ -17,8 +18,11 @@ Inv-loop text at i₀ i = (at ≤ i) × (cut at (drop at text) ≡ cut i (drop i
 abbrev μ-loop : tie.MeasureT-loop
 μ-loop text at i₀ i = length text - i
 
+pass-requires : tie.Need-pass-requires Inv-loop μ-loop
+pass-requires c κs = search needs
+
 loop-holds : tie.Need-loop-holds Inv-loop μ-loop
-loop-holds c = (omega arith, refl)
+loop-holds c = (c .pass .ensures .onward, cut-pass (c .pass .ensures))
 
 shared-slice-read-b : tie.Need-shared-slice-read-b Inv-loop μ-loop
 shared-slice-read-b c = omega arith
@@ -55,7 +59,7 @@ loop-less c = omega arith
 loop-again : tie.Need-loop-again Inv-loop μ-loop
 loop-again c =
     let h = c .before .before .before .loop-test .taken in
-    let a = now (c .before .before .before .before .before .args .text) in
+    let a = now (c .before .before .before .before .before .before .before .args .text) in
     let i = c .before .before .before .before .loop .i in (
       omega arith,
       c .before .before .before .before .loop .inv .1 ∙ cut-on _ _ h (c .before .if1 .left)
@@ -72,6 +76,7 @@ next-line-spec =
     (tie.spec
     Inv-loop
     μ-loop
+    pass-requires
     loop-holds
     shared-slice-read-b
     add-t9

@@ -1,12 +1,13 @@
 -- `is_utf8` answers whether the machine accepts the text.
 -- Invariant: the machine's answer on all of it is its answer on the rest from `i` on, in the state reached.
-use mathlib.Core.Path.{_≡_, refl, sym, _∙_}
+use mathlib.Core.Path.{_≡_, sym, _∙_}
 use Prim.Native.Nat.{_≤_, _-_}
 use native.Mathlib.Omega.{arith}
 use borrow.Author.Needs.{needs}
 use lib.ListN.{length, drop}
 use Rattle.text.specs.Utf8Machine.{start, runOf}
-use Rattle.text.proofs.Utf8Steps.{run-turn, run-end}
+use Rattle.text.proofs.Utf8Steps.{run-turn, run-end, run-pass}
+use Rattle.text.proofs.Passes.{passed-end}
 use Rattle.text.proofs.utf8.is_utf8.Statement.{statement}
 use Rattle.text.proofs.utf8.is_utf8.Tie as tie
 
@@ -16,8 +17,11 @@ Inv-loop s st₀ i₀ st i = (i ≤ length s) × (runOf start s ≡ runOf st (dr
 abbrev μ-loop : tie.MeasureT-loop
 μ-loop s st₀ i₀ st i = length s - i
 
+pass-requires : tie.Need-pass-requires Inv-loop μ-loop
+pass-requires c κs = search needs
+
 loop-holds : tie.Need-loop-holds Inv-loop μ-loop
-loop-holds c = (omega arith, refl)
+loop-holds c = (passed-end (c .pass .ensures) (omega arith), run-pass (c .pass .ensures))
 
 shared-slice-read-advance : tie.Need-shared-slice-read-advance Inv-loop μ-loop
 shared-slice-read-advance c = omega arith
@@ -56,6 +60,7 @@ is-utf8-spec =
     (tie.spec
     Inv-loop
     μ-loop
+    pass-requires
     loop-holds
     shared-slice-read-advance
     advance-requires

@@ -1,0 +1,3 @@
+pub mod DecimalText
+pub mod DecimalScan
+pub mod Answers

@@ -1,0 +1,6 @@
+pub mod Digits
+pub mod Scan
+pub mod Range
+pub mod Language
+pub mod Theorems
+pub mod Samples

@@ -1,0 +1,4 @@
+pub mod Walk
+pub mod RoundTrip
+pub mod Standing
+pub mod Agree

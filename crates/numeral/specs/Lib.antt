@@ -1,8 +1,0 @@
-pub mod Digits
-pub mod IntegerText
-pub mod Integer
-pub mod DecimalText
-pub mod DecimalScan
-pub mod PrintText
-pub mod DecimalAnswers
-pub mod PrintForm

@@ -1,0 +1,2 @@
+pub mod PrintText
+pub mod PrintForm
