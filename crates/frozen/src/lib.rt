@@ -8,10 +8,6 @@ use base::Refusal;
 use integers::I32;
 use integers::U32;
 
-// The most bytes of a text, and the most places of a table, that a line has.
-pub const BYTES: usize = 512;
-pub const PLACES: usize = 16;
-
 pub enum Bits {
     Is(u64),
     IsNot,
@@ -240,13 +236,6 @@ pub fn is_refused(refusal: Refusal, line: &[u8], at: usize) -> bool {
     false
 }
 
-// A byte at a place of a text that has room for it.
-fn put(out: &mut [u8; 512], k: usize, b: u8) {
-    if k < 512 {
-        out[k] = b;
-    }
-}
-
 // The byte of two hex digits at a place of a field, or 256.
 fn byte_at(s: &[u8], at: usize) -> u64 {
     if at < s.len() {
@@ -268,7 +257,7 @@ fn narrow(b: u64) -> u8 {
 }
 
 // The bytes that a field writes, and how many they are; `-` is none.
-pub fn unhex(line: &[u8], at: usize, out: &mut [u8; 512]) -> Size {
+pub fn unhex(line: &[u8], at: usize, out: &mut [u8]) -> Size {
     let s = field(line, at);
     if check::same(s, b"-") {
         return Size::Is(0);
@@ -280,10 +269,10 @@ pub fn unhex(line: &[u8], at: usize, out: &mut [u8; 512]) -> Size {
         if 256 <= b {
             return Size::IsNot;
         }
-        if 512 <= n {
+        if out.len() <= n {
             return Size::IsNot;
         }
-        put(out, n, narrow(b));
+        out[n] = narrow(b);
         n += 1;
         if s.len() - k < 2 {
             return Size::IsNot;
@@ -297,29 +286,28 @@ fn wide(b: u8) -> u64 {
     b as u64
 }
 
-// Whether bytes are those that a field writes.
-pub fn is_hex(bytes: &[u8], line: &[u8], at: usize) -> bool {
+// Whether the first `room` bytes are those that a field writes.
+pub fn is_hex(bytes: &[u8], room: usize, line: &[u8], at: usize) -> bool {
     let s = field(line, at);
-    if bytes.len() == 0 {
+    if room == 0 {
         return check::same(s, b"-");
     }
-    if s.len() / 2 != bytes.len() {
-        return false;
-    }
-    if s.len() % 2 != 0 {
-        return false;
-    }
+    let mut n = 0;
     let mut k = 0;
-    while k < bytes.len() {
-        if s.len() / 2 <= k {
+    while k < s.len() {
+        if bytes.len() <= n {
             return false;
         }
-        if byte_at(s, k * 2) != wide(bytes[k]) {
+        if byte_at(s, k) != wide(bytes[n]) {
             return false;
         }
-        k += 1;
+        n += 1;
+        if s.len() - k < 2 {
+            return false;
+        }
+        k += 2;
     }
-    true
+    n == room
 }
 
 // Whether the first field of a line is one that says whose the answer is.

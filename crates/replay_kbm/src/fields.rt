@@ -26,31 +26,21 @@ pub enum Place {
     IsNot,
 }
 
-fn put(map: &mut [i32; 16], k: usize, z: i32) {
-    if k < 16 {
-        map[k] = z;
-    }
-}
-
-fn get(map: &[i32; 16], k: usize) -> i32 {
-    if k < 16 { map[k] } else { 0 }
-}
-
-// A table of at most 16 places: how many it has, and where the next field starts.
-pub fn read_table(line: &[u8], at: usize, map: &mut [i32; 16]) -> Place {
+// A table that has room in `map`: how many it has, and where the next field starts.
+pub fn read_table(line: &[u8], at: usize, map: &mut [i32]) -> Place {
     let Size::Is(places) = frozen::size_of(line, at) else {
         return Place::IsNot;
     };
-    if 16 < places {
-        return Place::IsNot;
-    }
     let mut after = frozen::next(line, at);
     let mut k = 0;
     while k < places {
         let I32::Is(z) = integers::read_i32(frozen::field(line, after)) else {
             return Place::IsNot;
         };
-        put(map, k, z);
+        if map.len() <= k {
+            return Place::IsNot;
+        }
+        map[k] = z;
         after = frozen::next(line, after);
         k += 1;
     }
@@ -58,12 +48,15 @@ pub fn read_table(line: &[u8], at: usize, map: &mut [i32; 16]) -> Place {
 }
 
 // Whether the places of a table are the last fields of a line, of which there must be one.
-pub fn is_table(map: &[i32; 16], places: usize, line: &[u8], at: usize) -> bool {
+pub fn is_table(map: &[i32], places: usize, line: &[u8], at: usize) -> bool {
     if frozen::is_size(places, line, at) {
         let mut after = frozen::next(line, at);
         let mut k = 0;
         while k < places {
-            if frozen::is_i32(get(map, k), line, after) {
+            if map.len() <= k {
+                return false;
+            }
+            if frozen::is_i32(map[k], line, after) {
                 after = frozen::next(line, after);
                 k += 1;
             } else {
@@ -119,6 +112,13 @@ pub fn read_mapping(line: &[u8], at: usize) -> Mapping {
     })
 }
 
+fn is_i16(z: i16, line: &[u8], at: usize) -> bool {
+    match integers::read_i16(frozen::field(line, at)) {
+        I16::Is(n) => z == n,
+        I16::IsNot => false,
+    }
+}
+
 // Whether the root's three fields are these.
 fn is_root(root: KbmRoot, line: &[u8], at: usize) -> bool {
     let reference = root.reference;
@@ -131,10 +131,6 @@ fn is_root(root: KbmRoot, line: &[u8], at: usize) -> bool {
     false
 }
 
-fn wide(z: i16) -> i32 {
-    z as i32
-}
-
 // Whether the mapping's seven fields are these.
 fn is_mapping(kbm: Kbm, line: &[u8], at: usize) -> bool {
     let start = kbm.start;
@@ -143,7 +139,7 @@ fn is_mapping(kbm: Kbm, line: &[u8], at: usize) -> bool {
         if frozen::is_i32(start.0, line, frozen::later(line, at, 1)) {
             if frozen::is_i32(end.0, line, frozen::later(line, at, 2)) {
                 if is_root(kbm.root, line, frozen::later(line, at, 3)) {
-                    return frozen::is_i32(wide(kbm.octave), line, frozen::later(line, at, 6));
+                    return is_i16(kbm.octave, line, frozen::later(line, at, 6));
                 }
             }
         }

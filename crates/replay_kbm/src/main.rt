@@ -31,9 +31,8 @@ const PATTERN: i32 = 1515870810;
 const BYTE: u8 = 238;
 
 // `degree TABLE MAPPING KEY`: the degree, or a refusal.
-fn is_same_degree(line: &[u8], at: usize) -> bool {
-    let mut map = [PATTERN; 16];
-    let Place::Is { places, after } = fields::read_table(line, at, &mut map) else {
+fn is_same_degree(map: &mut [i32], line: &[u8], at: usize) -> bool {
+    let Place::Is { places, after } = fields::read_table(line, at, map) else {
         return false;
     };
     let Mapping::Is(kbm) = fields::read_mapping(line, after) else {
@@ -44,7 +43,7 @@ fn is_same_degree(line: &[u8], at: usize) -> bool {
         return false;
     };
     let answer = frozen::next(line, key);
-    if 16 < places {
+    if map.len() < places {
         return false;
     }
     match kbm::scale_degree_of(kbm, &map[..places], PianoKey(number)) {
@@ -56,9 +55,8 @@ fn is_same_degree(line: &[u8], at: usize) -> bool {
 }
 
 // `read TEXT ROOM`: the mapping or a refusal, then the table.
-fn is_same_read(line: &[u8], at: usize) -> bool {
-    let mut text = [0; 512];
-    let Size::Is(length) = frozen::unhex(line, at, &mut text) else {
+fn is_same_read(map: &mut [i32], text: &mut [u8], line: &[u8], at: usize) -> bool {
+    let Size::Is(length) = frozen::unhex(line, at, text) else {
         return false;
     };
     let size = frozen::next(line, at);
@@ -66,23 +64,22 @@ fn is_same_read(line: &[u8], at: usize) -> bool {
         return false;
     };
     let answer = frozen::next(line, size);
-    let mut map = [PATTERN; 16];
-    if room <= 16 {
-        if length <= 512 {
-            let after = match kbm_read::read_kbm(&text[..length], &mut map[..room]) {
-                KbmAnswer::Is(kbm) => fields::after_mapping(kbm, line, answer),
-                KbmAnswer::Refused(refusal) => fields::after_refusal(refusal, line, answer),
-            };
-            return fields::is_table(&map, room, line, after);
-        }
+    if map.len() < room {
+        return false;
     }
-    false
+    if text.len() < length {
+        return false;
+    }
+    let after = match kbm_read::read_kbm(&text[..length], &mut map[..room]) {
+        KbmAnswer::Is(kbm) => fields::after_mapping(kbm, line, answer),
+        KbmAnswer::Refused(refusal) => fields::after_refusal(refusal, line, answer),
+    };
+    fields::is_table(map, room, line, after)
 }
 
 // `export TABLE MAPPING ROOM`: the size or a refusal, then the lent bytes.
-fn is_same_export(line: &[u8], at: usize) -> bool {
-    let mut map = [PATTERN; 16];
-    let Place::Is { places, after } = fields::read_table(line, at, &mut map) else {
+fn is_same_export(map: &mut [i32], out: &mut [u8], line: &[u8], at: usize) -> bool {
+    let Place::Is { places, after } = fields::read_table(line, at, map) else {
         return false;
     };
     let Mapping::Is(kbm) = fields::read_mapping(line, after) else {
@@ -93,18 +90,17 @@ fn is_same_export(line: &[u8], at: usize) -> bool {
         return false;
     };
     let answer = frozen::next(line, size);
-    let mut out = [BYTE; 512];
-    if 512 < room {
+    if out.len() < room {
         return false;
     }
-    if 16 < places {
+    if map.len() < places {
         return false;
     }
     let last = match kbm_write::export_kbm(kbm, &map[..places], &mut out[..room]) {
         SizeAnswer::Is(written) => fields::after_size(written, line, answer),
         SizeAnswer::Refused(refusal) => fields::after_refusal(refusal, line, answer),
     };
-    frozen::is_last(frozen::is_hex(&out[..room], line, last), line, last)
+    frozen::is_last(frozen::is_hex(out, room, line, last), line, last)
 }
 
 // `root REFERENCE PITCH OFFSET`: `usable`, or a refusal.
@@ -189,7 +185,7 @@ fn after_build(builder: KbmBuilder, map: &mut [i32], line: &[u8], at: usize) -> 
 }
 
 // `build ROOM REFERENCE PITCH OFFSET START END OCTAVE PUSHES ..`: the answer of each push, the mapping or a refusal, then the table.
-fn is_same_build(line: &[u8], at: usize) -> bool {
+fn is_same_build(map: &mut [i32], line: &[u8], at: usize) -> bool {
     let Size::Is(room) = frozen::size_of(line, at) else {
         return false;
     };
@@ -202,8 +198,7 @@ fn is_same_build(line: &[u8], at: usize) -> bool {
     let I32::Is(end) = integers::read_i32(frozen::field(line, frozen::later(line, at, 5))) else {
         return false;
     };
-    let mut map = [PATTERN; 16];
-    if 16 < room {
+    if map.len() < room {
         return false;
     }
     let BuilderAnswer::Is(new) = KbmBuilder::new(root, &map[..room]) else {
@@ -212,13 +207,12 @@ fn is_same_build(line: &[u8], at: usize) -> bool {
     let ranged = new.range(PianoKey(start), PianoKey(end));
     let builder = with_octave(ranged, frozen::field(line, frozen::later(line, at, 6)));
     let after = after_build(builder, &mut map[..room], line, frozen::later(line, at, 7));
-    fields::is_table(&map, room, line, after)
+    fields::is_table(map, room, line, after)
 }
 
 // `push TABLE ROOM COUNT DEGREE` on a state that need not be the table's: the new count or a refusal, then the table.
-fn is_same_push(line: &[u8], at: usize) -> bool {
-    let mut map = [PATTERN; 16];
-    let Place::Is { places, after } = fields::read_table(line, at, &mut map) else {
+fn is_same_push(map: &mut [i32], line: &[u8], at: usize) -> bool {
+    let Place::Is { places, after } = fields::read_table(line, at, map) else {
         return false;
     };
     let Size::Is(room) = frozen::size_of(line, after) else {
@@ -230,35 +224,37 @@ fn is_same_push(line: &[u8], at: usize) -> bool {
     let degree = frozen::field(line, frozen::later(line, after, 2));
     let root = KbmRoot { reference: PianoKey(0), pitch: Pitch(440.0), offset: 0 };
     let builder = KbmBuilder { root, start: PianoKey(0), end: PianoKey(128), octave: Octave::Missing, room, count };
-    if places <= 16 {
-        let said = pushed(builder, &mut map[..places], degree);
-        let last = after_push(said, line, frozen::later(line, after, 3));
-        return fields::is_table(&map, places, line, last);
+    if map.len() < places {
+        return false;
     }
-    false
+    let said = pushed(builder, &mut map[..places], degree);
+    let last = after_push(said, line, frozen::later(line, after, 3));
+    fields::is_table(map, places, line, last)
 }
 
 // Whether a call gives the answer of its line.
 fn is_same(line: &[u8]) -> bool {
     let name = frozen::field(line, frozen::next(line, 0));
     let at = frozen::later(line, 0, 2);
+    let mut map = [PATTERN; 16];
+    let mut bytes = [BYTE; 512];
     if check::same(name, b"degree") {
-        return is_same_degree(line, at);
+        return is_same_degree(&mut map, line, at);
     }
     if check::same(name, b"read") {
-        return is_same_read(line, at);
+        return is_same_read(&mut map, &mut bytes, line, at);
     }
     if check::same(name, b"export") {
-        return is_same_export(line, at);
+        return is_same_export(&mut map, &mut bytes, line, at);
     }
     if check::same(name, b"root") {
         return is_same_root(line, at);
     }
     if check::same(name, b"push") {
-        return is_same_push(line, at);
+        return is_same_push(&mut map, line, at);
     }
     if check::same(name, b"build") {
-        return is_same_build(line, at);
+        return is_same_build(&mut map, line, at);
     }
     false
 }
