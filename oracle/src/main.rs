@@ -7,15 +7,21 @@
 
 mod bench;
 mod ffi;
+mod ffi_kbm;
 mod floats;
-mod freeze;
 mod inputs;
-mod kbm;
+mod kbm_build;
+mod kbm_read;
+mod kbm_use;
 mod key;
+mod lent;
 mod math;
 mod numerals;
 mod pitch;
 mod powers;
+mod probe;
+mod rules;
+mod rust_kbm;
 mod tally;
 mod texts;
 
@@ -30,13 +36,6 @@ fn main() -> ExitCode {
             bench::bench();
             ExitCode::SUCCESS
         }
-        ["freeze", folder] => match freeze::freeze(folder) {
-            Ok(()) => ExitCode::SUCCESS,
-            Err(error) => {
-                eprintln!("freeze: {error}");
-                ExitCode::FAILURE
-            }
-        },
         _ => {
             eprintln!("usage: oracle [bench | freeze FOLDER]");
             ExitCode::FAILURE
@@ -53,7 +52,8 @@ fn compare() -> ExitCode {
     pitch::compare(&mut all);
     texts::compare(&mut all);
     numerals::compare(&mut all);
-    kbm::compare(&mut all);
-    powers::report();
+    kbm_read::compare(&mut all);
+    kbm_use::compare(&mut all);
+    kbm_build::compare(&mut all);
     all.verdict()
 }

@@ -1,6 +1,9 @@
 // Replays frozen answers on whole numbers and keys (the crate `frozen` says how a line is written): writes how many are the
 // same and how many differ. The list is made by `oracle freeze`.
 use frozen::Counts;
+use integers::I32;
+use integers::U16;
+use integers::U32;
 use key::KeyAnswer;
 use key::MidiAnswer;
 use key::PianoKey;
@@ -9,9 +12,6 @@ use libc::STDOUT_FILENO;
 use math::DivisionAnswer;
 use math::I32Answer;
 use math::U32Answer;
-use integers::I32;
-use integers::U16;
-use integers::U32;
 
 fn is_i32(answer: I32Answer, line: &[u8], at: usize) -> bool {
     match answer {

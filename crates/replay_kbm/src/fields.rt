@@ -3,12 +3,12 @@
 use base::Refusal;
 use frozen::Float;
 use frozen::Size;
-use kbm::Kbm;
-use kbm::KbmRoot;
-use key::PianoKey;
 use integers::I16;
 use integers::I32;
 use integers::U16;
+use kbm::Kbm;
+use kbm::KbmRoot;
+use key::PianoKey;
 use pitch::Pitch;
 
 pub enum Mapping {

@@ -5,6 +5,8 @@
 // and each of them. An answer ends with what every lent place or byte is after the call.
 use frozen::Counts;
 use frozen::Size;
+use integers::I16;
+use integers::I32;
 use kbm::DegreeAnswer;
 use kbm::KbmAnswer;
 use kbm::KbmRoot;
@@ -16,11 +18,11 @@ use kbm_write::SizeAnswer;
 use key::PianoKey;
 use libc::STDIN_FILENO;
 use libc::STDOUT_FILENO;
-use integers::I16;
-use integers::I32;
 use pitch::Pitch;
 
+mod builders;
 mod fields;
+mod first;
 
 use crate::fields::Mapping;
 use crate::fields::Place;
@@ -28,13 +30,18 @@ use crate::fields::Root;
 
 // What a table holds before a call, and what lent bytes are.
 const PATTERN: i32 = 1515870810;
+
 const BYTE: u8 = 238;
 
 // `degree TABLE MAPPING KEY`: the degree, or a refusal.
 fn is_same_degree(map: &mut [i32], line: &[u8], at: usize) -> bool {
-    let Place::Is { places, after } = fields::read_table(line, at, map) else {
-        return false;
-    };
+    match fields::read_table(line, at, map) {
+        Place::Is { places, after } => is_degree(map, places, line, after),
+        Place::IsNot => false,
+    }
+}
+
+fn is_degree(map: &[i32], places: usize, line: &[u8], after: usize) -> bool {
     let Mapping::Is(kbm) = fields::read_mapping(line, after) else {
         return false;
     };
@@ -43,10 +50,7 @@ fn is_same_degree(map: &mut [i32], line: &[u8], at: usize) -> bool {
         return false;
     };
     let answer = frozen::next(line, key);
-    if map.len() < places {
-        return false;
-    }
-    match kbm::scale_degree_of(kbm, &map[..places], PianoKey(number)) {
+    match first::degree(kbm, map, places, PianoKey(number)) {
         DegreeAnswer::Is(degree) => {
             frozen::is_last(frozen::is_i32(degree.0, line, answer), line, answer)
         }
@@ -64,13 +68,7 @@ fn is_same_read(map: &mut [i32], text: &mut [u8], line: &[u8], at: usize) -> boo
         return false;
     };
     let answer = frozen::next(line, size);
-    if map.len() < room {
-        return false;
-    }
-    if text.len() < length {
-        return false;
-    }
-    let after = match kbm_read::read_kbm(&text[..length], &mut map[..room]) {
+    let after = match first::read(text, length, map, room) {
         KbmAnswer::Is(kbm) => fields::after_mapping(kbm, line, answer),
         KbmAnswer::Refused(refusal) => fields::after_refusal(refusal, line, answer),
     };
@@ -79,9 +77,13 @@ fn is_same_read(map: &mut [i32], text: &mut [u8], line: &[u8], at: usize) -> boo
 
 // `export TABLE MAPPING ROOM`: the size or a refusal, then the lent bytes.
 fn is_same_export(map: &mut [i32], out: &mut [u8], line: &[u8], at: usize) -> bool {
-    let Place::Is { places, after } = fields::read_table(line, at, map) else {
-        return false;
-    };
+    match fields::read_table(line, at, map) {
+        Place::Is { places, after } => is_export(map, places, out, line, after),
+        Place::IsNot => false,
+    }
+}
+
+fn is_export(map: &[i32], places: usize, out: &mut [u8], line: &[u8], after: usize) -> bool {
     let Mapping::Is(kbm) = fields::read_mapping(line, after) else {
         return false;
     };
@@ -90,13 +92,7 @@ fn is_same_export(map: &mut [i32], out: &mut [u8], line: &[u8], at: usize) -> bo
         return false;
     };
     let answer = frozen::next(line, size);
-    if out.len() < room {
-        return false;
-    }
-    if map.len() < places {
-        return false;
-    }
-    let last = match kbm_write::export_kbm(kbm, &map[..places], &mut out[..room]) {
+    let last = match first::export(kbm, map, places, out, room) {
         SizeAnswer::Is(written) => fields::after_size(written, line, answer),
         SizeAnswer::Refused(refusal) => fields::after_refusal(refusal, line, answer),
     };
@@ -111,76 +107,13 @@ fn is_same_root(line: &[u8], at: usize) -> bool {
     let answer = frozen::later(line, at, 3);
     match KbmRoot::new(root.reference, root.pitch, root.offset) {
         RootAnswer::Is(_) => {
-            frozen::is_last(check::same(frozen::field(line, answer), b"usable"), line, answer)
+            frozen::is_last(
+                check::same(frozen::field(line, answer), b"usable"),
+                line,
+                answer,
+            )
         }
         RootAnswer::Refused(refusal) => frozen::is_refused(refusal, line, answer),
-    }
-}
-
-// One push of a field, `x` or a degree.
-fn pushed(builder: KbmBuilder, map: &mut [i32], field: &[u8]) -> BuilderAnswer {
-    match integers::read_i16(field) {
-        I16::Is(degree) => builder.push_mapped_key(map, degree),
-        I16::IsNot => builder.push_unmapped_key(map),
-    }
-}
-
-// Where the answers of a push go on: the new count, or a refusal.
-fn after_push(answer: BuilderAnswer, line: &[u8], at: usize) -> usize {
-    match answer {
-        BuilderAnswer::Is(builder) => fields::after_size(builder.count, line, at),
-        BuilderAnswer::Refused(refusal) => fields::after_refusal(refusal, line, at),
-    }
-}
-
-// A builder after a push, or as it was.
-fn kept(answer: BuilderAnswer, old: KbmBuilder) -> KbmBuilder {
-    match answer {
-        BuilderAnswer::Is(builder) => builder,
-        BuilderAnswer::Refused(_) => old,
-    }
-}
-
-struct Done {
-    builder: KbmBuilder,
-    answer: usize,
-}
-
-// All pushes of a line, each beside its answer: the builder after them, and where the next answer stands.
-fn run(first: KbmBuilder, map: &mut [i32], pushes: usize, line: &[u8], from: usize, answers: usize) -> Done {
-    let mut builder = first;
-    let mut at = from;
-    let mut answer = answers;
-    let mut k = 0;
-    while k < pushes {
-        let said = pushed(builder, map, frozen::field(line, at));
-        answer = after_push(said, line, answer);
-        builder = kept(said, builder);
-        at = frozen::next(line, at);
-        k += 1;
-    }
-    Done { builder, answer }
-}
-
-// A builder with the formal octave of a field; with none for `-`.
-fn with_octave(builder: KbmBuilder, field: &[u8]) -> KbmBuilder {
-    match integers::read_i16(field) {
-        I16::Is(octave) => builder.formal_octave(octave),
-        I16::IsNot => builder,
-    }
-}
-
-// Where the answers go on after the pushes and the build.
-fn after_build(builder: KbmBuilder, map: &mut [i32], line: &[u8], at: usize) -> usize {
-    let Size::Is(pushes) = frozen::size_of(line, at) else {
-        return line.len();
-    };
-    let from = frozen::next(line, at);
-    let done = run(builder, map, pushes, line, from, frozen::later(line, from, pushes));
-    let last = done.builder;
-    match last.build(map) {
-        KbmAnswer::Is(kbm) => fields::after_mapping(kbm, line, done.answer),
-        KbmAnswer::Refused(refusal) => fields::after_refusal(refusal, line, done.answer),
     }
 }
 
@@ -198,23 +131,24 @@ fn is_same_build(map: &mut [i32], line: &[u8], at: usize) -> bool {
     let I32::Is(end) = integers::read_i32(frozen::field(line, frozen::later(line, at, 5))) else {
         return false;
     };
-    if map.len() < room {
-        return false;
-    }
-    let BuilderAnswer::Is(new) = KbmBuilder::new(root, &map[..room]) else {
+    let BuilderAnswer::Is(new) = first::new(root, map, room) else {
         return false;
     };
     let ranged = new.range(PianoKey(start), PianoKey(end));
-    let builder = with_octave(ranged, frozen::field(line, frozen::later(line, at, 6)));
-    let after = after_build(builder, &mut map[..room], line, frozen::later(line, at, 7));
+    let builder = builders::with_octave(ranged, frozen::field(line, frozen::later(line, at, 6)));
+    let after = first::after_build(builder, map, room, line, frozen::later(line, at, 7));
     fields::is_table(map, room, line, after)
 }
 
 // `push TABLE ROOM COUNT DEGREE` on a state that need not be the table's: the new count or a refusal, then the table.
 fn is_same_push(map: &mut [i32], line: &[u8], at: usize) -> bool {
-    let Place::Is { places, after } = fields::read_table(line, at, map) else {
-        return false;
-    };
+    match fields::read_table(line, at, map) {
+        Place::Is { places, after } => is_push(map, places, line, after),
+        Place::IsNot => false,
+    }
+}
+
+fn is_push(map: &mut [i32], places: usize, line: &[u8], after: usize) -> bool {
     let Size::Is(room) = frozen::size_of(line, after) else {
         return false;
     };
@@ -222,13 +156,21 @@ fn is_same_push(map: &mut [i32], line: &[u8], at: usize) -> bool {
         return false;
     };
     let degree = frozen::field(line, frozen::later(line, after, 2));
-    let root = KbmRoot { reference: PianoKey(0), pitch: Pitch(440.0), offset: 0 };
-    let builder = KbmBuilder { root, start: PianoKey(0), end: PianoKey(128), octave: Octave::Missing, room, count };
-    if map.len() < places {
-        return false;
-    }
-    let said = pushed(builder, &mut map[..places], degree);
-    let last = after_push(said, line, frozen::later(line, after, 3));
+    let root = KbmRoot {
+        reference: PianoKey(0),
+        pitch: Pitch(440.0),
+        offset: 0,
+    };
+    let builder = KbmBuilder {
+        root,
+        start: PianoKey(0),
+        end: PianoKey(128),
+        octave: Octave::Missing,
+        room,
+        count,
+    };
+    let said = first::pushed(builder, map, places, degree);
+    let last = builders::after_push(said, line, frozen::later(line, after, 3));
     fields::is_table(map, places, line, last)
 }
 

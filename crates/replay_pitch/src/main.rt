@@ -3,9 +3,9 @@
 use floats::FloatAnswer;
 use frozen::Counts;
 use frozen::Float;
+use integers::U16;
 use libc::STDIN_FILENO;
 use libc::STDOUT_FILENO;
-use integers::U16;
 use pitch::BoolAnswer;
 use pitch::Order;
 use pitch::OrderAnswer;
@@ -179,7 +179,11 @@ fn is_same_nearest(x: f64, line: &[u8], at: usize) -> bool {
     let U16::Is(limit) = integers::read_u16(frozen::field(line, at)) else {
         return false;
     };
-    is_nearest(Ratio(x).nearest_fraction(limit), line, frozen::next(line, at))
+    is_nearest(
+        Ratio(x).nearest_fraction(limit),
+        line,
+        frozen::next(line, at),
+    )
 }
 
 // Whether a call gives the answer of its line.
