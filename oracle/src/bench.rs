@@ -98,7 +98,7 @@ fn our_reading(text: &[u8]) -> f64 {
             let token = &text[start..token];
             if let (_, Float::Is(bits)) = probe::read_decimal(token) {
                 total += f64::from_bits(bits);
-            } else if let Ok(Some(n)) = probe::read_u32(token) {
+            } else if let Some(n) = probe::read_u32(token) {
                 total += f64::from(n);
             }
         }

@@ -2,7 +2,7 @@
 
 use crate::inputs::{Random, f64_limits, i32_limits, u32_limits};
 use crate::lent::Float;
-use crate::probe::{self, Integer};
+use crate::probe;
 use crate::tally::{Code, Report, Said, Tally, Who};
 use crate::texts::rows;
 use std::str::FromStr;
@@ -43,14 +43,14 @@ pub fn their_integer<T: FromStr>(text: &[u8]) -> Option<T> {
     std::str::from_utf8(text).ok().and_then(|s| s.parse().ok())
 }
 
-fn integers<T: FromStr + PartialEq + std::fmt::Debug>(all: &mut Report, name: &str, ours: fn(&[u8]) -> Integer<T>) {
+fn integers<T: FromStr + PartialEq + std::fmt::Debug>(all: &mut Report, name: &str, ours: fn(&[u8]) -> Option<T>) {
     all.function(name, &[3], |tally| {
         for text in integer_texts() {
             let said = ours(&text);
-            let code = if said == Ok(None) { Code::refusal(3, 0) } else { Code::ACCEPTED };
+            let code = if said.is_none() { Code::refusal(3, 0) } else { Code::ACCEPTED };
             let theirs = match their_integer(&text) {
-                None => Said::refused(Who::Rust, 3, 0, Ok(None)),
-                value => Said::gives(Who::Rust, Ok(value)),
+                None => Said::refused(Who::Rust, 3, 0, None),
+                value => Said::gives(Who::Rust, value),
             };
             tally.same(&text, (code, said), theirs);
         }
@@ -129,17 +129,17 @@ fn printed() -> Vec<f64> {
 const PATTERN: u8 = 0xEE;
 
 /// A text written at a place of lent bytes, in room enough, exactly full, one short and none: the place reached and every byte.
-fn written(tally: &mut Tally, input: &str, text: &str, write: &dyn Fn(&mut [u8], usize) -> Integer<usize>) {
+fn written(tally: &mut Tally, input: &str, text: &str, write: &dyn Fn(&mut [u8], usize) -> Option<usize>) {
     for (room, at) in [(40, 5), (text.len(), 0), (text.len() + 3, 3), (text.len().saturating_sub(1), 0), (3, 7)] {
         let mut ours = vec![PATTERN; room];
         let reached = write(&mut ours, at);
-        let code = if reached == Ok(None) { Code::refusal(12, 0) } else { Code::ACCEPTED };
+        let code = if reached.is_none() { Code::refusal(12, 0) } else { Code::ACCEPTED };
         let mut theirs = vec![PATTERN; room];
         let said = if at + text.len() <= room {
             theirs[at..at + text.len()].copy_from_slice(text.as_bytes());
-            Said::gives(Who::Rust, (Ok(Some(at + text.len())), theirs))
+            Said::gives(Who::Rust, (Some(at + text.len()), theirs))
         } else {
-            Said::refused(Who::Rules, 12, 0, (Ok(None), theirs))
+            Said::refused(Who::Rules, 12, 0, (None, theirs))
         };
         tally.same(input, (code, (reached, ours)), said);
     }
@@ -151,7 +151,7 @@ fn unprintable(tally: &mut Tally) {
     for (x, decimals) in [(most.next_up(), 3), (-most.next_up(), 0), (f64::INFINITY, 3), (f64::NEG_INFINITY, 3), (f64::NAN, 3), (f64::MAX, 3), (1.0, 5), (1.0, u64::MAX)] {
         let mut out = [PATTERN; 64];
         let reached = probe::write_fixed(x, decimals, false, &mut out, 0);
-        tally.require((reached, out) == (Ok(None), [PATTERN; 64]), (x, decimals));
+        tally.require((reached, out) == (None, [PATTERN; 64]), (x, decimals));
     }
 }
 

@@ -1,6 +1,6 @@
 //! Inner functions, from the crate `probes`.
 
-use crate::lent::{Float, lend};
+use crate::lent::Float;
 use crate::tally::Code;
 
 unsafe extern "C" {
@@ -13,24 +13,26 @@ unsafe extern "C" {
     pub safe fn probe_is_in_search(x: f64) -> bool;
     pub safe fn probe_is_in_generator(x: f64) -> bool;
     pub safe fn probe_is_in_pitch(x: f64) -> bool;
-    fn probe_next_line(source: *const u8, length: usize, at: usize, next: *mut usize) -> usize;
-    fn probe_read_line(source: *const u8, length: usize, from: usize, to: usize, start: *mut usize, end: *mut usize, token: *mut usize) -> u32;
-    fn probe_token_end(s: *const u8, length: usize) -> usize;
-    fn probe_read_u16(s: *const u8, length: usize, value: *mut u16) -> bool;
-    fn probe_read_u32(s: *const u8, length: usize, value: *mut u32) -> bool;
-    fn probe_read_i16(s: *const u8, length: usize, value: *mut i16) -> bool;
-    fn probe_read_i32(s: *const u8, length: usize, value: *mut i32) -> bool;
-    fn probe_read_decimal(s: *const u8, length: usize, value: *mut f64) -> u32;
-    fn probe_write_fixed(x: f64, decimals: u64, plus: bool, out: *mut u8, length: usize, at: usize, next: *mut usize) -> bool;
-    fn probe_write_i32(z: i32, out: *mut u8, length: usize, at: usize, next: *mut usize) -> bool;
-    fn probe_write_u32(n: u32, out: *mut u8, length: usize, at: usize, next: *mut usize) -> bool;
+    fn probe_line_end(source: *const u8, length: usize, at: usize) -> usize;
+    fn probe_line_next(source: *const u8, length: usize, at: usize) -> usize;
+    fn probe_says(source: *const u8, length: usize, from: usize, to: usize) -> u32;
+    fn probe_start(source: *const u8, length: usize, from: usize, to: usize) -> usize;
+    fn probe_end(source: *const u8, length: usize, from: usize, to: usize) -> usize;
+    fn probe_token(source: *const u8, length: usize, from: usize, to: usize) -> usize;
+    fn probe_read_u16(s: *const u8, length: usize) -> i64;
+    fn probe_read_u32(s: *const u8, length: usize) -> i64;
+    fn probe_read_i16(s: *const u8, length: usize) -> i64;
+    fn probe_read_i32(s: *const u8, length: usize) -> i64;
+    fn probe_decimal_kind(s: *const u8, length: usize) -> u32;
+    fn probe_decimal_value(s: *const u8, length: usize) -> f64;
+    fn probe_write_fixed(x: f64, decimals: u64, plus: bool, out: *mut u8, length: usize, at: usize) -> usize;
+    fn probe_write_i32(z: i32, out: *mut u8, length: usize, at: usize) -> usize;
+    fn probe_write_u32(n: u32, out: *mut u8, length: usize, at: usize) -> usize;
 }
 
 /// Where the line at a place ends, and where the next starts.
 pub fn next_line(source: &[u8], at: usize) -> (usize, usize) {
-    let mut next = 0;
-    let end = unsafe { probe_next_line(source.as_ptr(), source.len(), at, &mut next) };
-    (end, next)
+    unsafe { (probe_line_end(source.as_ptr(), source.len(), at), probe_line_next(source.as_ptr(), source.len(), at)) }
 }
 
 /// What a line says: nothing where it is dropped or no UTF-8.
@@ -40,68 +42,60 @@ pub enum Line {
     Content { start: usize, end: usize, token: usize },
 }
 
-const OLD: usize = 0x5AA5_A55A;
-
 pub fn read_line(source: &[u8], from: usize, to: usize) -> (Code, Line) {
-    let (mut start, mut end, mut token) = (OLD, OLD, OLD);
-    let said = unsafe { probe_read_line(source.as_ptr(), source.len(), from, to, &mut start, &mut end, &mut token) };
-    match said {
-        0 | 1 if (start, end, token) == (OLD, OLD, OLD) => (Code(1 - u64::from(said)), Line::None),
+    let (s, n) = (source.as_ptr(), source.len());
+    let (says, start, end, token) = unsafe { (probe_says(s, n, from, to), probe_start(s, n, from, to), probe_end(s, n, from, to), probe_token(s, n, from, to)) };
+    match says {
+        0 => (Code::refusal(1, 0), Line::None),
+        1 => (Code::ACCEPTED, Line::None),
         _ => (Code::ACCEPTED, Line::Content { start, end, token }),
     }
 }
 
-/// Where the first token of a text ends.
-pub fn token_end(s: &[u8]) -> usize {
-    unsafe { probe_token_end(s.as_ptr(), s.len()) }
+/// An integer, or none; a number that the type cannot hold is a fault of the probe.
+fn integer<T: TryFrom<i64>>(number: i64) -> Option<T> {
+    if number == 1 << 32 { None } else { T::try_from(number).ok() }
 }
 
-/// A value that was stored, or none, and then the room is as it was.
-fn stored<T: PartialEq + Copy>(old: T, call: impl FnOnce(&mut T) -> bool) -> Result<Option<T>, T> {
-    let mut value = old;
-    if call(&mut value) {
-        return Ok(Some(value));
-    }
-    if value == old { Ok(None) } else { Err(value) }
+pub fn read_u16(s: &[u8]) -> Option<u16> {
+    integer(unsafe { probe_read_u16(s.as_ptr(), s.len()) })
 }
 
-/// An integer, none (`Ok(None)`), or what was left behind by a refusal.
-pub type Integer<T> = Result<Option<T>, T>;
-
-pub fn read_u16(s: &[u8]) -> Integer<u16> {
-    stored(0x5AA5, |value| unsafe { probe_read_u16(s.as_ptr(), s.len(), value) })
+pub fn read_u32(s: &[u8]) -> Option<u32> {
+    integer(unsafe { probe_read_u32(s.as_ptr(), s.len()) })
 }
 
-pub fn read_u32(s: &[u8]) -> Integer<u32> {
-    stored(0xA5A5_5A5A, |value| unsafe { probe_read_u32(s.as_ptr(), s.len(), value) })
+pub fn read_i16(s: &[u8]) -> Option<i16> {
+    integer(unsafe { probe_read_i16(s.as_ptr(), s.len()) })
 }
 
-pub fn read_i16(s: &[u8]) -> Integer<i16> {
-    stored(0x5AA5, |value| unsafe { probe_read_i16(s.as_ptr(), s.len(), value) })
-}
-
-pub fn read_i32(s: &[u8]) -> Integer<i32> {
-    stored(0x5A5A_A5A5, |value| unsafe { probe_read_i32(s.as_ptr(), s.len(), value) })
+pub fn read_i32(s: &[u8]) -> Option<i32> {
+    integer(unsafe { probe_read_i32(s.as_ptr(), s.len()) })
 }
 
 /// A decimal, 7 for none and 9 for one that is unsupported.
 pub fn read_decimal(s: &[u8]) -> (Code, Float) {
-    let (code, float, ()) = lend(|value| {
-        let said = unsafe { probe_read_decimal(s.as_ptr(), s.len(), value) };
-        (Code([7, 9, 0][said as usize]), ())
-    });
-    (code, float)
+    let (kind, value) = unsafe { (probe_decimal_kind(s.as_ptr(), s.len()), probe_decimal_value(s.as_ptr(), s.len())) };
+    match kind {
+        0 => (Code::refusal(7, 0), Float::Untouched),
+        1 => (Code::refusal(9, 0), Float::Untouched),
+        _ => (Code::ACCEPTED, Float::of(value)),
+    }
 }
 
 /// The place after what was written, or none where it does not fit or is not to be written.
-pub fn write_fixed(x: f64, decimals: u64, plus: bool, out: &mut [u8], at: usize) -> Integer<usize> {
-    stored(OLD, |next| unsafe { probe_write_fixed(x, decimals, plus, out.as_mut_ptr(), out.len(), at, next) })
+fn place(next: usize) -> Option<usize> {
+    (next != usize::MAX).then_some(next)
 }
 
-pub fn write_i32(z: i32, out: &mut [u8], at: usize) -> Integer<usize> {
-    stored(OLD, |next| unsafe { probe_write_i32(z, out.as_mut_ptr(), out.len(), at, next) })
+pub fn write_fixed(x: f64, decimals: u64, plus: bool, out: &mut [u8], at: usize) -> Option<usize> {
+    place(unsafe { probe_write_fixed(x, decimals, plus, out.as_mut_ptr(), out.len(), at) })
 }
 
-pub fn write_u32(n: u32, out: &mut [u8], at: usize) -> Integer<usize> {
-    stored(OLD, |next| unsafe { probe_write_u32(n, out.as_mut_ptr(), out.len(), at, next) })
+pub fn write_i32(z: i32, out: &mut [u8], at: usize) -> Option<usize> {
+    place(unsafe { probe_write_i32(z, out.as_mut_ptr(), out.len(), at) })
+}
+
+pub fn write_u32(n: u32, out: &mut [u8], at: usize) -> Option<usize> {
+    place(unsafe { probe_write_u32(n, out.as_mut_ptr(), out.len(), at) })
 }
