@@ -3,12 +3,16 @@
 //! - `oracle` compares and prints a line for each function: cases tried, refusals met, differences. Any difference, and any
 //!   function with no case, makes it fail.
 //! - `oracle bench` times the two sides in one run.
-//! - `oracle freeze FOLDER` writes a sample of the Rust's answers for the program `replay`.
+//! - `oracle freeze CRATES` writes a sample of the answers for the programs that replay them.
 
 mod bench;
 mod ffi;
 mod ffi_kbm;
 mod floats;
+mod freeze;
+mod freeze_kbm;
+mod freeze_numbers;
+mod freeze_text;
 mod inputs;
 mod kbm_build;
 mod kbm_read;
@@ -36,8 +40,15 @@ fn main() -> ExitCode {
             bench::bench();
             ExitCode::SUCCESS
         }
+        ["freeze", crates] => match freeze::freeze(crates) {
+            Ok(()) => ExitCode::SUCCESS,
+            Err(error) => {
+                eprintln!("freeze: {error}");
+                ExitCode::FAILURE
+            }
+        },
         _ => {
-            eprintln!("usage: oracle [bench | freeze FOLDER]");
+            eprintln!("usage: oracle [bench | freeze CRATES]");
             ExitCode::FAILURE
         }
     }

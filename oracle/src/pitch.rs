@@ -55,8 +55,8 @@ pub fn ratio(x: f64) -> Ratio {
 }
 
 /// A call of one float, or of two: its name, ours, what it should answer, the refusals it has.
-pub struct One(pub &'static str, pub ffi::One, pub fn(f64) -> Said<Float>, &'static [u64]);
-pub struct Two(pub &'static str, pub ffi::Two, pub fn(f64, f64) -> Said<Float>, &'static [u64]);
+pub struct One(pub &'static str, pub ffi::One, pub fn(f64) -> Said<Float>, pub &'static [u64]);
+pub struct Two(pub &'static str, pub ffi::Two, pub fn(f64, f64) -> Said<Float>, pub &'static [u64]);
 
 pub const ONES: [One; 12] = [
     One("from_hz", ffi::telbijan_pitch_from_hz, |x| ruled(&[x], true, || Pitch::from_hz(x).as_hz()), &[10]),

@@ -7,7 +7,7 @@ use crate::tally::{Code, Report, Said, Who};
 use std::io::BufRead;
 
 /// Pieces that lines, trimming and tokens turn on: ends, spaces of one, two and three bytes, what looks like them, broken UTF-8.
-const PIECES: [&[u8]; 20] = [
+pub const PIECES: [&[u8]; 20] = [
     b"\n", b"\r", b"\r\n", b" ", b"\t", b"\x0b", b"\x0c", b"!", b"a", b"2", b"\x1f", b"\xc2\x85", b"\xc2\xa0", b"\xe2\x80\x83", b"\xe2\x80\xa8",
     b"\xe2\x80\x8b", b"\xef\xbb\xbf", b"\xff", b"\x80", b"\xe2\x80",
 ];
