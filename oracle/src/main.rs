@@ -28,6 +28,7 @@ mod rules;
 mod rust_kbm;
 mod tally;
 mod texts;
+mod untouched;
 
 use std::process::ExitCode;
 
@@ -66,5 +67,6 @@ fn compare() -> ExitCode {
     kbm_read::compare(&mut all);
     kbm_use::compare(&mut all);
     kbm_build::compare(&mut all);
+    untouched::report();
     all.verdict()
 }
