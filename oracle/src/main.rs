@@ -3,9 +3,12 @@
 //! - `oracle` compares and prints a line for each function: cases tried, refusals met, differences. Any difference, and any
 //!   function with no case, makes it fail.
 //! - `oracle bench` times the two sides in one run.
+//! - `oracle differences` prints the rows of docs/DIFFERENCES.md, which the comparison runs.
 //! - `oracle freeze CRATES` writes a sample of the answers for the programs that replay them.
 
 mod bench;
+mod differences;
+mod differences_kbm;
 mod ffi;
 mod ffi_kbm;
 mod floats;
@@ -41,6 +44,10 @@ fn main() -> ExitCode {
             bench::bench();
             ExitCode::SUCCESS
         }
+        ["differences"] => {
+            differences::print();
+            ExitCode::SUCCESS
+        }
         ["freeze", crates] => match freeze::freeze(crates) {
             Ok(()) => ExitCode::SUCCESS,
             Err(error) => {
@@ -49,7 +56,7 @@ fn main() -> ExitCode {
             }
         },
         _ => {
-            eprintln!("usage: oracle [bench | freeze CRATES]");
+            eprintln!("usage: oracle [bench | differences | freeze CRATES]");
             ExitCode::FAILURE
         }
     }
@@ -67,6 +74,7 @@ fn compare() -> ExitCode {
     kbm_read::compare(&mut all);
     kbm_use::compare(&mut all);
     kbm_build::compare(&mut all);
+    differences::compare(&mut all);
     untouched::report();
     all.verdict()
 }

@@ -145,7 +145,7 @@ impl Tally {
 
     fn differ(&mut self, what: String) {
         self.differences += 1;
-        if self.differences <= 5 {
+        if self.differences <= 12 {
             println!("{}: {}", self.name, what);
         }
     }
