@@ -1,26 +1,47 @@
 /* Reads a mapping file and prints the degrees of some keys.
  *
- * Build:  tools/native-lib telbijan libtelbijan.a && cc -Iinclude examples/degrees.c libtelbijan.a -o degrees
- * Run:    ./degrees examples/white_keys.kbm
+ * Build:  tools/archive target/libtelbijan.a && cc -Iinclude examples/degrees.c target/libtelbijan.a -o target/degrees
+ * Run:    target/degrees examples/white_keys.kbm
  */
+#include <errno.h>
 #include <inttypes.h>
 #include <stdio.h>
+#include <string.h>
 
 #include "telbijan.h"
 
-#define PLACES 8192
+#define PLACES 65535
+#define LONGEST (1 << 20)
 
-static char text[65536];
+static char text[LONGEST];
 static int32_t map[PLACES];
 
-int main(int argc, char **argv) {
-    FILE *file = argc == 2 ? fopen(argv[1], "rb") : NULL;
+/* Reads the whole file into `text`; false, with a line on standard error, where it cannot be read or is longer. */
+static bool read_file(const char *name, size_t *length) {
+    FILE *file = fopen(name, "rb");
     if (!file) {
+        fprintf(stderr, "degrees: %s: %s\n", name, strerror(errno));
+        return false;
+    }
+    *length = fread(text, 1, LONGEST, file);
+    bool whole = *length < LONGEST || fgetc(file) == EOF;
+    bool good = !ferror(file);
+    fclose(file);
+    if (!good)
+        fprintf(stderr, "degrees: %s: cannot be read\n", name);
+    else if (!whole)
+        fprintf(stderr, "degrees: %s: longer than %d bytes\n", name, LONGEST);
+    return good && whole;
+}
+
+int main(int argc, char **argv) {
+    if (argc != 2) {
         fprintf(stderr, "usage: degrees FILE.kbm\n");
         return 2;
     }
-    size_t length = fread(text, 1, sizeof text, file);
-    fclose(file);
+    size_t length;
+    if (!read_file(argv[1], &length))
+        return 2;
 
     uint16_t count;
     int32_t start, end, reference, offset;

@@ -1,8 +1,9 @@
 /* Telbijan: a tuning loader. Scales and keyboard mappings in, pitches and degrees out.
  *
  * Every function is total: no argument stops it or draws a made-up answer, but for the three things that C leaves to the
- * caller: pointers point to as many elements as their lengths say, a pointer with length 0 is not null, and no two lent
- * parts of memory overlap. Nothing is allocated, and there are no globals: calls may run on any number of threads.
+ * caller: pointers point to as many elements as their lengths say, no pointer is null (one with length 0 may point anywhere
+ * else), and no two lent parts of memory overlap. Nothing is allocated, and there are no globals: calls may run on any number
+ * of threads, each with its own memory to write to. What an out-pointer points to needs no value before the call.
  *
  * A result is 0, or a refusal: its low byte is the number, and the rest the detail, which is a line of the text (from 1),
  * the number of a required line, or 0. A refusal leaves all lent memory, and every value behind a pointer, as it was.
@@ -26,24 +27,34 @@ extern "C" {
 
 /* The numbers. */
 #define TELBIJAN_ACCEPTED 0
-#define TELBIJAN_NOT_UTF8 1              /* a line is not UTF-8; its line */
-#define TELBIJAN_LINE_MISSING 2          /* a required line is missing; which one */
-#define TELBIJAN_INT_VALUE 3             /* not an integer of its type; its line */
-#define TELBIJAN_CENTS_VALUE 4           /* not a cents value; its line */
-#define TELBIJAN_NUMER 5                 /* not a numerator; its line */
-#define TELBIJAN_DENOM 6                 /* not a denominator; its line */
-#define TELBIJAN_FLOAT_VALUE 7           /* not a decimal; its line */
-#define TELBIJAN_KEYBOARD_MAPPING 8      /* not a mapping entry; its line */
-#define TELBIJAN_UNSUPPORTED_NUMERAL 9   /* a numeral with an exponent, a word, or too many digits; its line */
-#define TELBIJAN_UNUSABLE 10             /* an unusable value or table; its line, or 0 */
-#define TELBIJAN_OVERFLOW 11             /* a number leaves its type; its line, or 0 */
-#define TELBIJAN_NO_ROOM 12              /* what was lent is too small; the line, or 0 */
-#define TELBIJAN_TOO_LARGE 13            /* over 65,535 entries */
-#define TELBIJAN_INCONSISTENT_COUNT 14   /* the file says another count than it has */
+#define TELBIJAN_NOT_UTF8 1 /* a line is not UTF-8; the detail is the line */
+#define TELBIJAN_LINE_MISSING 2 /* a required line is missing; the detail says which, counted from 1 */
+#define TELBIJAN_INT_VALUE 3 /* not an integer of its type; the detail is the line */
+#define TELBIJAN_CENTS_VALUE 4 /* not a cents value; the detail is the line */
+#define TELBIJAN_NUMER 5 /* not a numerator; the detail is the line */
+#define TELBIJAN_DENOM 6 /* not a denominator; the detail is the line */
+#define TELBIJAN_FLOAT_VALUE 7 /* not a decimal; the detail is the line */
+#define TELBIJAN_KEYBOARD_MAPPING 8 /* not a mapping entry; the detail is the line */
+#define TELBIJAN_UNSUPPORTED_NUMERAL 9 /* an unsupported numeral; the detail is the line */
+#define TELBIJAN_UNUSABLE 10 /* an unusable value; the detail is the line, or 0 outside a text */
+#define TELBIJAN_OVERFLOW 11 /* overflow; the detail is the line, or 0 */
+#define TELBIJAN_NO_ROOM 12 /* no room; the detail is the line, or 0 */
+#define TELBIJAN_TOO_LARGE 13 /* over 65,535 entries */
+#define TELBIJAN_INCONSISTENT_COUNT 14 /* the count of notes or entries is inconsistent */
 #define TELBIJAN_FORMAL_OCTAVE_MISSING 15 /* a builder with entries and no formal octave */
-#define TELBIJAN_KEY_OUT_OF_RANGE 16     /* the key is outside the range */
-#define TELBIJAN_UNMAPPED_KEY 17         /* the key is unmapped */
-#define TELBIJAN_BEYOND_REACH 18         /* a computed pitch or ratio is outside 2^-900..2^900 */
+#define TELBIJAN_KEY_OUT_OF_RANGE 16 /* the key is outside the range */
+#define TELBIJAN_UNMAPPED_KEY 17 /* the key is unmapped */
+#define TELBIJAN_BEYOND_REACH 18 /* beyond reach */
+
+/* A mapping is a table of entries, `map`, lent with its length, and numbers beside it: `count` entries from the table's first
+ * place on; keys from `start` up to, not including, `end` (the last key is end - 1); the `reference` key, and its pitch `hz`;
+ * `offset`, the middle key minus the reference key; `octave`, how many degrees make a formal octave. An entry is the degree of
+ * its key, from -32768 to 32767, or TELBIJAN_UNMAPPED; a table with any other number among its `count` entries is refused (10).
+ */
+#define TELBIJAN_UNMAPPED (-2147483647 - 1)
+
+/* An export of so many entries never takes more bytes than this (proved). */
+#define TELBIJAN_KBM_ROOM(count) (73 + 7 * (size_t)(count))
 
 /* ---- math.rs for C: division rounded down, and the odd part. */
 

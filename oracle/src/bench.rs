@@ -133,6 +133,22 @@ fn texts() {
     line("lines, tokens, numerals, a byte", text.len(), &times, &["the Rust"]);
 }
 
+/// A text of comments alone, as long ones stand above a scale.
+fn comments() {
+    let text = "! A comment line as files have them, with what the scale is and who made it.\n".repeat(13_000).into_bytes();
+    let times = shortest(&mut [&mut || { black_box(our_reading(&text)); }, &mut || { black_box(their_reading(&text)); }]);
+    line("comments, a byte", text.len(), &times, &["the Rust"]);
+}
+
+/// The degree of one key: nearly all of it is the test of the lent table.
+fn degrees() {
+    let text = crate::kbm::long(65_535, 65_535);
+    let mut map = vec![0; 65_535];
+    let (_, mapping) = ffi::read_kbm(&text, &mut map);
+    let times = shortest(&mut [&mut || { black_box(ffi::scale_degree_of(mapping, &map, 60)); }]);
+    line("test of a table, an entry of 65,535", 65_535, &times, &[]);
+}
+
 fn mappings() {
     let text = crate::kbm_read::long(65_535, 65_535);
     let mut map = vec![0; 65_535];
@@ -163,5 +179,7 @@ pub fn bench() {
     exponents_and_values();
     fractions();
     texts();
+    comments();
+    degrees();
     mappings();
 }

@@ -16,17 +16,17 @@ pub const DENOM: u32 = 6;
 pub const FLOAT_VALUE: u32 = 7;
 // 8: not a mapping entry; the detail is the line.
 pub const KEYBOARD_MAPPING: u32 = 8;
-// 9: an unsupported numeral; the detail is the line.
+// 9: a numeral with an exponent, a word, or over 18 digits; the detail is the line.
 pub const UNSUPPORTED_NUMERAL: u32 = 9;
-// 10: an unusable value; the detail is the line, or 0 outside a text.
+// 10: a value, a state or a lent table that cannot be used; the detail is the line, or 0 outside a text.
 pub const UNUSABLE: u32 = 10;
-// 11: overflow; the detail is the line, or 0.
+// 11: a number leaves its type; the detail is the line, or 0.
 pub const OVERFLOW: u32 = 11;
-// 12: no room; the detail is the line, or 0.
+// 12: what was lent is too small; the detail is the line, or 0.
 pub const NO_ROOM: u32 = 12;
 // 13: over 65,535 entries.
 pub const TOO_LARGE: u32 = 13;
-// 14: the count of notes or entries is inconsistent.
+// 14: the text has another count of notes or entries than it says.
 pub const INCONSISTENT_COUNT: u32 = 14;
 // 15: a builder with entries and no formal octave.
 pub const FORMAL_OCTAVE_MISSING: u32 = 15;
@@ -34,7 +34,7 @@ pub const FORMAL_OCTAVE_MISSING: u32 = 15;
 pub const KEY_OUT_OF_RANGE: u32 = 16;
 // 17: the key is unmapped.
 pub const UNMAPPED_KEY: u32 = 17;
-// 18: beyond reach.
+// 18: a computed pitch or ratio is outside 2^-900..2^900.
 pub const BEYOND_REACH: u32 = 18;
 
 // Why a call refused: the number, and the place that it is about.

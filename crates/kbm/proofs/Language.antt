@@ -15,7 +15,7 @@ use Rattle.base.proofs.Division.{floor-divides}
 use Rattle.base.proofs.Integers.{bool-cases}
 use Rattle.key.specs.declared.PianoKey.{PianoKey}
 use Rattle.kbm.specs.Degree.{degreeOfEntry, degreeAt, degreeOf}
-use Rattle.kbm.specs.Keys.{within, distance, Reaches, Has}
+use Rattle.kbm.specs.Keys.{within, distance, Reaches, Has, Lacks, Gap, Passes}
 use Rattle.kbm.specs.declared.Entry.{Entry}
 use Rattle.kbm.specs.declared.Entry.the-variants.{Mapped, Unmapped}
 use Rattle.kbm.specs.declared.Kbm.{Kbm}
@@ -80,10 +80,6 @@ same-number p e = cc
 not-given : {s : Said ℤ} {z : ℤ} {n : ℕ} → s ≡ gives z → s ≡ refuses n 0 → ⊥
 not-given p e = let no : _≡_ {A = ℕ} 0 1 = cc in omega arith
 
--- no degree: 16 or 17
-abbrev pub Lacks : Said ℤ → Type 0
-Lacks s = (s ≡ refuses key-out-of-range 0) ⊎ (s ≡ refuses unmapped-key 0)
-
 given-lacks : {s : Said ℤ} {z : ℤ} → s ≡ gives z → Lacks s → ⊥
 given-lacks p (inl e) = not-given p e
 given-lacks p (inr e) = not-given p e
@@ -91,20 +87,6 @@ given-lacks p (inr e) = not-given p e
 passed-lacks : {s : Said ℤ} → s ≡ refuses overflow 0 → Lacks s → ⊥
 passed-lacks p (inl e) = omega (arith, same-number p e)
 passed-lacks p (inr e) = omega (arith, same-number p e)
-
--- the key is inside, its distance is a number of 32 bits, and the entry that counting round reaches is unmapped
-pub record Gap (kbm : Kbm) (es : List Entry) (key : PianoKey) : Type 0 where
-  pub inside : within kbm key ≡ true
-  pub near : inI32 (distance kbm key) ≡ true
-  pub quotient : ℤ
-  pub reached : Reaches es (distance kbm key) quotient Unmapped
-
--- the entry that counting round reaches is mapped, and its degree is outside 32 bits
-pub record Passes (kbm : Kbm) (es : List Entry) (key : PianoKey) : Type 0 where
-  pub quotient : ℤ
-  pub entry : ℤ
-  pub reached : Reaches es (distance kbm key) quotient (Mapped entry)
-  pub past : inI32 (entry +ℤ quotient *ℤ kbm .octave) ≡ false
 
 module _ (kbm : Kbm) (es : List Entry) (key : PianoKey) where
   lacks-there : {s : Said ℤ} → Has kbm es key s → Lacks s → (within kbm key ≡ false) ⊎ Gap kbm es key

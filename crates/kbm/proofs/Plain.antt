@@ -10,16 +10,15 @@ use lib.ListN.{length}
 use borrow.Author.Tests.{le-leb}
 use Rattle.base.specs.Said.{gives}
 use Rattle.key.specs.Keys.{key}
-use Rattle.kbm.specs.Builder.{builderOf, withOctave, fitsTable, Built, pushedAll, built}
+use Rattle.kbm.specs.Builder.{builderOf, withOctave, fitsTable, Built, pushedAll, Appended, built, mapping}
 use Rattle.kbm.specs.Root.{isRoot}
-use Rattle.kbm.specs.Table.{areEntries, entriesOf, isTable, tableOf}
+use Rattle.kbm.specs.Table.{AreI16, areEntries, entriesOf, isTable, tableOf}
 use Rattle.kbm.specs.declared.Entry.{Entry}
 use Rattle.kbm.specs.declared.KbmRoot.{KbmRoot}
 use Rattle.kbm.specs.declared.builder.KbmBuilder.{KbmBuilder}
 use Rattle.kbm.specs.declared.builder.Octave.the-variants.{Given, Missing}
-use Rattle.kbm.proofs.Appends.{areI16, Appended, run-appends}
+use Rattle.kbm.proofs.Appends.{run-appends}
 use Rattle.kbm.proofs.Pushes.{fitting}
-use Rattle.kbm.proofs.Theorems.{mapping}
 
 -- a builder with nothing pushed
 abbrev pub empty : KbmRoot → List ℤ → KbmBuilder
@@ -45,7 +44,7 @@ built-gives : (b : KbmBuilder) (map : List ℤ) (z : ℤ) → fitsTable b map �
 unfolding built
 built-gives b map z f t r n o = rw (f, t, r, o, le-leb (b .count) 65535 n)
 
-module _ (root : KbmRoot) (map : List ℤ) (es : List Entry) (octave : ℤ) (r : isRoot root ≡ true) (i : areI16 es ≡ true) (room : length es ≤ length map) (small : length es ≤ 65535) where
+module _ (root : KbmRoot) (map : List ℤ) (es : List Entry) (octave : ℤ) (r : isRoot root ≡ true) (i : AreI16 es) (room : length es ≤ length map) (small : length es ≤ 65535) where
   pub run : (left : Built) × ((pushedAll (empty root map) map es ≡ gives left) × Appended (empty root map) map es left)
   run = run-appends es (empty root map) map (empty-fits root map) i (omega (arith, room))
 

@@ -9,7 +9,7 @@ use lib.ListN.{length}
 use borrow.Author.Tests.{eq-eqb, ne-eqb, lt-ltb, le-ltb, le-leb, lt-leb}
 use Rattle.base.specs.Numbers.{unusable, no-room}
 use Rattle.base.specs.Said.{Said, gives, refuses}
-use Rattle.kbm.specs.Builder.{fitsTable, withOneMore, pushed, tableAfter, afterPush}
+use Rattle.kbm.specs.Builder.{fitsTable, withOneMore, pushed, setWhere, afterPush}
 use Rattle.kbm.specs.Table.{numberOf}
 use Rattle.kbm.specs.declared.Entry.{Entry}
 use Rattle.kbm.specs.declared.builder.KbmBuilder.{KbmBuilder}
@@ -23,8 +23,8 @@ module _ (b : KbmBuilder) (map : List ℤ) where
   unfolding pushed
   push-other differ = rw (not-fitting differ)
 
-  pub after-push : {s : Said KbmBuilder} (e : Entry) → pushed b map ≡ s → tableAfter s map (b .count) (numberOf e) ≡ afterPush b map e
-  after-push e is = ap (λ s. tableAfter s map (b .count) (numberOf e)) (sym is)
+  pub after-push : {s : Said KbmBuilder} (e : Entry) → pushed b map ≡ s → setWhere s map (b .count) (numberOf e) ≡ afterPush b map e
+  after-push e is = ap (λ s. setWhere s map (b .count) (numberOf e)) (sym is)
 
   module _ (room : b .room ≡ length map) where
     pub fitting : b .count ≤ b .room → fitsTable b map ≡ true

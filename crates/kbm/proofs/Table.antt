@@ -1,54 +1,58 @@
 -- A lent table as a list of entries: how the code goes over it, and what stands at a place. Assumes nothing.
 use mathlib.Core.Path.{_≡_, refl, sym, _∙_, ap}
-use mathlib.Core.Bool.{true, false, _&&_}
+use mathlib.Core.Bool.{Bool, true, false, _&&_}
 use mathlib.Core.List.{List, [], _∷_}
 use Prim.Native.Nat.{ℕ, zero, suc, _+_, _≤_, _<_}
 use native.Mathlib.Nat.{le-of-suc-le-suc}
 use native.Mathlib.Numerals.{add-one}
 use native.Mathlib.Omega.{arith}
 use lib.Dec.{leb}
-use lib.IntN.{ℤ, pos}
+use lib.IntN.{ℤ, pos, negsuc}
 use lib.ListN.{length, getD, take, drop, drop-of-length-le}
 use lib.Seq.{drop-cons, getD-take, length-take-le}
-use borrow.Author.Tests.{le-leb, lt-leb, leb-true}
-use Rattle.kbm.specs.Table.{numbersOf, isEntry, entryOf, areEntries, entriesOf, isTable, tableOf}
+use borrow.Author.Tests.{le-leb, lt-leb, leb-true, ne-eqb}
+use Rattle.base.specs.Said.{pick}
+use Rattle.kbm.specs.Table.{numberOf, numbersOf, isUnmapped, inI16, IsI16, AreI16, isEntry, entryOf, areEntries, entriesOf, isTable, tableOf}
 use Rattle.kbm.specs.declared.Entry.{Entry}
-use Rattle.kbm.specs.declared.Entry.the-variants.{Unmapped}
-use Rattle.kbm.proofs.Entries.{and-both}
+use Rattle.kbm.specs.declared.Entry.the-variants.{Mapped, Unmapped}
+use Rattle.kbm.proofs.Entries.{and-both, or-second, mag-i16}
 
--- ---- going over a table: what is left of it decides
-pub record Left (count : ℕ) (map : List ℤ) (i : ℕ) : Type 0 where
+and-true : (a : Bool) → (a && true) ≡ a
+and-true true = refl
+and-true false = refl
+
+and-assoc : (a b c : Bool) → (a && (b && c)) ≡ ((a && b) && c)
+and-assoc true b c = refl
+and-assoc false b c = refl
+
+-- ---- going over a table: `all` says of the places up to i whether they hold entries
+pub record Gone (count : ℕ) (map : List ℤ) (all : Bool) (i : ℕ) : Type 0 where
   pub end : i ≤ count
   pub room : count ≤ length map
-  pub same : areEntries (take count map) ≡ areEntries (drop i (take count map))
+  pub same : areEntries (take count map) ≡ (all && areEntries (drop i (take count map)))
 
-pub begin : {count : ℕ} {map : List ℤ} → count ≤ length map → Left count map 0
+pub begin : {count : ℕ} {map : List ℤ} → count ≤ length map → Gone count map true 0
 begin room = record { end = omega arith; room = room; same = refl }
 
 -- no place for so many
 pub short : (count : ℕ) (map : List ℤ) → length map < count → false ≡ isTable count map
 short count map h = rw (lt-leb count (length map) h)
 
-module _ {count : ℕ} {map : List ℤ} {i : ℕ} (s : Left count map i) where
+module _ {count : ℕ} {map : List ℤ} {all : Bool} {i : ℕ} (s : Gone count map all i) where
   -- past the last place
-  pub finish : count ≤ i → true ≡ isTable count map
+  pub finish : count ≤ i → all ≡ isTable count map
   unfolding areEntries
   finish h =
       let l : length (take count map) ≤ i = omega (arith, length-take-le count map (s .room)) in
-      rw (le-leb count (length map) (s .room), s .same, drop-of-length-le (take count map) l)
+      rw (le-leb count (length map) (s .room), s .same, drop-of-length-le (take count map) l) (sym (and-true all))
 
-  module _ (h : i < count) where
-    next : areEntries (drop i (take count map)) ≡ (isEntry (getD map i (pos 0)) && areEntries (drop (suc i) (take count map)))
-    unfolding areEntries
-    next =
-        let l : i < length (take count map) = omega (arith, length-take-le count map (s .room), h) in
-        rw (drop-cons (take count map) i (pos 0) l, getD-take count map i (pos 0) h)
-
-    pub turn : isEntry (getD map i (pos 0)) ≡ true → Left count map (i + 1)
-    turn e = record { end = omega (arith, h); room = s .room; same = rw add-one (s .same ∙ (rw e at next)) }
-
-    pub stop : isEntry (getD map i (pos 0)) ≡ false → false ≡ isTable count map
-    stop e = rw (le-leb count (length map) (s .room), s .same ∙ (rw e at next))
+  pub turn : i < count → {t : Bool} → t ≡ isEntry (getD map i (pos 0)) → Gone count map (all && t) (i + 1)
+  unfolding areEntries
+  turn h {t} e =
+      let l : i < length (take count map) = omega (arith, length-take-le count map (s .room), h) in
+      let next : areEntries (drop i (take count map)) ≡ (t && areEntries (drop (suc i) (take count map))) =
+      rw (drop-cons (take count map) i (pos 0) l, getD-take count map i (pos 0) h, e) in
+      record { end = omega (arith, h); room = s .room; same = rw add-one (s .same ∙ ap (λ (x : Bool). all && x) next ∙ and-assoc all t (areEntries (drop (suc i) (take count map)))) }
 
 -- ---- what stands at a place
 pub length-numbers : (es : List Entry) → length (numbersOf es) ≡ length es
@@ -92,3 +96,39 @@ module _ (count : ℕ) (map : List ℤ) (t : isTable count map ≡ true) where
 
     pub table-usable : isEntry (getD map i (pos 0)) ≡ true
     table-usable = ap isEntry (sym (getD-take count map i (pos 0) h)) ∙ usable-at (take count map) i table-entries in-table
+
+-- ---- entries of 16 bits and their numbers
+not-unmapped : (z : ℤ) → inI16 z ≡ true → isUnmapped z ≡ false
+not-unmapped (pos a) h = refl
+not-unmapped (negsuc a) h = ne-eqb a 2147483647 (λ e. omega (arith, mag-i16 (negsuc a) h))
+
+number-usable : (e : Entry) → IsI16 e → isEntry (numberOf e) ≡ true
+number-usable (Mapped degree) h = rw (not-unmapped degree h) h
+number-usable Unmapped h = refl
+
+-- an entry is read back from its number
+pub entry-back : (e : Entry) → IsI16 e → entryOf (numberOf e) ≡ e
+entry-back (Mapped degree) h = rw (not-unmapped degree h)
+entry-back Unmapped h = refl
+
+pub numbers-usable : (es : List Entry) → AreI16 es → areEntries (numbersOf es) ≡ true
+unfolding areEntries numbersOf
+numbers-usable [] h = refl
+numbers-usable (e ∷ es) h = rw (number-usable e (h .0)) (numbers-usable es (h .1))
+
+pub numbers-back : (es : List Entry) → AreI16 es → entriesOf (numbersOf es) ≡ es
+unfolding entriesOf numbersOf
+numbers-back [] h = refl
+numbers-back (e ∷ es) h = rw (entry-back e (h .0), numbers-back es (h .1))
+
+-- the entries of usable numbers are of 16 bits
+pub entries-typed : (zs : List ℤ) → areEntries zs ≡ true → AreI16 (entriesOf zs)
+unfolding areEntries entriesOf
+entries-typed [] h = tt
+entries-typed (z ∷ zs) h =
+    let both = and-both (isEntry z) (areEntries zs) h in
+    (go (isUnmapped z) refl (both .0), entries-typed zs (both .1))
+  where
+    go : (b : Bool) → isUnmapped z ≡ b → isEntry z ≡ true → IsI16 (pick b Unmapped (Mapped z))
+    go true e t = tt
+    go false e t = or-second (isUnmapped z) (inI16 z) t e

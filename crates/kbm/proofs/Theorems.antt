@@ -16,9 +16,9 @@ use Rattle.base.proofs.Said.{One, Split, one-result, one-plain, one-answer}
 use Rattle.key.specs.declared.PianoKey.{PianoKey}
 use Rattle.pitch.specs.declared.Pitch.{Pitch}
 use Rattle.kbm.specs.Answers.{saysRoot, saysDegree, saysKbm, saysBuilder}
-use Rattle.kbm.specs.Builder.{builderOf, withRange, withOctave, fitsTable, pushed, afterPush, isReady, kbmWith, kbmOf, built}
+use Rattle.kbm.specs.Builder.{builderOf, withRange, withOctave, fitsTable, pushed, afterPush, isReady, kbmWith, kbmOf, built, OctaveIs, mapping, Leaves}
 use Rattle.kbm.specs.Degree.{degreeOf, scaleDegreeOf}
-use Rattle.kbm.specs.Keys.{within, distance, Has}
+use Rattle.kbm.specs.Keys.{within, distance, Has, Lacks, Gap, Passes}
 use Rattle.kbm.specs.Root.{rootOf, isRoot}
 use Rattle.kbm.specs.Table.{numberOf, isTable, tableOf}
 use Rattle.kbm.specs.declared.DegreeAnswer.the-variants as OfDegree
@@ -33,7 +33,7 @@ use Rattle.kbm.specs.declared.builder.KbmBuilder.{KbmBuilder}
 use Rattle.kbm.specs.declared.builder.Octave.{Octave}
 use Rattle.kbm.specs.declared.builder.Octave.the-variants.{Given, Missing}
 use Rattle.kbm.proofs.Entries.{and-both}
-use Rattle.kbm.proofs.Language.{has, has-one, Lacks, Gap, Passes, lacks, overflows}
+use Rattle.kbm.proofs.Language.{has, has-one, lacks, overflows}
 
 -- ---- the degree of a key
 module _ (kbm : Kbm) (map : List ℤ) (key : PianoKey) where
@@ -64,20 +64,6 @@ module _ (kbm : Kbm) (map : List ℤ) (key : PianoKey) where
     key-overflows w = rw table-used (overflows kbm (tableOf (kbm .count) map) key w)
 
 -- ---- what a build leaves
--- the formal octave that was given, or 0 where there are no entries
-abbrev pub OctaveIs : KbmBuilder → ℤ → Type 0
-OctaveIs b z = (b .octave ≡ Given z) ⊎ ((b .octave ≡ Missing) × ((b .count ≡ 0) × (z ≡ pos 0)))
-
-abbrev pub mapping : KbmBuilder → ℤ → Kbm
-mapping b z = record { root = b .root; start = b .start; end = b .end; octave = z; count = b .count }
-
-pub record Leaves (b : KbmBuilder) (map : List ℤ) (kbm : Kbm) : Type 0 where
-  pub table : isTable (kbm .count) map ≡ true
-  pub root : isRoot (kbm .root) ≡ true
-  pub small : kbm .count ≤ 65535
-  pub octave : OctaveIs b (kbm .octave)
-  pub same : kbm ≡ mapping b (kbm .octave)
-
 no-mapping : {n d : ℕ} {kbm : Kbm} → refuses n d ≡ gives kbm → ⊥
 no-mapping e = let no : _≡_ {A = ℕ} 0 1 = cc in omega arith
 

@@ -1,8 +1,9 @@
 -- What a key of a mapping has: document 01, "Keys", as a relation. "For a key in first..last let d = key - reference key [..]
--- Order: 16, 11 for d, 17, 11." That the code answers it is `has` and `has-one` of proofs/Theorems.antt. Assumes nothing.
+-- Order: 16, 11 for d, 17, 11." That the code answers it is `key-has` of proofs/Theorems.antt. Assumes nothing.
 use mathlib.Core.Path.{_≡_}
 use mathlib.Core.Bool.{Bool, true, false}
 use mathlib.Core.List.{List}
+use mathlib.Core.Logic.{_⊎_}
 use Prim.Native.Nat.{ℕ}
 use lib.IntN.{ℤ, _+ℤ_, _-ℤ_, _*ℤ_}
 use lib.ListN.{length, getD}
@@ -39,3 +40,21 @@ pub data Has (kbm : Kbm) (es : List Entry) (key : PianoKey) (s : Said ℤ) : Typ
       inI32 (e +ℤ q *ℤ kbm .octave) ≡ false → s ≡ refuses overflow 0 → Has kbm es key s
   degree : within kbm key ≡ true → inI32 (distance kbm key) ≡ true → (q e : ℤ) → Reaches es (distance kbm key) q (Mapped e) →
       inI32 (e +ℤ q *ℤ kbm .octave) ≡ true → s ≡ gives (e +ℤ q *ℤ kbm .octave) → Has kbm es key s
+
+-- no degree: 16 or 17
+abbrev pub Lacks : Said ℤ → Type 0
+Lacks s = (s ≡ refuses key-out-of-range 0) ⊎ (s ≡ refuses unmapped-key 0)
+
+-- the key is inside, its distance is a number of 32 bits, and the entry that counting round reaches is unmapped
+pub record Gap (kbm : Kbm) (es : List Entry) (key : PianoKey) : Type 0 where
+  pub inside : within kbm key ≡ true
+  pub near : inI32 (distance kbm key) ≡ true
+  pub quotient : ℤ
+  pub reached : Reaches es (distance kbm key) quotient Unmapped
+
+-- the entry that counting round reaches is mapped, and its degree is outside 32 bits
+pub record Passes (kbm : Kbm) (es : List Entry) (key : PianoKey) : Type 0 where
+  pub quotient : ℤ
+  pub entry : ℤ
+  pub reached : Reaches es (distance kbm key) quotient (Mapped entry)
+  pub past : inI32 (entry +ℤ quotient *ℤ kbm .octave) ≡ false

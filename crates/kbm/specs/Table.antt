@@ -1,9 +1,10 @@
 -- A mapping's lent table, as the interface fixes it: the number of each entry, and what a table must be to be used ("Before
 -- all else a call on lent tables gives 10 unless the count fits them, items are usable"). Assumes nothing.
-use mathlib.Core.Bool.{Bool, true, _&&_, _||_}
+use mathlib.Core.Path.{_≡_}
+use mathlib.Core.Bool.{Bool, true, false, _&&_, _||_}
 use mathlib.Core.List.{List, [], _∷_}
 use Prim.Native.Nat.{ℕ}
-use lib.Dec.{leb}
+use lib.Dec.{leb, eqb}
 use lib.IntN.{ℤ, pos, negsuc}
 use lib.ListN.{length, take}
 use lib.Signed.{leZ}
@@ -25,13 +26,24 @@ unfoldable pub numbersOf : List Entry → List ℤ
 numbersOf [] = []
 numbersOf (e ∷ es) = numberOf e ∷ numbersOf es
 
--- z is at most -2147483648, the least number of 32 bits: it is that
+-- z is -2147483648
 abbrev pub isUnmapped : ℤ → Bool
-isUnmapped z = leZ z unmapped
+isUnmapped (pos n) = false
+isUnmapped (negsuc n) = eqb n 2147483647
 
 -- -32768..32767
 abbrev pub inI16 : ℤ → Bool
 inI16 z = leZ (negsuc 32767) z && leZ z (pos 32767)
+
+-- an entry's degree is a number of 16 bits
+abbrev pub IsI16 : Entry → Type 0
+IsI16 (Mapped degree) = inI16 degree ≡ true
+IsI16 Unmapped = Unit {0}
+
+-- each entry's is
+abbrev pub AreI16 : List Entry → Type 0
+AreI16 [] = Unit {0}
+AreI16 (e ∷ es) = IsI16 e × AreI16 es
 
 -- z is the number of an entry
 abbrev pub isEntry : ℤ → Bool

@@ -107,13 +107,10 @@ impl KbmRoot {
 fn is_entry(z: i32) -> bool
     ensures { λ r. ⌜ r ≡ isEntry z ⌝ }
 {
-    if z <= UNMAPPED {
-        return true;
-    }
-    if -32768 <= z {
-        return z <= 32767;
-    }
-    false
+    let none = z == UNMAPPED;
+    let low = -32768 <= z;
+    let high = z <= 32767;
+    none | (low & high)
 }
 
 // The number of an entry.
@@ -131,29 +128,28 @@ fn entry_of(z: i32) -> Entry
     requires { ⌜ isEntry z ≡ true ⌝ }
     ensures { λ r. ⌜ r ≡ entryOf z ⌝ }
 {
-    if z <= UNMAPPED {
+    if z == UNMAPPED {
         Entry::Unmapped
     } else {
         Entry::Mapped(z as i16)
     }
 }
 
-// Whether the table has `count` places and each of them holds an entry.
+// Whether the table has `count` places and each of them holds an entry. No branch is taken on an entry, so that the compiler can
+// test several at a time.
 pub fn is_table(map: &[i32], count: usize) -> bool
     ensures { λ r. ⌜ r ≡ isTable count (now (map .entry)) ⌝ }
 {
     if map.len() < count {
         return false;
     }
+    let mut all = true;
     let mut i = 0;
     while i < count {
-        if is_entry(map[i]) {
-            i += 1;
-        } else {
-            return false;
-        }
+        all = all & is_entry(map[i]);
+        i += 1;
     }
-    true
+    all
 }
 
 // Whether the key is in `start`..`end`.

@@ -31,7 +31,7 @@ use Rattle.kbm_read.specs.declared.Head.{Head}
 use Rattle.kbm_write.specs.Export.{entryTexts}
 use Rattle.kbm_write.proofs.Plain.{selves}
 use Rattle.kbm_write.proofs.Printed.{signed-reads}
-use Rattle.kbm_write.specs.Typed.{Degrees}
+use Rattle.kbm.specs.Table.{AreI16}
 
 -- a printed integer of a type with a sign is read as that integer
 pub whole-value : (top : ℕ) (z : ℤ) → 0 < top → mag z < top → top < 10 ^ 18 → readInt true top (wholeText z) ≡ value z
@@ -79,7 +79,7 @@ unfolding walk selves takeToken
 head-read room t1 t2 t3 t4 t5 t6 t7 ts e1 e2 e3 n3 e4 e5 e6 n6 e7 = rw (e1, e2, e3, n3, e4, e5, e6, n6, e7)
 
 -- THE ENTRIES: each takes a place, where there are enough
-pub entries-read : (room k : ℕ) (h : Head) (n : ℕ) (es : List Entry) → Degrees es → n + length es ≤ room
+pub entries-read : (room k : ℕ) (h : Head) (n : ℕ) (es : List Entry) → AreI16 es → n + length es ≤ room
     → walk room k (record { due = due.Entries; head = h; count = n }) (selves (entryTexts es)) ≡ finished room (record { due = due.Entries; head = h; count = n + length es })
 unfolding walk selves entryTexts takeToken
 entries-read room k h n [] d l = rw (add-zero n)
@@ -88,7 +88,7 @@ entries-read room k h n (Mapped z ∷ es) d l =
     rw (degree-in z (d .0), lt-leb room n (omega arith), entries-read room (k + 1) h (n + 1) es (d .1) (omega arith), e)
 entries-read room k h n (Unmapped ∷ es) d l =
     let e : n + 1 + length es ≡ n + suc (length es) = omega arith in
-    rw (cross-in, lt-leb room n (omega arith), entries-read room (k + 1) h (n + 1) es d (omega arith), e)
+    rw (cross-in, lt-leb room n (omega arith), entries-read room (k + 1) h (n + 1) es (d .1) (omega arith), e)
 
 -- the end: as many entries as the size says, which have their places
 pub ends-read : (room : ℕ) (h : Head) (n : ℕ) → n ≡ h .size → n ≤ 65535 → n ≤ room → finished room (record { due = due.Entries; head = h; count = n }) ≡ gives (mappingOf h)
@@ -96,11 +96,11 @@ unfolding finished
 ends-read room h n e l r = rw (le-ltb room (h .size) (omega arith), le-ltb 65535 n (omega arith), le-ltb (h .size) n (omega arith))
 
 -- the entries that the lines give
-pub entries-given : (es : List Entry) → Degrees es → givenFrom 0 (selves (entryTexts es)) ≡ es
+pub entries-given : (es : List Entry) → AreI16 es → givenFrom 0 (selves (entryTexts es)) ≡ es
 unfolding givenFrom selves entryTexts
 entries-given [] d = refl
 entries-given (Mapped z ∷ es) d = rw (degree-in z (d .0)) (ap (λ (l : List Entry). Mapped z ∷ l) (entries-given es (d .1)))
-entries-given (Unmapped ∷ es) d = rw cross-in (ap (λ (l : List Entry). Unmapped ∷ l) (entries-given es d))
+entries-given (Unmapped ∷ es) d = rw cross-in (ap (λ (l : List Entry). Unmapped ∷ l) (entries-given es (d .1)))
 
 pub head-given : (t1 t2 t3 t4 t5 t6 t7 : List ℕ) (ts : List (List ℕ)) → givenFrom 7 (selves (t1 ∷ t2 ∷ t3 ∷ t4 ∷ t5 ∷ t6 ∷ t7 ∷ ts)) ≡ givenFrom 0 (selves ts)
 unfolding givenFrom selves

@@ -17,7 +17,7 @@ use Rattle.kbm.specs.declared.Kbm.{Kbm}
 use Rattle.text.proofs.LineLanguage.{strict-text, one-strict-text}
 use Rattle.text.specs.Reading.{Meaning, invalid, dropped, content}
 use Rattle.kbm_read.specs.Language.{Required, required, Value, Values, Begins, sizeOf, mappingFrom, MappingText, WrongLine, WrongEntry, WrongEnd, Fault, FaultText}
-use Rattle.kbm_read.specs.Reader.{entryIn, mappingOf, start, saidIn, readOf, givenFrom, givenIn, entriesIn}
+use Rattle.kbm_read.specs.Reader.{entryIn, mappingOf, unread, saidIn, readOf, givenFrom, givenIn, entriesIn}
 use Rattle.kbm_read.specs.declared.EntryRead.{EntryRead}
 use Rattle.kbm_read.specs.declared.EntryRead.the-variants as entry
 use Rattle.kbm_read.specs.declared.Head.{Head}
@@ -33,7 +33,7 @@ record Good (ms : List Meaning) (done : List Required) (h : Head) (n : ℕ) : Ty
   vs : Values done
   es : List Entry
   lines : Begins ms done vs es
-  said : h ≡ headFrom done (start .head) vs
+  said : h ≡ headFrom done (unread .head) vs
   count : n ≡ length es
 
 abbrev good : {room : ℕ} {ms : List Meaning} {q : Place} (l : Leads room startPlace ms q) → Good ms (l .done) (q .head) (q .count)
@@ -51,7 +51,7 @@ all-good l e = let d : l .done ≡ required = sym (l .fields ∙ rw e (append-ni
 
 -- and back
 leads : (room : ℕ) {ms : List Meaning} {done more : List Required} {vs : Values done} {es : List Entry} → required ≡ done ++ more → Begins ms done vs es → (more ≡ []) ⊎ (es ≡ []) →
-    length es ≤ room → Leads room startPlace ms (record { fields = more; head = headFrom done (start .head) vs; count = length es })
+    length es ≤ room → Leads room startPlace ms (record { fields = more; head = headFrom done (unread .head) vs; count = length es })
 leads room {done = done} {vs = vs} {es = es} e b o f = record {
   done = done;
   vs = vs;
@@ -79,9 +79,9 @@ whole = refl
 -- the walk over good lines and what comes after them
 walks : (room : ℕ) {ms : List Meaning} {done more : List Required} {vs : Values done} {es : List Entry} (after : List Meaning) → required ≡ done ++ more → Begins ms done vs es →
     (more ≡ []) ⊎ (es ≡ []) → length es ≤ room →
-    walkOn room 1 startPlace (ms ++ after) ≡ walkOn room (1 + length ms) (record { fields = more; head = headFrom done (start .head) vs; count = length es }) after
+    walkOn room 1 startPlace (ms ++ after) ≡ walkOn room (1 + length ms) (record { fields = more; head = headFrom done (unread .head) vs; count = length es }) after
 walks room {ms = ms} {done = done} {more = more} {vs = vs} {es = es} after e b o f =
-    follow room (record { fields = more; head = headFrom done (start .head) vs; count = length es }) after 1 startPlace ms (omega arith) (leads room e b o f)
+    follow room (record { fields = more; head = headFrom done (unread .head) vs; count = length es }) after 1 startPlace ms (omega arith) (leads room e b o f)
 
 -- ACCEPTED: what the outcome of a walk says where it gives a mapping
 accepted-text : (room : ℕ) (s : List ℕ) (x : Kbm) (r : Said Kbm) → Outcome room 1 startPlace (saidIn s) r → r ≡ gives x → MappingText s x (entriesIn (x .count) s) × (x .count ≤ room)
@@ -205,17 +205,17 @@ fault-refused : (room : ℕ) (ms : List Meaning) (n d : ℕ) → Fault room ms n
 unfolding walkOn
 fault-refused room ms n d (Fault.at-required before line after m p done f more rq vs b w) =
     let k : 1 + length before ≡ d = omega arith in
-    let step = line-refused room (1 + length before) f more (headFrom done (start .head) vs) 0 n line w in
+    let step = line-refused room (1 + length before) f more (headFrom done (unread .head) vs) 0 n line w in
     ap (walkOn room 1 startPlace) m ∙ walks room (line ∷ after) rq b (inr refl) (omega arith) ∙ rw (step, k)
 fault-refused room ms n d (Fault.at-entry before line after m p vs es b f w) =
     let k : 1 + length before ≡ d = omega arith in
-    let step = entry-refused room (1 + length before) (headFrom required (start .head) vs) es n line w in
+    let step = entry-refused room (1 + length before) (headFrom required (unread .head) vs) es n line w in
     ap (walkOn room 1 startPlace) m ∙ walks room (line ∷ after) whole b (inl refl) f ∙ rw (step, k)
 fault-refused room ms n d (Fault.missing e done f more rq p vs b) =
     let k : 8 - length (f ∷ more) ≡ d = omega (arith, ap length rq, length-append done (f ∷ more)) in
     ap (walkOn room 1 startPlace) (sym (append-nil ms)) ∙ walks room [] rq b (inr refl) (omega arith) ∙ rw (e, k)
 fault-refused room ms n d (Fault.at-end e vs es b f w) =
-    let h = headFrom required (start .head) vs in
+    let h = headFrom required (unread .head) vs in
     ap (walkOn room 1 startPlace) (sym (append-nil ms)) ∙ walks room [] whole b (inl refl) f ∙ wrong-end room h (length es) es refl f (small-size b) n w ∙ rw e
 
 module _ (room : ℕ) (s : List ℕ) where
@@ -244,7 +244,7 @@ module _ (room : ℕ) (s : List ℕ) where
       let all = ap length (t .entries) in
       let w = walks room [] whole (t .lines) (inl refl) (omega (arith, all, n, t .consistent)) in
       let says : t .says ++ [] ≡ saidIn s = append-nil (t .says) ∙ sym same in
-      let h = headFrom required (start .head) (t .values) in
+      let h = headFrom required (unread .head) (t .values) in
       let e : endOn room h (length (t .given)) [] ≡ gives (mappingFrom (t .values)) =
       gives-end room h (length (t .given)) (omega (arith, all, n, t .consistent)) (omega (arith, n, t .not-large)) (t .consistent) in
       sym walk-is ∙ ap (walkOn room 1 startPlace) (sym says) ∙ w ∙ e ∙ ap gives (sym (t .mapping))

@@ -19,7 +19,7 @@ use Rattle.decimals.specs.declared.DecimalAnswer.{DecimalAnswer}
 use Rattle.decimals.specs.declared.DecimalAnswer.the-variants as decimal
 use Rattle.text.specs.Reading.{Meaning, invalid, dropped, content}
 use Rattle.kbm_read.specs.Language.{Required, Value, required}
-use Rattle.kbm_read.specs.Reader.{intAt, goesOn, placed, entryIn, takeDue, takeToken, takeMeaning, whichOf, mappingOf, finished, start, walk}
+use Rattle.kbm_read.specs.Reader.{intAt, goesOn, placed, entryIn, takeDue, takeToken, takeMeaning, whichOf, mappingOf, finished, unread, walk}
 use Rattle.kbm_read.specs.declared.Due.{Due}
 use Rattle.kbm_read.specs.declared.Due.the-variants as due
 use Rattle.kbm_read.specs.declared.EntryRead.{EntryRead}
@@ -88,7 +88,7 @@ abbrev placeOf : State → Place
 placeOf s = record { fields = fieldsFrom (s .due); head = s .head; count = s .count }
 
 abbrev pub startPlace : Place
-startPlace = placeOf start
+startPlace = placeOf unread
 
 abbrev placesOf : Said State → Said Place
 placesOf r = andThen r (λ s. gives (placeOf s))
@@ -174,5 +174,5 @@ walk-place room k s (m ∷ ms) z = ap (λ r. andThen r (λ q. walkOn room (k + 1
     go (gives s′) p ih = ih s′ (meaning-early room k m s s′ z p)
     go (refuses n d) p ih = refl
 
-pub same-walk : (room : ℕ) (ms : List Meaning) → walkOn room 1 startPlace ms ≡ walk room 1 start ms
-same-walk room ms = walk-place room 1 start ms refl
+pub same-walk : (room : ℕ) (ms : List Meaning) → walkOn room 1 startPlace ms ≡ walk room 1 unread ms
+same-walk room ms = walk-place room 1 unread ms refl

@@ -6,11 +6,9 @@ use Prim.Native.Nat.{ℕ}
 use lib.IntN.{ℤ}
 use lib.ListN.{length}
 use Rattle.base.proofs.Said.{One, Split, one-result, one-plain}
-use Rattle.base.specs.Tables.{after}
 use Rattle.kbm.specs.Answers.{saysKbm}
-use Rattle.kbm.specs.Table.{numbersOf}
 use Rattle.kbm.specs.declared.KbmAnswer.the-variants as answer
-use Rattle.kbm_read.specs.Reader.{readOf, entriesIn}
+use Rattle.kbm_read.specs.Reader.{readOf, afterRead}
 
 kbm-split : Split answer.Is answer.Refused
 kbm-split (answer.Is k) = inl (k, refl)
@@ -20,5 +18,5 @@ module _ (text : List ℕ) (map : List ℤ) where
   pub read-kbm-one : One saysKbm (readOf (length map) text)
   read-kbm-one = one-plain kbm-split saysKbm (λ k. refl) (λ r. refl) (readOf (length map) text)
 
-  pub read-kbm-table : One (λ r. r) (after (readOf (length map) text) (λ k. numbersOf (entriesIn (k .count) text)) map)
-  read-kbm-table = one-result (after (readOf (length map) text) (λ k. numbersOf (entriesIn (k .count) text)) map)
+  pub read-kbm-table : One (λ r. r) (afterRead text map)
+  read-kbm-table = one-result (afterRead text map)

@@ -6,12 +6,13 @@ use Prim.Native.Nat.{ℕ, zero, suc, _+_, _-_, _^_}
 use lib.Dec.{leb, ltb, eqb}
 use lib.Ieee.{binary64, ofBits}
 use lib.IntN.{ℤ, pos, natAbs, _+ℤ_, _-ℤ_}
-use lib.ListN.{set}
+use lib.ListN.{length, set}
 use lib.Signed.{leZ}
 use Rattle.base.specs.Numbers.{not-utf8, line-missing, int-value, float-value, keyboard-mapping, unsupported-numeral, unusable, overflow, no-room, too-large, inconsistent-count}
 use Rattle.base.specs.Said.{Said, gives, refuses, refusal, pick, andThen}
+use Rattle.base.specs.Tables.{after}
 use Rattle.floats.specs.Ranges.{inPitch}
-use Rattle.kbm.specs.Table.{unmapped}
+use Rattle.kbm.specs.Table.{unmapped, numbersOf}
 use Rattle.kbm.specs.declared.Entry.{Entry}
 use Rattle.kbm.specs.declared.Entry.the-variants.{Mapped, Unmapped}
 use Rattle.kbm.specs.declared.Kbm.{Kbm}
@@ -173,8 +174,8 @@ finished room s =
     (gives (mappingOf (s .head))))))
 
 -- before the first line
-abbrev pub start : State
-start = record { due = due.Size; head = record { size = 0; first = pos 0; end = pos 0; middle = pos 0; reference = pos 0; hz = ofBits binary64 0; octave = pos 0 }; count = 0 }
+abbrev pub unread : State
+unread = record { due = due.Size; head = record { size = 0; first = pos 0; end = pos 0; middle = pos 0; reference = pos 0; hz = ofBits binary64 0; octave = pos 0 }; count = 0 }
 
 -- the lines from number k on, after what was said
 unfoldable pub walk : ℕ → ℕ → State → List Meaning → Said Kbm
@@ -187,7 +188,7 @@ saidIn text = meanings strictly (lines text)
 
 -- THE READER: the mapping that a text is, where the table has so many places; or a refusal
 abbrev pub readOf : ℕ → List ℕ → Said Kbm
-readOf room text = walk room 1 start (saidIn text)
+readOf room text = walk room 1 unread (saidIn text)
 
 -- an entry, where the token is one
 abbrev pub foundEntry : EntryRead → Found
@@ -216,6 +217,10 @@ givenIn text = givenFrom 7 (saidIn text)
 -- the entries of a mapping of that size: missing ones are added as unmapped
 abbrev pub entriesIn : ℕ → List ℕ → List Entry
 entriesIn size text = added size (givenIn text)
+
+-- THE TABLE after a read: an accepted text's entries in its first places
+abbrev pub afterRead : List ℕ → List ℤ → List ℤ
+afterRead text map = after (readOf (length map) text) (λ k. numbersOf (entriesIn (k .count) text)) map
 
 -- the table with so many unmapped entries from place i on
 unfoldable pub padded : ℕ → ℕ → List ℤ → List ℤ

@@ -23,12 +23,12 @@ ghost use mathlib.Core.Path.{_≡_};
 ghost use Prim.Native.Nat.{ℕ, _-_, _≤_};
 ghost use lib.ListN.{length};
 ghost use Rattle.base.specs.Said.{refuses};
-ghost use Rattle.base.specs.Tables.{over, after};
+ghost use Rattle.base.specs.Tables.{over};
 ghost use Rattle.kbm.specs.Answers.{saysKbm};
-ghost use Rattle.kbm.specs.Table.{numberOf, numbersOf};
+ghost use Rattle.kbm.specs.Table.{numbersOf};
 ghost use Rattle.text.specs.ReadLine.{shown};
 ghost use Rattle.text.proofs.Shown.{Within};
-ghost use Rattle.kbm_read.specs.Reader.{saysStep, start, takeSize, takeFirst, takeLast, takeMiddle, takeReference, decimalRefused, takePitch, takeOctave, takeEntry, entryIn, takeToken, takeMeaning, whichOf, mappingOf, finished, readOf, foundIn, givenIn, entriesIn, padded};
+ghost use Rattle.kbm_read.specs.Reader.{saysStep, unread, goesOn, decimalRefused, takeEntry, entryIn, takeToken, takeMeaning, whichOf, mappingOf, finished, readOf, foundIn, givenIn, afterRead, padded};
 
 // What the next line with content is: one of the seven required ones, or an entry.
 pub enum Due {
@@ -95,79 +95,12 @@ fn refused(number: u32, line: usize) -> Step
     })
 }
 
-// The size of the map, a u16; 3.
-fn take_size(token: &[u8], line: usize, mut head: Head) -> Step
-    ensures { λ r. ⌜ saysStep r ≡ takeSize line (now (token .entry)) head ⌝ }
+// The line after a required one is due, and the head says so much.
+fn goes_on(due: Due, head: Head) -> Step
+    ensures { λ r. ⌜ saysStep r ≡ goesOn due head ⌝ }
 {
-    let U16::Is(size) = read_u16(token) else {
-        return refused(base::INT_VALUE, line);
-    };
-    head.size = size;
     Step::Is(State {
-        due: Due::FirstKey,
-        head,
-        count: 0,
-    })
-}
-
-// The first key, an i32; 3.
-fn take_first(token: &[u8], line: usize, mut head: Head) -> Step
-    ensures { λ r. ⌜ saysStep r ≡ takeFirst line (now (token .entry)) head ⌝ }
-{
-    let I32::Is(first) = read_i32(token) else {
-        return refused(base::INT_VALUE, line);
-    };
-    head.first = first;
-    Step::Is(State {
-        due: Due::LastKey,
-        head,
-        count: 0,
-    })
-}
-
-// The last key, an i32; 3, and 11 for the largest.
-fn take_last(token: &[u8], line: usize, mut head: Head) -> Step
-    ensures { λ r. ⌜ saysStep r ≡ takeLast line (now (token .entry)) head ⌝ }
-{
-    let I32::Is(last) = read_i32(token) else {
-        return refused(base::INT_VALUE, line);
-    };
-    if LARGEST <= last {
-        return refused(base::OVERFLOW, line);
-    }
-    head.end = last + 1;
-    Step::Is(State {
-        due: Due::MiddleKey,
-        head,
-        count: 0,
-    })
-}
-
-// The middle key, an i16; 3.
-fn take_middle(token: &[u8], line: usize, mut head: Head) -> Step
-    ensures { λ r. ⌜ saysStep r ≡ takeMiddle line (now (token .entry)) head ⌝ }
-{
-    let I16::Is(middle) = read_i16(token) else {
-        return refused(base::INT_VALUE, line);
-    };
-    head.middle = middle;
-    Step::Is(State {
-        due: Due::ReferenceKey,
-        head,
-        count: 0,
-    })
-}
-
-// The reference key, an i16; 3.
-fn take_reference(token: &[u8], line: usize, mut head: Head) -> Step
-    ensures { λ r. ⌜ saysStep r ≡ takeReference line (now (token .entry)) head ⌝ }
-{
-    let I16::Is(reference) = read_i16(token) else {
-        return refused(base::INT_VALUE, line);
-    };
-    head.reference = reference;
-    Step::Is(State {
-        due: Due::ReferencePitch,
+        due,
         head,
         count: 0,
     })
@@ -182,40 +115,6 @@ fn decimal_refused(answer: DecimalAnswer, line: usize) -> Step
         DecimalAnswer::Bad => refused(base::FLOAT_VALUE, line),
         DecimalAnswer::Is(_) => refused(base::FLOAT_VALUE, line),
     }
-}
-
-// The reference pitch in Hz, in 2^-10..2^20; 7, 9, 10.
-fn take_pitch(token: &[u8], line: usize, mut head: Head) -> Step
-    ensures { λ r. ⌜ saysStep r ≡ takePitch line (now (token .entry)) head ⌝ }
-{
-    let answer = read_decimal(token);
-    let DecimalAnswer::Is(hz) = answer else {
-        return decimal_refused(answer, line);
-    };
-    if floats::is_in_pitch(hz) {
-        head.hz = hz;
-        return Step::Is(State {
-            due: Due::Octave,
-            head,
-            count: 0,
-        });
-    }
-    refused(base::UNUSABLE, line)
-}
-
-// The formal octave, an i16; 3.
-fn take_octave(token: &[u8], line: usize, mut head: Head) -> Step
-    ensures { λ r. ⌜ saysStep r ≡ takeOctave line (now (token .entry)) head ⌝ }
-{
-    let I16::Is(octave) = read_i16(token) else {
-        return refused(base::INT_VALUE, line);
-    };
-    head.octave = octave;
-    Step::Is(State {
-        due: Due::Entries,
-        head,
-        count: 0,
-    })
 }
 
 // The entry that a token is: `x`, `X` or an i16.
@@ -255,19 +154,70 @@ fn take_entry(token: &[u8], line: usize, room: usize, state: State) -> Step
     })
 }
 
-// The token of the line that is due.
+// The token of the line that is due: an integer of its type (3; 11 for the largest last key), the pitch in Hz, in 2^-10..2^20 (7,
+// 9, 10), or an entry (8, 12).
 fn take_token(token: &[u8], line: usize, room: usize, state: State) -> Step
     ensures { λ r. ⌜ saysStep r ≡ takeToken room line (now (token .entry)) state ⌝ }
 {
     let due = state.due;
+    let mut head = state.head;
     match due {
-        Due::Size => take_size(token, line, state.head),
-        Due::FirstKey => take_first(token, line, state.head),
-        Due::LastKey => take_last(token, line, state.head),
-        Due::MiddleKey => take_middle(token, line, state.head),
-        Due::ReferenceKey => take_reference(token, line, state.head),
-        Due::ReferencePitch => take_pitch(token, line, state.head),
-        Due::Octave => take_octave(token, line, state.head),
+        Due::Size => {
+            let U16::Is(size) = read_u16(token) else {
+                return refused(base::INT_VALUE, line);
+            };
+            head.size = size;
+            goes_on(Due::FirstKey, head)
+        }
+        Due::FirstKey => {
+            let I32::Is(first) = read_i32(token) else {
+                return refused(base::INT_VALUE, line);
+            };
+            head.first = first;
+            goes_on(Due::LastKey, head)
+        }
+        Due::LastKey => {
+            let I32::Is(last) = read_i32(token) else {
+                return refused(base::INT_VALUE, line);
+            };
+            if LARGEST <= last {
+                return refused(base::OVERFLOW, line);
+            }
+            head.end = last + 1;
+            goes_on(Due::MiddleKey, head)
+        }
+        Due::MiddleKey => {
+            let I16::Is(middle) = read_i16(token) else {
+                return refused(base::INT_VALUE, line);
+            };
+            head.middle = middle;
+            goes_on(Due::ReferenceKey, head)
+        }
+        Due::ReferenceKey => {
+            let I16::Is(reference) = read_i16(token) else {
+                return refused(base::INT_VALUE, line);
+            };
+            head.reference = reference;
+            goes_on(Due::ReferencePitch, head)
+        }
+        Due::ReferencePitch => {
+            let answer = read_decimal(token);
+            let DecimalAnswer::Is(hz) = answer else {
+                return decimal_refused(answer, line);
+            };
+            if floats::is_in_pitch(hz) {
+                head.hz = hz;
+                return goes_on(Due::Octave, head);
+            }
+            refused(base::UNUSABLE, line)
+        }
+        Due::Octave => {
+            let I16::Is(octave) = read_i16(token) else {
+                return refused(base::INT_VALUE, line);
+            };
+            head.octave = octave;
+            goes_on(Due::Entries, head)
+        }
         Due::Entries => take_entry(token, line, room, state),
     }
 }
@@ -358,8 +308,8 @@ fn finish(state: State, room: usize) -> KbmAnswer
 }
 
 // Before the first line.
-fn start() -> State
-    ensures { λ r. ⌜ r ≡ start ⌝ }
+fn unread() -> State
+    ensures { λ r. ⌜ r ≡ unread ⌝ }
 {
     State {
         due: Due::Size,
@@ -382,7 +332,7 @@ fn check(text: &[u8], room: usize) -> KbmAnswer
 {
     let mut at = 0;
     let mut line = 1;
-    let mut state = start();
+    let mut state = unread();
     while at < text.len() {
         let ends = next_line(text, at);
         let says = read_line(text, at, ends.end);
@@ -399,16 +349,6 @@ fn check(text: &[u8], room: usize) -> KbmAnswer
         at = ends.next;
     }
     finish(state, room)
-}
-
-// The number that stands for an entry in a table.
-fn number_of(entry: Entry) -> i32
-    ensures { λ r. ⌜ r ≡ numberOf entry ⌝ }
-{
-    match entry {
-        Entry::Mapped(degree) => degree as i32,
-        Entry::Unmapped => kbm::UNMAPPED,
-    }
 }
 
 // What a line gives the table, where so many of the seven required lines are still to come.
@@ -453,7 +393,7 @@ fn fill(text: &[u8], map: &mut [i32]) -> usize
                 required -= 1;
             }
             Found::Is(entry) => {
-                map[n] = number_of(entry);
+                map[n] = kbm::number_of(entry);
                 n += 1;
             }
         }
@@ -476,7 +416,7 @@ fn pad(map: &mut [i32], from: usize, to: usize)
 
 // The mapping that the text is, its entries in `map`; or the first fault by 01's order, with `map` as it was.
 pub fn read_kbm(text: &[u8], map: &mut [i32]) -> KbmAnswer
-    ensures { λ r. ⌜ (saysKbm r ≡ readOf (length (now (map .entry))) (now (text .entry))) × (now (map .exit) ≡ after (readOf (length (now (map .entry))) (now (text .entry))) (λ k. numbersOf (entriesIn (k .count) (now (text .entry)))) (now (map .entry))) ⌝ }
+    ensures { λ r. ⌜ (saysKbm r ≡ readOf (length (now (map .entry))) (now (text .entry))) × (now (map .exit) ≡ afterRead (now (text .entry)) (now (map .entry))) ⌝ }
 {
     let answer = check(text, map.len());
     let KbmAnswer::Is(mapping) = answer else {

@@ -22,13 +22,14 @@ use Rattle.decimals.specs.DecimalText as Decimal
 use Rattle.printing.specs.PrintText.{scaledOf, textOf, wholeText, signText}
 use Rattle.printing.proofs.Form.{printed}
 use Rattle.kbm.specs.Degree.{degreeOfEntry, degreeAt}
+use Rattle.kbm.specs.Table.{AreI16}
 use Rattle.kbm.specs.declared.Entry.{Entry}
 use Rattle.kbm.specs.declared.Entry.the-variants.{Mapped, Unmapped}
 use Rattle.kbm.specs.declared.Kbm.{Kbm}
 use Rattle.kbm.proofs.Entries.{mag-i16}
 use Rattle.kbm_write.specs.Export.{lastOf, middleOf, entryTexts, exportText}
 use Rattle.kbm_write.specs.Published as P
-use Rattle.kbm_write.specs.Typed.{Degrees, Typed}
+use Rattle.kbm_write.specs.Typed.{Typed}
 use Rattle.kbm_write.proofs.ExportLines.{exportTexts, export-lines, export-words}
 use Rattle.kbm_write.proofs.Lines.{pitch-limited}
 use Rattle.kbm_write.proofs.Plain.{Word, Words}
@@ -86,11 +87,11 @@ frequency x h =
     }
 
 -- each entry is a degree or a cross
-degrees : (es : List Entry) → Degrees es → P.Degrees (entryTexts es) es
+degrees : (es : List Entry) → AreI16 es → P.Degrees (entryTexts es) es
 unfolding entryTexts
 degrees [] d = tt
 degrees (Mapped z ∷ es) d = ((wholeText z, alone (wholeText z), P.Degree.degree z (whole-number z (omega (arith, mag-i16 z (d .0))))), degrees es (d .1))
-degrees (Unmapped ∷ es) d = ((120 ∷ [], alone (120 ∷ []), P.Degree.cross refl), degrees es d)
+degrees (Unmapped ∷ es) d = ((120 ∷ [], alone (120 ∷ []), P.Degree.cross refl), degrees es (d .1))
 
 -- what a mapping says in the published format
 abbrev pub publishedOf : Kbm → List Entry → P.Mapping

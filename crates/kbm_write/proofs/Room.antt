@@ -18,7 +18,7 @@ use Rattle.floats.proofs.Ranges.{and-true}
 use Rattle.floats.specs.Ranges.{inPitch}
 use Rattle.kbm.specs.Table.{isTable, areEntries, tableOf}
 use Rattle.kbm.specs.declared.Kbm.{Kbm}
-use Rattle.kbm_write.specs.Export.{line, linesText, lastOf, middleOf, exportText, fitted, heldText, exportOf, sizeOf}
+use Rattle.kbm_write.specs.Export.{line, linesText, lastOf, middleOf, exportText, fitted, heldText, exportOf, textLength}
 use Rattle.kbm_write.proofs.Lines.{lines-append}
 
 -- keys, pitch, formal octave, entries
@@ -33,12 +33,12 @@ module _ (keys : List (List ℕ)) (pitch octave : List ℕ) (entries : List (Lis
   four-length = rw four-runs (simp length-append)
 
 -- a text that is longer than the lent bytes is refused, and the bytes stay
-pub too-long : (l t : List ℕ) → length l < length t → (refuses no-room 0 ≡ sizeOf (fitted (length l) t)) × (l ≡ after (fitted (length l) t) (λ x. x) l)
+pub too-long : (l t : List ℕ) → length l < length t → (refuses no-room 0 ≡ textLength (fitted (length l) t)) × (l ≡ after (fitted (length l) t) (λ x. x) l)
 unfolding fitted
 too-long l t h = let z = lt-leb (length t) (length l) h in (rw z, rw z)
 
 -- any other is written from the first byte on
-pub long-enough : (l m : List ℕ) (r : ℕ) (t : List ℕ) → length t ≤ length l → r ≡ length t → m ≡ sets l 0 t → (gives r ≡ sizeOf (fitted (length l) t)) × (m ≡ after (fitted (length l) t) (λ x. x) l)
+pub long-enough : (l m : List ℕ) (r : ℕ) (t : List ℕ) → length t ≤ length l → r ≡ length t → m ≡ sets l 0 t → (gives r ≡ textLength (fitted (length l) t)) × (m ≡ after (fitted (length l) t) (λ x. x) l)
 unfolding fitted
 long-enough l m r t h e f =
     let z = le-leb (length t) (length l) h in

@@ -19,7 +19,7 @@ use Rattle.floats.specs.Ranges.{inPitch}
 use Rattle.kbm.specs.Table.{isTable, tableOf}
 use Rattle.kbm.specs.declared.Kbm.{Kbm}
 use Rattle.kbm_write.specs.Answers.{saysSize}
-use Rattle.kbm_write.specs.Export.{lastOf, middleOf, exportText, fitted, exportOf, sizeOf}
+use Rattle.kbm_write.specs.Export.{lastOf, middleOf, exportText, fitted, exportOf, textLength}
 use Rattle.kbm_write.specs.declared.SizeAnswer.the-variants as OfSize
 
 size-split : Split OfSize.Is OfSize.Refused
@@ -32,8 +32,8 @@ size-one = one-plain size-split saysSize (λ n. refl) (λ r. refl)
 
 -- one result, and one state of the lent bytes
 module _ (kbm : Kbm) (map : List ℤ) (out : List ℕ) where
-  pub export-kbm-one : One saysSize (sizeOf (exportOf kbm map (length out)))
-  export-kbm-one = size-one (sizeOf (exportOf kbm map (length out)))
+  pub export-kbm-one : One saysSize (textLength (exportOf kbm map (length out)))
+  export-kbm-one = size-one (textLength (exportOf kbm map (length out)))
 
   pub export-kbm-bytes : One (λ l. l) (after (exportOf kbm map (length out)) (λ t. t) out)
   export-kbm-bytes = one-result (after (exportOf kbm map (length out)) (λ t. t) out)

@@ -81,5 +81,5 @@ exportOf kbm map room =
     pick (isTable (kbm .count) map && inPitch (kbm .root .pitch .0)) (heldText kbm (tableOf (kbm .count) map) room) (refuses unusable 0)
 
 -- the number of bytes written
-abbrev pub sizeOf : Said (List ℕ) → Said ℕ
-sizeOf said = andThen said (λ t. gives (length t))
+abbrev pub textLength : Said (List ℕ) → Said ℕ
+textLength said = andThen said (λ t. gives (length t))

@@ -2,22 +2,15 @@
 -- exports start from. Assumes nothing.
 use mathlib.Core.Path.{_≡_}
 use mathlib.Core.Bool.{true}
-use mathlib.Core.List.{List, [], _∷_}
+use mathlib.Core.List.{List}
 use Prim.Native.Nat.{_≤_}
 use lib.ListN.{length}
 use Rattle.base.specs.Integers.{inI32}
 use Rattle.floats.specs.Ranges.{inPitch}
-use Rattle.kbm.specs.Table.{inI16}
+use Rattle.kbm.specs.Table.{inI16, AreI16}
 use Rattle.kbm.specs.declared.Entry.{Entry}
-use Rattle.kbm.specs.declared.Entry.the-variants.{Mapped, Unmapped}
 use Rattle.kbm.specs.declared.Kbm.{Kbm}
 use Rattle.kbm_write.specs.Export.{lastOf, middleOf}
-
--- each degree is an i16
-abbrev pub Degrees : List Entry → Type 0
-Degrees [] = Unit {0}
-Degrees (Mapped degree ∷ es) = (inI16 degree ≡ true) × Degrees es
-Degrees (Unmapped ∷ es) = Degrees es
 
 -- keys and octave are of their types, the pitch is usable, last and middle key are keys, and the entries are as many as the count
 pub record Typed (kbm : Kbm) (es : List Entry) : Type 0 where
@@ -29,5 +22,5 @@ pub record Typed (kbm : Kbm) (es : List Entry) : Type 0 where
   pub size : kbm .count ≤ 65535
   pub last : inI32 (lastOf kbm) ≡ true
   pub middle : inI32 (middleOf kbm) ≡ true
-  pub degrees : Degrees es
+  pub degrees : AreI16 es
   pub counted : length es ≡ kbm .count

@@ -15,7 +15,7 @@ ghost use Rattle.floats.specs.Ranges.{inPitch};
 ghost use Rattle.printing.specs.PrintText.{textOf, wholeText};
 ghost use Rattle.kbm.specs.Table.{isTable, entryOf, entriesOf};
 ghost use Rattle.kbm_write.specs.Answers.{saysSize};
-ghost use Rattle.kbm_write.specs.Export.{line, linesText, keyTexts, soundTexts, tableText, mappingText, entryText, entryTexts, fitted, heldText, exportOf, sizeOf};
+ghost use Rattle.kbm_write.specs.Export.{line, linesText, keyTexts, soundTexts, tableText, mappingText, entryText, entryTexts, fitted, heldText, exportOf, textLength};
 
 // How many bytes were written.
 pub enum SizeAnswer {
@@ -70,7 +70,7 @@ fn write_entry(z: i32, out: &mut [u8], at: usize) -> usize
     ensures { λ r. ⌜ r ≡ at + length (line (entryText (entryOf z))) ⌝ }
     ensures { λ r. ⌜ now (out .exit) ≡ sets (now (out .entry)) at (line (entryText (entryOf z))) ⌝ }
 {
-    if z <= kbm::UNMAPPED {
+    if z == kbm::UNMAPPED {
         out[at] = b'x';
         out[at + 1] = b'\n';
         return at + 2;
@@ -191,7 +191,7 @@ fn write_mapping(
     out: &mut [u8],
 ) -> SizeAnswer
     requires { ⌜ (inPitch hz ≡ true) × (length (now map) ≤ 65535) ⌝ }
-    ensures { λ r. ⌜ saysSize r ≡ sizeOf (fitted (length (now (out .entry))) (mappingText size first last middle reference hz octave (entriesOf (now (map .entry))))) ⌝ }
+    ensures { λ r. ⌜ saysSize r ≡ textLength (fitted (length (now (out .entry))) (mappingText size first last middle reference hz octave (entriesOf (now (map .entry))))) ⌝ }
     ensures { λ r. ⌜ now (out .exit) ≡ after (fitted (length (now (out .entry))) (mappingText size first last middle reference hz octave (entriesOf (now (map .entry))))) (λ t. t) (now (out .entry)) ⌝ }
 {
     let total = mapping_length(size, first, last, middle, reference, hz, octave, map);
@@ -207,7 +207,7 @@ fn write_mapping(
 // The text of a mapping with these entries; 11 where its last or its middle key is outside 32 bits, then 12.
 fn write_held(kbm: Kbm, entries: &[i32], out: &mut [u8]) -> SizeAnswer
     requires { ⌜ (inPitch (kbm .root .pitch .0) ≡ true) × (length (now entries) ≤ 65535) ⌝ }
-    ensures { λ r. ⌜ saysSize r ≡ sizeOf (heldText kbm (entriesOf (now (entries .entry))) (length (now (out .entry)))) ⌝ }
+    ensures { λ r. ⌜ saysSize r ≡ textLength (heldText kbm (entriesOf (now (entries .entry))) (length (now (out .entry)))) ⌝ }
     ensures { λ r. ⌜ now (out .exit) ≡ after (heldText kbm (entriesOf (now (entries .entry))) (length (now (out .entry)))) (λ t. t) (now (out .entry)) ⌝ }
 {
     let size = kbm.count as i32;
@@ -238,7 +238,7 @@ fn write_held(kbm: Kbm, entries: &[i32], out: &mut [u8]) -> SizeAnswer
 // The text of a mapping into the lent bytes, and how many it takes. 10 for an unusable table or pitch, 11 where the last or
 // the middle key is outside 32 bits, 12 where the text is longer than the bytes; then nothing is written.
 pub fn export_kbm(kbm: Kbm, map: &[i32], out: &mut [u8]) -> SizeAnswer
-    ensures { λ r. ⌜ saysSize r ≡ sizeOf (exportOf kbm (now (map .entry)) (length (now (out .entry)))) ⌝ }
+    ensures { λ r. ⌜ saysSize r ≡ textLength (exportOf kbm (now (map .entry)) (length (now (out .entry)))) ⌝ }
     ensures { λ r. ⌜ now (out .exit) ≡ after (exportOf kbm (now (map .entry)) (length (now (out .entry)))) (λ t. t) (now (out .entry)) ⌝ }
 {
     let count = kbm.count as usize;

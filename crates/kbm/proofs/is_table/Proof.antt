@@ -1,4 +1,4 @@
--- `is_table` meets its contract. The invariant: the places up to i hold entries, so what is left decides.
+-- `is_table` meets its contract. The invariant: `all` says whether the places up to i hold entries, and what is left decides with it.
 -- The measure is the number of places left. Assumes nothing.
 use Prim.Native.Nat.{_-_}
 use borrow.Author.Needs.{needs}
@@ -6,15 +6,15 @@ use native.Mathlib.Omega.{arith}
 use lib.IntN.{pos}
 use lib.ListN.{getD}
 use Rattle.kbm.proofs.Entries.{read-is}
-use Rattle.kbm.proofs.Table.{Left, begin, short, turn, stop, finish}
+use Rattle.kbm.proofs.Table.{Gone, begin, short, turn, finish}
 use Rattle.kbm.proofs.is_table.Statement.{statement}
 use Rattle.kbm.proofs.is_table.Tie as tie
 
 abbrev Inv-loop : tie.InvT-loop
-Inv-loop map count i₀ i = Left count map i
+Inv-loop map count all₀ i₀ all i = Gone count map all i
 
 abbrev μ-loop : tie.MeasureT-loop
-μ-loop map count i₀ i = count - i
+μ-loop map count all₀ i₀ all i = count - i
 
 returns : tie.Need-returns Inv-loop μ-loop
 returns c = short (c .before .args .count) (c .before .args .map .now) (c .if1 .taken)
@@ -32,23 +32,19 @@ is-entry-requires : tie.Need-is-entry-requires Inv-loop μ-loop
 is-entry-requires c κs = search needs
 
 add-i : tie.Need-add-i Inv-loop μ-loop
-add-i c = omega (arith, c .before .before .before .loop-test .taken)
+add-i c = omega arith
 
 loop-less : tie.Need-loop-less Inv-loop μ-loop
-loop-less c = omega (arith, c .before .before .before .loop-test .taken)
+loop-less c = omega arith
 
 loop-again : tie.Need-loop-again Inv-loop μ-loop
 loop-again c =
-    let read = c .before .before in
-    turn (read .before .before .loop .inv) (read .before .loop-test .taken) (read-is (getD (read .before .before .before .before .args .map .now) (read .before .before .loop .i) (pos 0)) (record { sfits = read .is-entry-arg .given }) (c .before .is-entry .ensures) (c .if2 .taken))
+    let read = c .before in
+    let l = read .before .before in
+    turn (l .loop .inv) (read .before .loop-test .taken) (read-is (getD (l .before .before .args .map .now) (l .loop .i) (pos 0)) (record { sfits = read .is-entry-arg .given }) (c .is-entry .ensures))
 
 returns-2 : tie.Need-returns-2 Inv-loop μ-loop
-returns-2 c =
-    let read = c .before .before in
-    stop (read .before .before .loop .inv) (read .before .loop-test .taken) (read-is (getD (read .before .before .before .before .args .map .now) (read .before .before .loop .i) (pos 0)) (record { sfits = read .is-entry-arg .given }) (c .before .is-entry .ensures) (c .if2 .left))
-
-returns-3 : tie.Need-returns-3 Inv-loop μ-loop
-returns-3 c = finish (c .before .loop .inv) (c .loop-test .left)
+returns-2 c = finish (c .before .loop .inv) (c .loop-test .left)
 
 pub is-table-spec : {M : Type 1} → statement M
 is-table-spec =
@@ -64,5 +60,4 @@ is-table-spec =
     add-i
     loop-less
     loop-again
-    returns-2
-    returns-3)
+    returns-2)

@@ -20,11 +20,11 @@ Inv-loop text room at₀ line₀ state₀ at line state =
 abbrev μ-loop : tie.MeasureT-loop
 μ-loop text room at₀ line₀ state₀ at line state = length text - at
 
-start-requires : tie.Need-start-requires Inv-loop μ-loop
-start-requires c κs = search needs
+unread-requires : tie.Need-unread-requires Inv-loop μ-loop
+unread-requires c κs = search needs
 
 loop-holds : tie.Need-loop-holds Inv-loop μ-loop
-loop-holds c = (omega arith, omega arith, rw (c .start .ensures))
+loop-holds c = (omega arith, omega arith, rw (c .unread .ensures))
 
 next-line-requires : tie.Need-next-line-requires Inv-loop μ-loop
 next-line-requires c κs = search needs
@@ -68,4 +68,4 @@ returns-2 : tie.Need-returns-2 Inv-loop μ-loop
 returns-2 c = c .finish .ensures ∙ sym (c .before .before .loop .inv .2 ∙ walk-end _ _ _ (said-end _ _ (c .before .loop-test .left)))
 
 pub check-spec : {M : Type 1} → statement M
-check-spec = tie.close (tie.spec Inv-loop μ-loop start-requires loop-holds next-line-requires read-line-requires take-line-requires enum-known-step returns enum-known-step-2 add-line loop-less loop-again finish-requires returns-2)
+check-spec = tie.close (tie.spec Inv-loop μ-loop unread-requires loop-holds next-line-requires read-line-requires take-line-requires enum-known-step returns enum-known-step-2 add-line loop-less loop-again finish-requires returns-2)

@@ -10,16 +10,16 @@ use borrow.Author.Needs.{needs}
 use mir.Facts.{toZ-ofZ}
 use mir.Syntax.{w32}
 use Rattle.kbm.specs.Table.{isUnmapped}
-use Rattle.kbm_write.specs.Export.{line}
+use Rattle.kbm.proofs.Entries.{unmapped-yes, unmapped-no}
 use Rattle.kbm_write.proofs.Lines.{unmapped-text, mapped-text, x-written}
 use Rattle.kbm_write.proofs.write_entry.Statement.{statement}
 use Rattle.kbm_write.proofs.write_entry.Tie as tie
 
 taken : (c : tie.Then1) → isUnmapped (c .before .before .args .z) ≡ true
-taken c = rw (toZ-ofZ {w = w32} (c .before .before .fits .z)) at (c .if1 .taken)
+taken c = unmapped-yes (c .before .before .fits .z) (c .if1 .taken)
 
 left : (c : tie.Else1) → isUnmapped (c .before .before .args .z) ≡ false
-left c = rw (toZ-ofZ {w = w32} (c .before .before .fits .z)) at (c .if1 .left)
+left c = unmapped-no (c .before .before .fits .z) (c .if1 .left)
 
 two : (c : tie.Then1) → c .before .before .args .at + 2 ≤ length (now (c .before .before .args .out))
 two c = rw (unmapped-text (c .before .before .args .z) (taken c)) at (c .before .before .pre)

@@ -1,0 +1,281 @@
+// Keyboard mappings for C: a lent table of entries, and beside it the mapping's numbers. An entry is a degree from -32768 to 32767, or -2147483648 for none.
+use kbm::Kbm;
+use kbm::KbmAnswer;
+use kbm::KbmRoot;
+use kbm::RootAnswer;
+use kbm::builder::BuilderAnswer;
+use kbm::builder::KbmBuilder;
+use kbm::builder::Octave;
+use kbm_write::SizeAnswer;
+use key::PianoKey;
+use pitch::Pitch;
+ghost use mathlib.Core.Path.{_≡_};
+ghost use lib.ListN.{length};
+ghost use Rattle.base.specs.Tables.{after};
+ghost use Rattle.key.specs.Keys.{key};
+ghost use Rattle.kbm.specs.Builder.{pushed, afterPush, built};
+ghost use Rattle.kbm.specs.Degree.{scaleDegreeOf};
+ghost use Rattle.kbm.specs.Root.{rootOf};
+ghost use Rattle.kbm.specs.declared.Entry.the-variants.{Mapped, Unmapped};
+ghost use Rattle.kbm_read.specs.Reader.{readOf, afterRead};
+ghost use Rattle.kbm_write.specs.Export.{exportOf, textLength};
+ghost use Rattle.telbijan_answers.specs.Interface.{result, kept, partOf};
+ghost use Rattle.telbijan_mappings.specs.Mappings.{rootWith, mappingWith, octaveWith, builderWith, pushingWith};
+
+// The mapping of its numbers.
+fn mapping(
+    count: u16,
+    start: i32,
+    end: i32,
+    reference: i32,
+    hz: f64,
+    offset: i32,
+    octave: i16,
+) -> Kbm
+    ensures { λ r. ⌜ r ≡ mappingWith count start end reference hz offset octave ⌝ }
+{
+    Kbm {
+        root: KbmRoot {
+            reference: PianoKey(reference),
+            pitch: Pitch(hz),
+            offset,
+        },
+        start: PianoKey(start),
+        end: PianoKey(end),
+        octave,
+        count,
+    }
+}
+
+// The degree of a key, stored: 10 for a table that cannot be used, 16 outside start..end (end is outside), 17 unmapped, 11
+// where a number passes 32 bits.
+#[no_mangle]
+pub extern "C" fn telbijan_scale_degree_of(
+    map: &[i32],
+    count: u16,
+    start: i32,
+    end: i32,
+    reference: i32,
+    hz: f64,
+    offset: i32,
+    octave: i16,
+    number: i32,
+    degree: &mut i32,
+) -> u64
+    ensures { λ r. ⌜ r ≡ result (scaleDegreeOf (mappingWith count start end reference hz offset octave) (now (map .entry)) (key number)) ⌝ }
+    ensures { λ _. ⌜ now (degree .exit) ≡ kept (scaleDegreeOf (mappingWith count start end reference hz offset octave) (now (map .entry)) (key number)) (now (degree .entry)) ⌝ }
+{
+    let kbm = mapping(count, start, end, reference, hz, offset, octave);
+    telbijan_answers::store_degree(kbm::scale_degree_of(kbm, map, PianoKey(number)), degree)
+}
+
+// The text of a mapping, written into the lent bytes; the number of bytes is stored. 10 for a table or pitch that cannot be
+// used, 11 where the last or the middle key passes 32 bits, 12 where the text is longer than the bytes.
+#[no_mangle]
+pub extern "C" fn telbijan_export_kbm(
+    map: &[i32],
+    count: u16,
+    start: i32,
+    end: i32,
+    reference: i32,
+    hz: f64,
+    offset: i32,
+    octave: i16,
+    out: &mut [u8],
+    written: &mut usize,
+) -> u64
+    ensures { λ r. ⌜ r ≡ result (textLength (exportOf (mappingWith count start end reference hz offset octave) (now (map .entry)) (length (now (out .entry))))) ⌝ }
+    ensures { λ _. ⌜ now (out .exit) ≡ after (exportOf (mappingWith count start end reference hz offset octave) (now (map .entry)) (length (now (out .entry)))) (λ t. t) (now (out .entry)) ⌝ }
+    ensures { λ _. ⌜ now (written .exit) ≡ kept (textLength (exportOf (mappingWith count start end reference hz offset octave) (now (map .entry)) (length (now (out .entry))))) (now (written .entry)) ⌝ }
+{
+    let kbm = mapping(count, start, end, reference, hz, offset, octave);
+    match kbm_write::export_kbm(kbm, map, out) {
+        SizeAnswer::Is(size) => {
+            *written = size;
+            0
+        }
+        SizeAnswer::Refused(refusal) => telbijan_answers::code_of(refusal),
+    }
+}
+
+// Whether a mapping's root can be used: 10 for a pitch outside 2^-10..2^20.
+#[no_mangle]
+pub extern "C" fn telbijan_kbm_root(reference: i32, hz: f64, offset: i32) -> u64
+    ensures { λ r. ⌜ r ≡ result (rootOf (key reference) (record { 0 = hz }) offset) ⌝ }
+{
+    match KbmRoot::new(PianoKey(reference), Pitch(hz), offset) {
+        RootAnswer::Is(_) => 0,
+        RootAnswer::Refused(refusal) => telbijan_answers::code_of(refusal),
+    }
+}
+
+// A builder that only pushes.
+fn pushing(room: usize, count: usize) -> KbmBuilder
+    ensures { λ r. ⌜ r ≡ pushingWith room count ⌝ }
+{
+    KbmBuilder {
+        root: KbmRoot {
+            reference: PianoKey(0),
+            pitch: Pitch(1.0),
+            offset: 0,
+        },
+        start: PianoKey(0),
+        end: PianoKey(128),
+        octave: Octave::Missing,
+        room,
+        count,
+    }
+}
+
+// One mapped entry more, at place `count` of a table of `room` places; the new count is stored. 10 for a room or count that
+// is not the table's, 12 with no place left.
+#[no_mangle]
+pub extern "C" fn telbijan_push_mapped_key(
+    map: &mut [i32],
+    room: usize,
+    count: usize,
+    degree: i16,
+    after: &mut usize,
+) -> u64
+    ensures { λ r. ⌜ r ≡ result (pushed (pushingWith room count) (now (map .entry))) ⌝ }
+    ensures { λ _. ⌜ now (map .exit) ≡ afterPush (pushingWith room count) (now (map .entry)) (Mapped degree) ⌝ }
+    ensures { λ _. ⌜ now (after .exit) ≡ kept (partOf (λ b. b .count) (pushed (pushingWith room count) (now (map .entry)))) (now (after .entry)) ⌝ }
+{
+    match pushing(room, count).push_mapped_key(map, degree) {
+        BuilderAnswer::Is(builder) => {
+            let next = builder.count;
+            *after = next;
+            0
+        }
+        BuilderAnswer::Refused(refusal) => telbijan_answers::code_of(refusal),
+    }
+}
+
+// One unmapped entry more, in the same way.
+#[no_mangle]
+pub extern "C" fn telbijan_push_unmapped_key(
+    map: &mut [i32],
+    room: usize,
+    count: usize,
+    after: &mut usize,
+) -> u64
+    ensures { λ r. ⌜ r ≡ result (pushed (pushingWith room count) (now (map .entry))) ⌝ }
+    ensures { λ _. ⌜ now (map .exit) ≡ afterPush (pushingWith room count) (now (map .entry)) Unmapped ⌝ }
+    ensures { λ _. ⌜ now (after .exit) ≡ kept (partOf (λ b. b .count) (pushed (pushingWith room count) (now (map .entry)))) (now (after .entry)) ⌝ }
+{
+    match pushing(room, count).push_unmapped_key(map) {
+        BuilderAnswer::Is(builder) => {
+            let next = builder.count;
+            *after = next;
+            0
+        }
+        BuilderAnswer::Refused(refusal) => telbijan_answers::code_of(refusal),
+    }
+}
+
+// A formal octave that was given or not.
+fn octave_of(given: bool, octave: i16) -> Octave
+    ensures { λ r. ⌜ r ≡ octaveWith given octave ⌝ }
+{
+    if given {
+        Octave::Given(octave)
+    } else {
+        Octave::Missing
+    }
+}
+
+// The mapping of the entries that were pushed: its count and its formal octave are stored. 10 for a state, table or pitch
+// that cannot be used, 15 for entries and no formal octave, 13 over 65,535 entries.
+#[no_mangle]
+pub extern "C" fn telbijan_build_kbm(
+    map: &[i32],
+    room: usize,
+    count: usize,
+    start: i32,
+    end: i32,
+    reference: i32,
+    hz: f64,
+    offset: i32,
+    given: bool,
+    octave: i16,
+    entries: &mut u16,
+    formal: &mut i16,
+) -> u64
+    ensures { λ r. ⌜ r ≡ result (built (builderWith room count start end reference hz offset (octaveWith given octave)) (now (map .entry))) ⌝ }
+    ensures { λ _. ⌜ now (entries .exit) ≡ kept (partOf (λ k. k .count) (built (builderWith room count start end reference hz offset (octaveWith given octave)) (now (map .entry)))) (now (entries .entry)) ⌝ }
+    ensures { λ _. ⌜ now (formal .exit) ≡ kept (partOf (λ k. k .octave) (built (builderWith room count start end reference hz offset (octaveWith given octave)) (now (map .entry)))) (now (formal .entry)) ⌝ }
+{
+    let builder = KbmBuilder {
+        root: KbmRoot {
+            reference: PianoKey(reference),
+            pitch: Pitch(hz),
+            offset,
+        },
+        start: PianoKey(start),
+        end: PianoKey(end),
+        octave: octave_of(given, octave),
+        room,
+        count,
+    };
+    match builder.build(map) {
+        KbmAnswer::Is(kbm) => {
+            let size = kbm.count;
+            let degrees = kbm.octave;
+            *entries = size;
+            *formal = degrees;
+            0
+        }
+        KbmAnswer::Refused(refusal) => telbijan_answers::code_of(refusal),
+    }
+}
+
+// A mapping file, read: its entries go to the first places of the table, and its numbers are stored. The refusals are 1, 2,
+// 3, 7, 8, 9, 10, 11 and 12 with their line, 12 and 13 and 14 at the end.
+#[no_mangle]
+pub extern "C" fn telbijan_read_kbm(
+    text: &[u8],
+    map: &mut [i32],
+    count: &mut u16,
+    start: &mut i32,
+    end: &mut i32,
+    reference: &mut i32,
+    hz: &mut f64,
+    offset: &mut i32,
+    octave: &mut i16,
+) -> u64
+    ensures { λ r. ⌜ r ≡ result (readOf (length (now (map .entry))) (now (text .entry))) ⌝ }
+    ensures { λ _. ⌜ now (map .exit) ≡ afterRead (now (text .entry)) (now (map .entry)) ⌝ }
+    ensures { λ _. ⌜ now (count .exit) ≡ kept (partOf (λ k. k .count) (readOf (length (now (map .entry))) (now (text .entry)))) (now (count .entry)) ⌝ }
+    ensures { λ _. ⌜ now (start .exit) ≡ kept (partOf (λ k. k .start .0) (readOf (length (now (map .entry))) (now (text .entry)))) (now (start .entry)) ⌝ }
+    ensures { λ _. ⌜ now (end .exit) ≡ kept (partOf (λ k. k .end .0) (readOf (length (now (map .entry))) (now (text .entry)))) (now (end .entry)) ⌝ }
+    ensures { λ _. ⌜ now (reference .exit) ≡ kept (partOf (λ k. k .root .reference .0) (readOf (length (now (map .entry))) (now (text .entry)))) (now (reference .entry)) ⌝ }
+    ensures { λ _. ⌜ now (hz .exit) ≡ kept (partOf (λ k. k .root .pitch .0) (readOf (length (now (map .entry))) (now (text .entry)))) (now (hz .entry)) ⌝ }
+    ensures { λ _. ⌜ now (offset .exit) ≡ kept (partOf (λ k. k .root .offset) (readOf (length (now (map .entry))) (now (text .entry)))) (now (offset .entry)) ⌝ }
+    ensures { λ _. ⌜ now (octave .exit) ≡ kept (partOf (λ k. k .octave) (readOf (length (now (map .entry))) (now (text .entry)))) (now (octave .entry)) ⌝ }
+{
+    match kbm_read::read_kbm(text, map) {
+        KbmAnswer::Is(kbm) => {
+            let size = kbm.count;
+            let first = kbm.start;
+            let from = first.0;
+            let stop = kbm.end;
+            let to = stop.0;
+            let root = kbm.root;
+            let referred = root.reference;
+            let number = referred.0;
+            let sounding = root.pitch;
+            let frequency = sounding.0;
+            let apart = root.offset;
+            let degrees = kbm.octave;
+            *count = size;
+            *start = from;
+            *end = to;
+            *reference = number;
+            *hz = frequency;
+            *offset = apart;
+            *octave = degrees;
+            0
+        }
+        KbmAnswer::Refused(refusal) => telbijan_answers::code_of(refusal),
+    }
+}
