@@ -142,10 +142,10 @@ fn comments() {
 
 /// The degree of one key: nearly all of it is the test of the lent table.
 fn degrees() {
-    let text = crate::kbm::long(65_535, 65_535);
+    let text = crate::kbm_read::long(65_535, 65_535);
     let mut map = vec![0; 65_535];
-    let (_, mapping) = ffi::read_kbm(&text, &mut map);
-    let times = shortest(&mut [&mut || { black_box(ffi::scale_degree_of(mapping, &map, 60)); }]);
+    let (_, mapping) = ffi_kbm::read_kbm(&text, &mut map);
+    let times = shortest(&mut [&mut || { black_box(ffi_kbm::scale_degree_of(mapping, &map, 60)); }]);
     line("test of a table, an entry of 65,535", 65_535, &times, &[]);
 }
 

@@ -1,6 +1,6 @@
 //! Inner functions, from the crate `probes`.
 
-use crate::lent::Float;
+use crate::lent::{Float, lend};
 use crate::tally::Code;
 
 unsafe extern "C" {
@@ -13,18 +13,13 @@ unsafe extern "C" {
     pub safe fn probe_is_in_search(x: f64) -> bool;
     pub safe fn probe_is_in_generator(x: f64) -> bool;
     pub safe fn probe_is_in_pitch(x: f64) -> bool;
-    fn probe_line_end(source: *const u8, length: usize, at: usize) -> usize;
-    fn probe_line_next(source: *const u8, length: usize, at: usize) -> usize;
-    fn probe_says(source: *const u8, length: usize, from: usize, to: usize) -> u32;
-    fn probe_start(source: *const u8, length: usize, from: usize, to: usize) -> usize;
-    fn probe_end(source: *const u8, length: usize, from: usize, to: usize) -> usize;
-    fn probe_token(source: *const u8, length: usize, from: usize, to: usize) -> usize;
+    fn probe_next_line(source: *const u8, length: usize, at: usize, next: *mut usize) -> usize;
+    fn probe_read_line(source: *const u8, length: usize, from: usize, to: usize, start: *mut usize, end: *mut usize, token: *mut usize) -> u32;
     fn probe_read_u16(s: *const u8, length: usize) -> i64;
     fn probe_read_u32(s: *const u8, length: usize) -> i64;
     fn probe_read_i16(s: *const u8, length: usize) -> i64;
     fn probe_read_i32(s: *const u8, length: usize) -> i64;
-    fn probe_decimal_kind(s: *const u8, length: usize) -> u32;
-    fn probe_decimal_value(s: *const u8, length: usize) -> f64;
+    fn probe_read_decimal(s: *const u8, length: usize, value: *mut f64) -> u32;
     fn probe_write_fixed(x: f64, decimals: u64, plus: bool, out: *mut u8, length: usize, at: usize) -> usize;
     fn probe_write_i32(z: i32, out: *mut u8, length: usize, at: usize) -> usize;
     fn probe_write_u32(n: u32, out: *mut u8, length: usize, at: usize) -> usize;
@@ -32,7 +27,9 @@ unsafe extern "C" {
 
 /// Where the line at a place ends, and where the next starts.
 pub fn next_line(source: &[u8], at: usize) -> (usize, usize) {
-    unsafe { (probe_line_end(source.as_ptr(), source.len(), at), probe_line_next(source.as_ptr(), source.len(), at)) }
+    let mut next = OLD;
+    let end = unsafe { probe_next_line(source.as_ptr(), source.len(), at, &mut next) };
+    (end, next)
 }
 
 /// What a line says: nothing where it is dropped or no UTF-8.
@@ -42,12 +39,13 @@ pub enum Line {
     Content { start: usize, end: usize, token: usize },
 }
 
+const OLD: usize = 0x5AA5_A55A;
+
 pub fn read_line(source: &[u8], from: usize, to: usize) -> (Code, Line) {
-    let (s, n) = (source.as_ptr(), source.len());
-    let (says, start, end, token) = unsafe { (probe_says(s, n, from, to), probe_start(s, n, from, to), probe_end(s, n, from, to), probe_token(s, n, from, to)) };
+    let (mut start, mut end, mut token) = (OLD, OLD, OLD);
+    let says = unsafe { probe_read_line(source.as_ptr(), source.len(), from, to, &mut start, &mut end, &mut token) };
     match says {
-        0 => (Code::refusal(1, 0), Line::None),
-        1 => (Code::ACCEPTED, Line::None),
+        0 | 1 if (start, end, token) == (OLD, OLD, OLD) => (Code(1 - u64::from(says)), Line::None),
         _ => (Code::ACCEPTED, Line::Content { start, end, token }),
     }
 }
@@ -75,12 +73,11 @@ pub fn read_i32(s: &[u8]) -> Option<i32> {
 
 /// A decimal, 7 for none and 9 for one that is unsupported.
 pub fn read_decimal(s: &[u8]) -> (Code, Float) {
-    let (kind, value) = unsafe { (probe_decimal_kind(s.as_ptr(), s.len()), probe_decimal_value(s.as_ptr(), s.len())) };
-    match kind {
-        0 => (Code::refusal(7, 0), Float::Untouched),
-        1 => (Code::refusal(9, 0), Float::Untouched),
-        _ => (Code::ACCEPTED, Float::of(value)),
-    }
+    let (code, float, ()) = lend(|value| {
+        let said = unsafe { probe_read_decimal(s.as_ptr(), s.len(), value) };
+        (Code([7, 9, 0][said as usize]), ())
+    });
+    (code, float)
 }
 
 /// The place after what was written, or none where it does not fit or is not to be written.

@@ -1,10 +1,10 @@
--- How a probe says an answer by one number, with nothing stored beside it. Assumes nothing.
+-- How a probe says an answer: by one number, and what is stored where something is given. Assumes nothing.
 use mathlib.Core.Bool.{Bool, true, false, _&&_}
 use Prim.Native.Nat.{ℕ, _-_, _^_}
 use lib.Dec.{leb}
 use lib.IntN.{ℤ, pos}
 use lib.Ieee.{Float, binary64, ofBits, le}
-use Rattle.floats.specs.Floats.{zeroF, abs}
+use Rattle.floats.specs.Floats.{abs}
 use Rattle.integers.specs.Integer.{Int, value, none}
 use Rattle.decimals.specs.declared.DecimalAnswer.{DecimalAnswer}
 use Rattle.decimals.specs.declared.DecimalAnswer.the-variants.{Is, Unsupported, Bad}
@@ -24,21 +24,21 @@ lineKind NotUtf8 = 0
 lineKind Dropped = 1
 lineKind (Content a e t) = 2
 
--- start, end and token's end of content; else 0
-abbrev pub lineStart : LineSays → ℕ
-lineStart NotUtf8 = 0
-lineStart Dropped = 0
-lineStart (Content a e t) = a
+-- start, end and token's end of content, or what was there
+abbrev pub lineStart : LineSays → ℕ → ℕ
+lineStart NotUtf8 old = old
+lineStart Dropped old = old
+lineStart (Content a e t) old = a
 
-abbrev pub lineEnd : LineSays → ℕ
-lineEnd NotUtf8 = 0
-lineEnd Dropped = 0
-lineEnd (Content a e t) = e
+abbrev pub lineEnd : LineSays → ℕ → ℕ
+lineEnd NotUtf8 old = old
+lineEnd Dropped old = old
+lineEnd (Content a e t) old = e
 
-abbrev pub lineToken : LineSays → ℕ
-lineToken NotUtf8 = 0
-lineToken Dropped = 0
-lineToken (Content a e t) = t
+abbrev pub lineToken : LineSays → ℕ → ℕ
+lineToken NotUtf8 old = old
+lineToken Dropped old = old
+lineToken (Content a e t) old = t
 
 -- 0 no decimal, 1 unsupported, 2 a decimal
 abbrev pub decimalKind : DecimalAnswer → ℕ
@@ -46,11 +46,11 @@ decimalKind Bad = 0
 decimalKind Unsupported = 1
 decimalKind (Is v) = 2
 
--- the decimal; else 0.0
-abbrev pub decimalValue : DecimalAnswer → Float
-decimalValue Bad = zeroF
-decimalValue Unsupported = zeroF
-decimalValue (Is v) = v
+-- the decimal, or what was there
+abbrev pub decimalValue : DecimalAnswer → Float → Float
+decimalValue Bad old = old
+decimalValue Unsupported old = old
+decimalValue (Is v) old = v
 
 -- the next place, or 2^64 - 1, which none is
 abbrev pub placeOf : Placed → ℕ

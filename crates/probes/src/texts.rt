@@ -1,4 +1,4 @@
-// Lines, tokens and numerals, for the comparison with Rust's std. Each answer is one number.
+// Lines, tokens and numerals, for the comparison with Rust's std. What is not given leaves the room lent for it as it was.
 use decimals::DecimalAnswer;
 use integers::I16;
 use integers::I32;
@@ -25,106 +25,57 @@ const NONE: i64 = 4294967296;
 
 const FULL: usize = 18446744073709551615;
 
-// Where the line that starts at a place ends, and where the next one starts.
+// Where the line that starts at a place ends; where the next one starts is stored.
 #[no_mangle]
-pub extern "C" fn probe_line_end(source: &[u8], at: usize) -> usize
+pub extern "C" fn probe_next_line(source: &[u8], at: usize, next: &mut usize) -> usize
     ensures { λ r. ⌜ r ≡ cut at (drop at (now (source .entry))) .end ⌝ }
+    ensures { λ _. ⌜ now (next .exit) ≡ cut at (drop at (now (source .entry))) .next ⌝ }
 {
     let ends = text::lines::next_line(source, at);
+    let after = ends.next;
+    *next = after;
     ends.end
 }
 
-#[no_mangle]
-pub extern "C" fn probe_line_next(source: &[u8], at: usize) -> usize
-    ensures { λ r. ⌜ r ≡ cut at (drop at (now (source .entry))) .next ⌝ }
-{
-    let ends = text::lines::next_line(source, at);
-    ends.next
-}
-
-// What a line says: 0 not UTF-8, 1 dropped, 2 content, which has a start, an end and a token's end.
-fn kind_of(says: LineSays) -> u32
+// What a line says, stored where it has content.
+fn store_line(says: LineSays, start: &mut usize, end: &mut usize, token: &mut usize) -> u32
     ensures { λ r. ⌜ r ≡ lineKind says ⌝ }
+    ensures { λ _. ⌜ now (start .exit) ≡ lineStart says (now (start .entry)) ⌝ }
+    ensures { λ _. ⌜ now (end .exit) ≡ lineEnd says (now (end .entry)) ⌝ }
+    ensures { λ _. ⌜ now (token .exit) ≡ lineToken says (now (token .entry)) ⌝ }
 {
     match says {
         LineSays::NotUtf8 => 0,
         LineSays::Dropped => 1,
         LineSays::Content {
-            start: _,
-            end: _,
-            token_end: _,
-        } => 2,
-    }
-}
-
-#[no_mangle]
-pub extern "C" fn probe_says(source: &[u8], from: usize, to: usize) -> u32
-    ensures { λ r. ⌜ r ≡ lineKind (lineOf strictly (now (source .entry)) from to) ⌝ }
-{
-    kind_of(text::line::read_line(source, from, to))
-}
-
-fn start_of(says: LineSays) -> usize
-    ensures { λ r. ⌜ r ≡ lineStart says ⌝ }
-{
-    match says {
-        LineSays::NotUtf8 => 0,
-        LineSays::Dropped => 0,
-        LineSays::Content {
             start: a,
-            end: _,
-            token_end: _,
-        } => a,
-    }
-}
-
-#[no_mangle]
-pub extern "C" fn probe_start(source: &[u8], from: usize, to: usize) -> usize
-    ensures { λ r. ⌜ r ≡ lineStart (lineOf strictly (now (source .entry)) from to) ⌝ }
-{
-    start_of(text::line::read_line(source, from, to))
-}
-
-fn end_of(says: LineSays) -> usize
-    ensures { λ r. ⌜ r ≡ lineEnd says ⌝ }
-{
-    match says {
-        LineSays::NotUtf8 => 0,
-        LineSays::Dropped => 0,
-        LineSays::Content {
-            start: _,
             end: b,
-            token_end: _,
-        } => b,
-    }
-}
-
-#[no_mangle]
-pub extern "C" fn probe_end(source: &[u8], from: usize, to: usize) -> usize
-    ensures { λ r. ⌜ r ≡ lineEnd (lineOf strictly (now (source .entry)) from to) ⌝ }
-{
-    end_of(text::line::read_line(source, from, to))
-}
-
-fn token_of(says: LineSays) -> usize
-    ensures { λ r. ⌜ r ≡ lineToken says ⌝ }
-{
-    match says {
-        LineSays::NotUtf8 => 0,
-        LineSays::Dropped => 0,
-        LineSays::Content {
-            start: _,
-            end: _,
             token_end: c,
-        } => c,
+        } => {
+            *start = a;
+            *end = b;
+            *token = c;
+            2
+        }
     }
 }
 
+// What a line says: 0 not UTF-8, 1 dropped, 2 content, whose start, end and token's end are stored.
 #[no_mangle]
-pub extern "C" fn probe_token(source: &[u8], from: usize, to: usize) -> usize
-    ensures { λ r. ⌜ r ≡ lineToken (lineOf strictly (now (source .entry)) from to) ⌝ }
+pub extern "C" fn probe_read_line(
+    source: &[u8],
+    from: usize,
+    to: usize,
+    start: &mut usize,
+    end: &mut usize,
+    token: &mut usize,
+) -> u32
+    ensures { λ r. ⌜ r ≡ lineKind (lineOf strictly (now (source .entry)) from to) ⌝ }
+    ensures { λ _. ⌜ now (start .exit) ≡ lineStart (lineOf strictly (now (source .entry)) from to) (now (start .entry)) ⌝ }
+    ensures { λ _. ⌜ now (end .exit) ≡ lineEnd (lineOf strictly (now (source .entry)) from to) (now (end .entry)) ⌝ }
+    ensures { λ _. ⌜ now (token .exit) ≡ lineToken (lineOf strictly (now (source .entry)) from to) (now (token .entry)) ⌝ }
 {
-    token_of(text::line::read_line(source, from, to))
+    store_line(text::line::read_line(source, from, to), start, end, token)
 }
 
 fn number_of_u16(answer: U16) -> i64
@@ -192,38 +143,26 @@ pub extern "C" fn probe_read_i32(s: &[u8]) -> i64
 }
 
 // 0 no decimal, 1 unsupported, 2 a decimal, which has a value.
-fn decimal_kind(answer: DecimalAnswer) -> u32
+fn store_decimal(answer: DecimalAnswer, value: &mut f64) -> u32
     ensures { λ r. ⌜ r ≡ decimalKind answer ⌝ }
+    ensures { λ _. ⌜ now (value .exit) ≡ decimalValue answer (now (value .entry)) ⌝ }
 {
     match answer {
-        DecimalAnswer::Is(_) => 2,
+        DecimalAnswer::Is(x) => {
+            *value = x;
+            2
+        }
         DecimalAnswer::Unsupported => 1,
         DecimalAnswer::Bad => 0,
     }
 }
 
 #[no_mangle]
-pub extern "C" fn probe_decimal_kind(s: &[u8]) -> u32
+pub extern "C" fn probe_read_decimal(s: &[u8], value: &mut f64) -> u32
     ensures { λ r. ⌜ r ≡ decimalKind (readDecimal (now (s .entry))) ⌝ }
+    ensures { λ _. ⌜ now (value .exit) ≡ decimalValue (readDecimal (now (s .entry))) (now (value .entry)) ⌝ }
 {
-    decimal_kind(decimals::read_decimal(s))
-}
-
-fn decimal_value(answer: DecimalAnswer) -> f64
-    ensures { λ r. ⌜ r ≡ decimalValue answer ⌝ }
-{
-    match answer {
-        DecimalAnswer::Is(x) => x,
-        DecimalAnswer::Unsupported => 0.0,
-        DecimalAnswer::Bad => 0.0,
-    }
-}
-
-#[no_mangle]
-pub extern "C" fn probe_decimal_value(s: &[u8]) -> f64
-    ensures { λ r. ⌜ r ≡ decimalValue (readDecimal (now (s .entry))) ⌝ }
-{
-    decimal_value(decimals::read_decimal(s))
+    store_decimal(decimals::read_decimal(s), value)
 }
 
 // The next place, or one that is none.

@@ -2,6 +2,7 @@
 // many are the same and how many differ. The list is made by `oracle freeze`.
 //
 // An integer that was read is frozen as the bits of the float that it is, so that no reader judges itself; none is 2^32.
+use decimals::DecimalAnswer;
 use frozen::Counts;
 use frozen::Float;
 use frozen::Size;
@@ -66,15 +67,11 @@ fn is_same_said(text: &[u8], line: &[u8], at: usize) -> bool {
 
 // `decimal TEXT`: `none`, `unsupported`, or the value.
 fn is_same_decimal(text: &[u8], line: &[u8], at: usize) -> bool {
-    let kind = probes::texts::probe_decimal_kind(text);
-    if kind == 0 {
-        return is_word(b"none", line, at);
+    match decimals::read_decimal(text) {
+        DecimalAnswer::Is(x) => frozen::is_last(frozen::is_float(x, line, at), line, at),
+        DecimalAnswer::Unsupported => is_word(b"unsupported", line, at),
+        DecimalAnswer::Bad => is_word(b"none", line, at),
     }
-    if kind == 1 {
-        return is_word(b"unsupported", line, at);
-    }
-    let value = probes::texts::probe_decimal_value(text);
-    frozen::is_last(frozen::is_float(value, line, at), line, at)
 }
 
 fn is_integer(number: i64, line: &[u8], at: usize) -> bool {
