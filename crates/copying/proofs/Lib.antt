@@ -1,3 +1,7 @@
 pub mod Texts
-pub mod Theorems
 pub mod Details
+pub mod Given
+pub mod Exports
+pub mod Copies
+pub mod Language
+pub mod Theorems

@@ -1,53 +1,30 @@
 // What the program `kbmcopy` does between reading and writing: a mapping's text to its export's, or to the line that refuses it.
 // Document 01, "Writing".
-use base::Refusal;
+use kbm::Kbm;
 use kbm::KbmAnswer;
 use kbm_write::SizeAnswer;
 use printing::Placed;
 ghost use mathlib.Core.Path.{_≡_};
-ghost use Prim.Native.Nat.{_+_, _≤_};
-ghost use lib.ListN.{length};
+ghost use Prim.Native.Nat.{_+_, _^_, _≤_, _<_};
+ghost use lib.ListN.{length, take};
 ghost use lib.Seq.{sets};
-ghost use Rattle.base.specs.Tables.{over, after};
-ghost use Rattle.kbm_write.specs.Answers.{saysSize};
-ghost use Rattle.kbm_write.specs.Export.{sizeOf};
-ghost use Rattle.copying.specs.Copy.{copyOf, capped, wordText, numberText, refusedText, mapAfter, printedIn, mapIn};
+ghost use Rattle.base.specs.Said.{gives};
+ghost use Rattle.base.specs.Tables.{over};
+ghost use Rattle.kbm.specs.Table.{tableOf};
+ghost use Rattle.kbm_write.specs.Export.{exportOf, exportText};
+ghost use Rattle.copying.specs.Copy.{wordText, numberText, refusedText, copyText, printed};
 
 // The longest text that is read: "input over 65,536 bytes gives `refused 12 0`".
-pub const LONGEST: usize = 65536;
+const LONGEST: usize = 65536;
 
-// 12: the text is over 65,536 bytes.
-const TOO_LONG: Refusal = Refusal {
-    number: base::NO_ROOM,
-    detail: 0,
-};
+// One byte more, so that a longer one is seen.
+pub const INPUT: usize = 65537;
 
-// The export of the mapping that the text is, in `out`, and how many bytes it takes; its entries are left in `map`. 12 for a text
-// over 65,536 bytes, then the reader's refusals, then the export's (those leave the entries that were read).
-pub fn copy(text: &[u8], map: &mut [i32], out: &mut [u8]) -> SizeAnswer
-    ensures { λ r. ⌜ saysSize r ≡ sizeOf (copyOf (now (text .entry)) (now (map .entry)) (length (now (out .entry)))) ⌝ }
-    ensures { λ r. ⌜ now (out .exit) ≡ after (copyOf (now (text .entry)) (now (map .entry)) (length (now (out .entry)))) (λ t. t) (now (out .entry)) ⌝ }
-    ensures { λ r. ⌜ now (map .exit) ≡ mapAfter (now (text .entry)) (now (map .entry)) ⌝ }
-{
-    if LONGEST < text.len() {
-        return SizeAnswer::Refused(TOO_LONG);
-    }
-    match kbm_read::read_kbm(text, map) {
-        KbmAnswer::Is(mapping) => kbm_write::export_kbm(mapping, map, out),
-        KbmAnswer::Refused(refusal) => SizeAnswer::Refused(refusal),
-    }
-}
+// "It has 8,192 entry places".
+const PLACES: usize = 8192;
 
-// A detail in 32 bits.
-fn narrow(detail: usize) -> u32
-    ensures { λ r. ⌜ r ≡ capped detail ⌝ }
-{
-    if detail < 4294967296 {
-        detail as u32
-    } else {
-        4294967295
-    }
-}
+// The longest export of so many entries: 73 bytes and 7 for each.
+pub const OUTPUT: usize = 57417;
 
 // `refused ` from the first byte on; the next place.
 fn write_word(out: &mut [u8]) -> usize
@@ -81,26 +58,50 @@ fn write_number(n: u32, end: u8, out: &mut [u8], at: usize) -> usize
 
 // The line of a refusal from the first byte on; the next place.
 fn write_refusal(number: u32, detail: usize, out: &mut [u8]) -> usize
-    requires { ⌜ 72 ≤ length (now out) ⌝ }
+    requires { ⌜ (detail < 2 ^ 32) × (72 ≤ length (now out)) ⌝ }
     ensures { λ r. ⌜ r ≡ length (refusedText number detail) ⌝ }
     ensures { λ r. ⌜ now (out .exit) ≡ over (now (out .entry)) (refusedText number detail) ⌝ }
 {
     let number_at = write_word(out);
     let detail_at = write_number(number, b' ', out, number_at);
-    write_number(narrow(detail), b'\n', out, detail_at)
+    write_number(detail as u32, b'\n', out, detail_at)
 }
 
-// What is printed for a text, from the first byte of `out` on, and how many bytes it takes; nothing where fewer than 72 are lent.
-pub fn print_copy(text: &[u8], map: &mut [i32], out: &mut [u8]) -> usize
-    ensures { λ r. ⌜ (r ≡ length (printedIn (now (text .entry)) (now (map .entry)) (length (now (out .entry))))) × (r ≤ length (now (out .entry))) ⌝ }
-    ensures { λ r. ⌜ now (out .exit) ≡ over (now (out .entry)) (printedIn (now (text .entry)) (now (map .entry)) (length (now (out .entry)))) ⌝ }
-    ensures { λ r. ⌜ now (map .exit) ≡ mapIn (now (text .entry)) (now (map .entry)) (length (now (out .entry))) ⌝ }
+// The export of a mapping that can be written, in bytes that hold it; how many it takes.
+fn write_export(mapping: Kbm, map: &[i32], out: &mut [u8]) -> usize
+    requires { ⌜ exportOf mapping (now map) (length (now out)) ≡ gives (exportText mapping (tableOf (mapping .count) (now map))) ⌝ }
+    ensures { λ r. ⌜ r ≡ length (exportText mapping (tableOf (mapping .count) (now (map .entry)))) ⌝ }
+    ensures { λ r. ⌜ now (out .exit) ≡ over (now (out .entry)) (exportText mapping (tableOf (mapping .count) (now (map .entry)))) ⌝ }
 {
-    if out.len() < 72 {
-        return 0;
-    }
-    match copy(text, map, out) {
+    match kbm_write::export_kbm(mapping, map, out) {
         SizeAnswer::Is(n) => n,
-        SizeAnswer::Refused(refusal) => write_refusal(refusal.number, refusal.detail, out),
+        SizeAnswer::Refused(_) => 0,
     }
+}
+
+// What is printed for a text that is read, from the first byte of `out` on, and how many bytes it takes; its entries pass through
+// `map`.
+fn print_text(text: &[u8], map: &mut [i32], out: &mut [u8]) -> usize
+    requires { ⌜ (length (now text) ≤ 65537) × (length (now map) ≡ 8192) × (length (now out) ≡ 57417) ⌝ }
+    ensures { λ r. ⌜ (r ≡ length (copyText (now (text .entry)))) × (r ≤ 57417) ⌝ }
+    ensures { λ r. ⌜ now (out .exit) ≡ over (now (out .entry)) (copyText (now (text .entry))) ⌝ }
+{
+    match kbm_read::read_kbm(text, map) {
+        KbmAnswer::Is(mapping) => write_export(mapping, map, out),
+        KbmAnswer::Refused(refusal) => write_refusal(refusal.number, refusal.detail, out),
+    }
+}
+
+// What is printed for the first n bytes of `input`, from the first byte of `out` on, and how many bytes it takes: the export of the
+// mapping that they are, or the line of the refusal; 12 for more than 65,536.
+pub fn print_copy(input: &[u8; INPUT], n: usize, out: &mut [u8; OUTPUT]) -> usize
+    ensures { λ r. ⌜ (r ≡ length (printed (take n (now (input .entry))))) × (r ≤ 57417) ⌝ }
+    ensures { λ r. ⌜ now (out .exit) ≡ over (now (out .entry)) (printed (take n (now (input .entry)))) ⌝ }
+{
+    let bytes: &[u8] = input;
+    if LONGEST < n {
+        return write_refusal(base::NO_ROOM, 0, out);
+    }
+    let mut map = [0i32; PLACES];
+    print_text(&bytes[..n], &mut map, out)
 }

@@ -8,3 +8,4 @@ pub mod Printed
 pub mod ExportLines
 pub mod Published
 pub mod Typed
+pub mod Bound

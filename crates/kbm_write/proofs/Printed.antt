@@ -12,7 +12,7 @@ use lib.IntN.{ℤ, pos, negsuc}
 use lib.ListN.{length-append}
 use lib.Ieee.{Float, up, down}
 use lib.Ieee.Fits.{down-pos}
-use lib.Ieee.Nearest.{closest, closest-mono}
+use lib.Ieee.Nearest.{closest-mono}
 use Rattle.base.specs.Said.{pick}
 use Rattle.floats.specs.Ranges.{inPitch}
 use Rattle.floats.specs.Units.{negative}
@@ -132,17 +132,16 @@ reads-only top z y p l m i =
     let e = one-value true (2 ^ 31) (lit< tt) (wholeText z) y z (wider l i) (signed-reads (2 ^ 31) z m (lit< tt)) in
     (e, rw e at (within p i))
 
--- a pitch has few digits
-few : (x : Float) → inPitch x ≡ true → scaledOf 3 x < 10 ^ 18
-few x h = go (pitch-says x h)
+-- a pitch has few digits: at most 1048576.000
+pub pitch-few : (x : Float) → inPitch x ≡ true → scaledOf 3 x ≤ 1048576000
+pitch-few x h = go (pitch-says x h)
   where
-    go : {y : Float} → Within 10 20 y → scaledOf 3 y < 10 ^ 18
+    go : {y : Float} → Within 10 20 y → scaledOf 3 y ≤ 1048576000
     go (within-fin m e p l h) =
         let a : m * up e * 10 ^ 3 * 1 ≤ 1048576000 * down e =
         le-trans (le-of-eq (mul-one (m * up e * 10 ^ 3))) (le-trans (mul-le-mul-right (10 ^ 3) h) (le-of-eq (mul-right-comm (2 ^ 20) (down e) (10 ^ 3)))) in
-        let b : closest (m * up e * 10 ^ 3) (down e) ≤ 1048576000 = closest-mono (m * up e * 10 ^ 3) (down e) 1048576000 1 (down-pos e) (lit< tt) a in
-        omega arith
+        closest-mono (m * up e * 10 ^ 3) (down e) 1048576000 1 (down-pos e) (lit< tt) a
 
 -- a printed pitch is a decimal: the f64 nearest to its three decimals
 pub pitch-reads : (x : Float) → inPitch x ≡ true → DecimalText (textOf 3 false x) (nearestThree x)
-pitch-reads x h = reads-back 3 (negative x) false (scaledOf 3 x) (textOf 3 false x) (printed 3 false x (pitch-limited x h) .is) (lit≤ tt) (few x h)
+pitch-reads x h = reads-back 3 (negative x) false (scaledOf 3 x) (textOf 3 false x) (printed 3 false x (pitch-limited x h) .is) (lit≤ tt) (omega (arith, pitch-few x h))

@@ -1,23 +1,45 @@
 // The program kbmcopy: reads a mapping from standard input and prints its export, or one line `refused NUMBER DETAIL`. Document 01,
-// "Writing". What it prints is said by `copying::print_copy`; this reads and writes.
+// "Writing". What it prints, and the sizes, are said by `copying::print_copy`; this reads and writes. Where standard input or
+// output fails it says so on standard error.
+use libc::STDERR_FILENO;
 use libc::STDIN_FILENO;
 use libc::STDOUT_FILENO;
 
-// One byte more than is read, so that longer input is seen: "input over 65,536 bytes gives `refused 12 0`".
-const INPUT: usize = 65537;
+// How many bytes standard input had, or that a read of it failed.
+enum Input {
+    Has(usize),
+    Failed,
+}
 
-// "It has 8,192 entry places".
-const PLACES: usize = 8192;
-
-// An export has at most 8,192 entries of 7 bytes (-32768 and LF) and seven lines of 6, 12, 12, 7, 7, 12 and 7 bytes: 57,407. So
-// a mapping that was read is never refused for want of room.
-const OUTPUT: usize = 57407;
+// Reads standard input to its end, or until the lent bytes are full.
+fn read_input(bytes: &mut [u8]) -> Input {
+    let mut n = 0;
+    while n < bytes.len() {
+        let got = libc::read(STDIN_FILENO, &mut bytes[n..]);
+        if got < 0 {
+            return Input::Failed;
+        }
+        let more = io::count(got, &bytes[n..]);
+        if more == 0 {
+            return Input::Has(n);
+        }
+        n += more;
+    }
+    Input::Has(n)
+}
 
 fn main() {
-    let mut text = [0u8; INPUT];
-    let mut map = [0i32; PLACES];
-    let mut out = [0u8; OUTPUT];
-    let n = io::read_full(STDIN_FILENO, &mut text);
-    let m = copying::print_copy(&text[..n], &mut map, &mut out);
-    io::write_all(STDOUT_FILENO, &out[..m]);
+    let mut input = [0u8; copying::INPUT];
+    let mut out = [0u8; copying::OUTPUT];
+    let Input::Has(n) = read_input(&mut input) else {
+        io::write_all(STDERR_FILENO, b"kbmcopy: standard input cannot be read\n");
+        return;
+    };
+    let m = copying::print_copy(&input, n, &mut out);
+    if !io::write_all(STDOUT_FILENO, &out[..m]) {
+        io::write_all(
+            STDERR_FILENO,
+            b"kbmcopy: standard output cannot be written\n",
+        );
+    }
 }

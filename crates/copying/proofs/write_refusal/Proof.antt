@@ -3,8 +3,8 @@
 use mathlib.Core.Path.{_∙_}
 use native.Mathlib.Omega.{arith}
 use denote.Ref.{now}
-use Rattle.copying.specs.Copy.{capped, refusedText}
-use Rattle.copying.proofs.Texts.{number-short, refused-length, refused-written, sets-over}
+use Rattle.copying.specs.Copy.{refusedText}
+use Rattle.copying.proofs.Texts.{number-short, refused-length, refused-short, refused-written, sets-over}
 use borrow.Author.Needs.{needs}
 use Rattle.copying.proofs.write_refusal.Statement.{statement}
 use Rattle.copying.proofs.write_refusal.Tie as tie
@@ -18,15 +18,15 @@ write-number-requires c κs =
     let s = w .before .before .before in
     omega (arith, w .write-word .ensures .0, number-short (s .args .number) 32, s .pre)
 
-narrow-requires : tie.Need-narrow-requires
-narrow-requires c κs = search needs
+cast-write-number : tie.Need-cast-write-number
+cast-write-number c = search needs
 
 write-number-requires-2 : tie.Need-write-number-requires-2
 write-number-requires-2 c κs =
-    let n = c .before .before .before .before in
+    let n = c .before .before .before in
     let w = n .before .before .before .before in
     let s = w .before .before .before in
-    rw (c .before .narrow .ensures) (omega (arith, w .write-word .ensures .0, n .write-number .ensures .0, number-short (s .args .number) 32, number-short (capped (s .args .detail)) 10, s .pre))
+    omega (arith, w .write-word .ensures .0, n .write-number .ensures .0, number-short (s .args .number) 32, number-short (s .args .detail) 10, s .pre)
 
 same-length : tie.Need-same-length
 same-length c = search needs
@@ -34,16 +34,15 @@ same-length c = search needs
 returns : tie.Need-returns
 returns c =
     let d = c .before .before in
-    let n = d .before .before .before .before .before in
+    let n = d .before .before .before .before in
     let w = n .before .before .before .before in
     let s = w .before .before .before in
     let l = now (s .args .out) in
-    let e = rw (d .before .before .narrow .ensures) at (d .write-number2 .ensures) in
     let h = refused-length (s .args .number) (s .args .detail) in (
-      omega (arith, h, w .write-word .ensures .0, n .write-number .ensures .0, e .0),
+      omega (arith, h, w .write-word .ensures .0, n .write-number .ensures .0, d .write-number2 .ensures .0),
       refused-written (s .args .number) (s .args .detail) l (w .write-word .last .0) (n .write-number .last .1 .1 .0) (d .write-number2 .last .1 .1 .0) (w .write-word .result) (n .write-number .result)
-          (w .write-word .ensures .1) (w .write-word .ensures .0) (n .write-number .ensures .1) (n .write-number .ensures .0) (e .1)
-          ∙ sets-over l (refusedText (s .args .number) (s .args .detail)) (omega (arith, h, number-short (s .args .number) 32, number-short (capped (s .args .detail)) 10, s .pre)),
+          (w .write-word .ensures .1) (w .write-word .ensures .0) (n .write-number .ensures .1) (n .write-number .ensures .0) (d .write-number2 .ensures .1)
+          ∙ sets-over l (refusedText (s .args .number) (s .args .detail)) (omega (arith, refused-short (s .args .number) (s .args .detail), s .pre)),
     )
 
 pub write-refusal-spec : {M : Type 1} → statement M
@@ -52,7 +51,7 @@ write-refusal-spec =
     (tie.spec
     write-word-requires
     write-number-requires
-    narrow-requires
+    cast-write-number
     write-number-requires-2
     same-length
     returns)

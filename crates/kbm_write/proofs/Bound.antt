@@ -1,0 +1,148 @@
+-- HOW LONG AN EXPORT IS AT MOST: 73 bytes, and 7 for each entry. So whoever lends that many bytes never gets 12. Assumes nothing.
+use mathlib.Core.Path.{_≡_, refl, _∙_}
+use mathlib.Core.Bool.{Bool, true, false, _&&_}
+use mathlib.Core.List.{List, [], _∷_}
+use Prim.Native.Nat.{ℕ, zero, suc, _+_, _*_, _-_, _/_, _%_, _^_, _≤_, _<_}
+use native.Mathlib.Nat.{div-lt-iff-lt-mul}
+use native.Mathlib.Omega.{arith}
+use lib.Dec.{leb, ltb, lit<}
+use lib.Ieee.{Float}
+use lib.IntN.{ℤ, pos, negsuc}
+use lib.ListN.{length}
+use lib.Signed.{mag}
+use borrow.Author.Tests.{le-leb, ltb-false}
+use Rattle.base.specs.Integers.{inI32, held}
+use Rattle.base.specs.Numbers.{unusable, overflow, no-room}
+use Rattle.base.specs.Said.{gives, refuses, pick, andThen}
+use Rattle.base.proofs.Integers.{mag-in}
+use Rattle.floats.proofs.Ranges.{Within, within-fin, pitch-says}
+use Rattle.floats.specs.Ranges.{inPitch}
+use Rattle.floats.specs.Units.{negative}
+use Rattle.printing.specs.PrintText.{widthOf, scaledOf, signText, integerText, wholeText, textOf}
+use Rattle.printing.proofs.Texts.{shorter, parts-length, sign-le, point-le}
+use Rattle.kbm.specs.Table.{inI16, AreI16, isTable, tableOf}
+use Rattle.kbm.specs.declared.Entry.{Entry}
+use Rattle.kbm.specs.declared.Entry.the-variants.{Mapped, Unmapped}
+use Rattle.kbm.specs.declared.Kbm.{Kbm}
+use Rattle.kbm.proofs.Entries.{mag-i16}
+use Rattle.kbm_write.specs.Export.{line, linesText, lastOf, middleOf, entryText, entryTexts, exportText, fitted, exportOf}
+use Rattle.kbm_write.specs.Typed.{Typed}
+use Rattle.kbm_write.proofs.Lines.{length-line, lines-cons, five-length}
+use Rattle.kbm_write.proofs.Printed.{pitch-few}
+use Rattle.kbm_write.proofs.Room.{four-length}
+use Rattle.kbm_write.proofs.Theorems.{Writable, writable}
+use Rattle.kbm_write.proofs.Typed.{typed}
+
+-- a number below 10^g has at most g digits
+width-under : (f g n : ℕ) → 0 < g → n < 10 ^ g → widthOf f n ≤ g
+width-under zero g n p h = omega arith
+width-under (suc f) g n p h = go (ltb n 10) refl (width-under f (g - 1) (n / 10))
+  where
+    go : (b : Bool) → ltb n 10 ≡ b → (0 < g - 1 → n / 10 < 10 ^ (g - 1) → widthOf f (n / 10) ≤ g - 1) → pick b 1 (suc (widthOf f (n / 10))) ≤ g
+    go true e rest = omega arith
+    go false e rest =
+        let s = shorter g n (ltb-false n 10 e) h in
+        omega (arith, rest (omega (arith, s .0)) (s .1), s .0)
+
+-- the line of an integer of so many digits
+line-under : (g : ℕ) (z : ℤ) → 0 < g → suc (mag z) < 10 ^ g → length (line (wholeText z)) ≤ g + 2
+line-under g (pos n) p h =
+    omega (arith, length-line (integerText false n), parts-length false false n (widthOf 18 n) 0 0, width-under 18 g n p (omega arith), sign-le false false)
+line-under g (negsuc n) p h =
+    omega (arith, length-line (integerText true (suc n)), parts-length true false (suc n) (widthOf 18 (suc n)) 0 0, width-under 18 g (suc n) p h, sign-le true false)
+
+-- a size has five digits and no sign
+size-line : (n : ℕ) → n ≤ 65535 → length (line (wholeText (pos n))) ≤ 6
+size-line n h = omega (arith, length-line (integerText false n), parts-length false false n (widthOf 18 n) 0 0, width-under 18 5 n (lit< tt) (omega arith))
+
+key-line : (z : ℤ) → inI32 z ≡ true → length (line (wholeText z)) ≤ 12
+key-line z h = line-under 10 z (lit< tt) (omega (arith, mag-in z h))
+
+degree-line : (z : ℤ) → inI16 z ≡ true → length (line (wholeText z)) ≤ 7
+degree-line z h = line-under 5 z (lit< tt) (omega (arith, mag-i16 z h))
+
+no-sign : (x : Float) → inPitch x ≡ true → length (signText (negative x) false) ≡ 0
+unfolding negative
+no-sign x h = go (pitch-says x h)
+  where
+    go : {y : Float} → Within 10 20 y → length (signText (negative y) false) ≡ 0
+    go (within-fin m e p l h) = refl
+
+-- a pitch has at most seven digits before the dot, three after it, and no sign
+pitch-line : (x : Float) → inPitch x ≡ true → length (line (textOf 3 false x)) ≤ 12
+pitch-line x h =
+    let s = no-sign x h in
+    let n = scaledOf 3 x in
+    let w : n / 10 ^ 3 < 10 ^ 7 = div-lt-iff-lt-mul {y = 10 ^ 7} (lit< tt) .1 (omega (arith, pitch-few x h)) in
+    omega (arith, length-line (textOf 3 false x), parts-length (negative x) false (n / 10 ^ 3) (widthOf 18 (n / 10 ^ 3)) (n % 10 ^ 3) 3, width-under 18 7 (n / 10 ^ 3) (lit< tt) w, point-le 3)
+
+-- seven bytes an entry: -32768 and LF
+entry-lines : (es : List Entry) → AreI16 es → length (linesText (entryTexts es)) ≤ 7 * length es
+unfolding linesText entryTexts
+entry-lines [] d = omega arith
+entry-lines (Mapped z ∷ es) d = omega (arith, lines-cons (entryText (Mapped z)) (entryTexts es), degree-line z (d .0), entry-lines es (d .1))
+entry-lines (Unmapped ∷ es) d = omega (arith, lines-cons (entryText Unmapped) (entryTexts es), entry-lines es (d .1))
+
+-- the seven lines have 6, 12, 12, 12, 12, 12 and 7 bytes
+pub export-short : (kbm : Kbm) (es : List Entry) → Typed kbm es → length (exportText kbm es) ≤ 73 + 7 * kbm .count
+export-short kbm es y =
+    let size = wholeText (pos (kbm .count)) in
+    let first = wholeText (kbm .start .0) in
+    let last = wholeText (lastOf kbm) in
+    let middle = wholeText (middleOf kbm) in
+    let reference = wholeText (kbm .root .reference .0) in
+    let pitch = textOf 3 false (kbm .root .pitch .0) in
+    let octave = wholeText (kbm .octave) in
+    let a = four-length (size ∷ first ∷ last ∷ middle ∷ reference ∷ []) pitch octave (entryTexts es) in
+    let b = five-length size first last middle reference in
+    sum a b (size-line (kbm .count) (y .size)) (key-line (kbm .start .0) (y .start)) (key-line (lastOf kbm) (y .last)) (key-line (middleOf kbm) (y .middle)) (key-line (kbm .root .reference .0) (y .reference))
+    (pitch-line (kbm .root .pitch .0) (y .pitch)) (degree-line (kbm .octave) (y .octave)) (entry-lines es (y .degrees)) (y .counted)
+  where
+    sum : {all five a b c d e f g more count n : ℕ} → all ≡ five + (f + (g + more)) → five ≡ a + (b + (c + (d + e))) → a ≤ 6 → b ≤ 12 → c ≤ 12 → d ≤ 12 → e ≤ 12 → f ≤ 12 → g ≤ 7 → more ≤ 7 * n → n ≡ count
+        → all ≤ 73 + 7 * count
+    sum p q ha hb hc hd he hf hg hm hn = omega arith
+
+-- what is written is the text of a mapping that can be written
+module _ (kbm : Kbm) (map : List ℤ) where
+  abbrev text : List ℕ
+  text = exportText kbm (tableOf (kbm .count) map)
+
+  pub export-accepted : (room : ℕ) {t : List ℕ} → exportOf kbm map room ≡ gives t → Writable kbm map × (t ≡ text)
+  unfolding exportOf held fitted
+  export-accepted room {t} e =
+      go (isTable (kbm .count) map) (inPitch (kbm .root .pitch .0)) (inI32 (lastOf kbm)) (inI32 (middleOf kbm)) (leb (length text) room) refl refl refl refl e
+    where
+      go : (a b c d f : Bool) → isTable (kbm .count) map ≡ a → inPitch (kbm .root .pitch .0) ≡ b → inI32 (lastOf kbm) ≡ c → inI32 (middleOf kbm) ≡ d
+          → pick (a && b) (andThen (pick c (gives (lastOf kbm)) (refuses overflow 0)) (λ last. andThen (pick d (gives (middleOf kbm)) (refuses overflow 0)) (λ middle. pick f (gives text) (refuses no-room 0)))) (refuses unusable 0) ≡ gives t
+          → Writable kbm map × (t ≡ text)
+      go true true true true true h i j k q = (record { table = h; pitch = i; last = j; middle = k }, cc)
+      go true true true true false h i j k q = let z : _≡_ {A = ℕ} 0 1 = cc in absurd (omega arith)
+      go true true true false f h i j k q = let z : _≡_ {A = ℕ} 0 1 = cc in absurd (omega arith)
+      go true true false d f h i j k q = let z : _≡_ {A = ℕ} 0 1 = cc in absurd (omega arith)
+      go true false c d f h i j k q = let z : _≡_ {A = ℕ} 0 1 = cc in absurd (omega arith)
+      go false b c d f h i j k q = let z : _≡_ {A = ℕ} 0 1 = cc in absurd (omega arith)
+
+-- the numbers of a mapping are of their types, as those of every `Kbm` of the program are
+pub record OfTypes (kbm : Kbm) : Type 0 where
+  pub start : inI32 (kbm .start .0) ≡ true
+  pub end : inI32 (kbm .end .0) ≡ true
+  pub reference : inI32 (kbm .root .reference .0) ≡ true
+  pub octave : inI16 (kbm .octave) ≡ true
+  pub count : kbm .count ≤ 65535
+
+module _ (kbm : Kbm) (map : List ℤ) (y : OfTypes kbm) where
+  text-short : Writable kbm map → length (exportText kbm (tableOf (kbm .count) map)) ≤ 73 + 7 * kbm .count
+  text-short w = export-short kbm (tableOf (kbm .count) map) (typed kbm map w (y .start) (y .end) (y .reference) (y .octave) (y .count))
+
+  -- THE BOUND: no accepted export is longer
+  pub export-bound : (room : ℕ) (t : List ℕ) → exportOf kbm map room ≡ gives t → length t ≤ 73 + 7 * kbm .count
+  export-bound room t e =
+      let a = export-accepted kbm map room e in
+      rw (a .1) (text-short (a .0))
+
+  -- so with that many bytes a mapping that can be written is written
+  pub never-no-room : (room : ℕ) → Writable kbm map → 73 + 7 * kbm .count ≤ room → exportOf kbm map room ≡ gives (exportText kbm (tableOf (kbm .count) map))
+  unfolding fitted
+  never-no-room room w h =
+      let text = exportText kbm (tableOf (kbm .count) map) in
+      writable kbm map w room ∙ rw (le-leb (length text) room (omega (arith, text-short w)))
