@@ -14,7 +14,9 @@ use text::line::LineSays;
 
 // What lent bytes are before a call; what no place is; what no line has.
 const BYTE: u8 = 238;
+
 const FULL: usize = 18446744073709551615;
+
 const NO_ANSWER: usize = 18446744073709551614;
 
 fn is_word(word: &[u8], line: &[u8], at: usize) -> bool {
@@ -153,7 +155,14 @@ fn printed(name: &[u8], out: &mut [u8], place: usize, line: &[u8], at: usize) ->
 }
 
 // The same into the first bytes of those that are lent.
-fn printed_first(name: &[u8], out: &mut [u8], room: usize, place: usize, line: &[u8], at: usize) -> usize {
+fn printed_first(
+    name: &[u8],
+    out: &mut [u8],
+    room: usize,
+    place: usize,
+    line: &[u8],
+    at: usize,
+) -> usize {
     if out.len() < room {
         return NO_ANSWER;
     }

@@ -205,7 +205,7 @@ fn order_number(order: Order) -> i32
 #[no_mangle]
 pub extern "C" fn telbijan_ratio_total_cmp(value: f64, other: f64, order: &mut i32) -> u64
     ensures { λ r. ⌜ r ≡ result (totalCmp value other) ⌝ }
-    ensures { λ _. ⌜ now (order .exit) ≡ kept (mapped orderNumber (totalCmp value other)) (now (order .entry)) ⌝ }
+    ensures { λ _. ⌜ now (order .exit) ≡ kept (partOf orderNumber (totalCmp value other)) (now (order .entry)) ⌝ }
 {
     match Ratio(value).total_cmp(Ratio(other)) {
         OrderAnswer::Is(answer) => {
