@@ -11,7 +11,7 @@ pub fn integers(list: &mut List) {
     let mut random = Random::new(100);
     for (k, numer) in i32_limits().into_iter().enumerate() {
         for (j, denom) in u32_limits().into_iter().enumerate() {
-            if (k * 7 + j) % 41 == 0 {
+            if (k * 7 + j) % 19 == 0 {
                 list.push(&format!("i32_div_u {numer} {denom}"), math::division(numer, denom), |(q, _)| q.to_string());
                 list.push(&format!("i32_rem_u {numer} {denom}"), math::division(numer, denom), |(_, r)| r.to_string());
                 list.push(&format!("i32_dr_u {numer} {denom}"), math::division(numer, denom), |(q, r)| format!("{q} {r}"));
@@ -42,19 +42,19 @@ fn some(random: &mut Random, k: usize) -> f64 {
 
 pub fn pitches(list: &mut List) {
     let mut random = Random::new(101);
-    for k in 0..45 {
+    for k in 0..60 {
         let x = some(&mut random, k);
         list.push(&format!("exp2 {}", float(x)), powers::said(tune::powers::e(x)), written);
         list.push(&format!("log2 {}", float(x)), powers::said(tune::powers::l(x)), written);
     }
     for One(name, _, theirs, _) in &ONES {
-        for k in 0..20 {
+        for k in 0..28 {
             let x = some(&mut random, k);
             list.push(&format!("{name} {}", float(x)), theirs(x), written);
         }
     }
     for Two(name, _, theirs, _) in &TWOS {
-        for k in 0..30 {
+        for k in 0..40 {
             let (x, y) = (some(&mut random, k), some(&mut random, k / 5));
             list.push(&format!("{name} {} {}", float(x), float(y)), theirs(x, y), written);
         }

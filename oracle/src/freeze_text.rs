@@ -15,7 +15,7 @@ const LINES: [&[u8]; 16] = [
 
 fn lines(list: &mut List) {
     let mut random = Random::new(102);
-    let drawn: Vec<Vec<u8>> = (0..60).map(|_| (0..random.next() % 14).flat_map(|_| texts::PIECES[random.next() as usize % texts::PIECES.len()].to_vec()).collect()).collect();
+    let drawn: Vec<Vec<u8>> = (0..100).map(|_| (0..random.next() % 14).flat_map(|_| texts::PIECES[random.next() as usize % texts::PIECES.len()].to_vec()).collect()).collect();
     for text in LINES.iter().map(|l| l.to_vec()).chain(drawn) {
         let mut ends = texts::their_lines(&text);
         // past the last line, nothing
@@ -57,7 +57,7 @@ fn decimals(list: &mut List) {
         "9007199254740993", "4503599627370496.5", "4503599627370497.5", "123456789012345678", "1234567890123456789", "0.000000000000000001", "0.0000000000000000000", "000000000000000000000000.1", "100000000000000000000.",
     ];
     let mut random = Random::new(103);
-    let drawn: Vec<String> = (0..90).map(|_| {
+    let drawn: Vec<String> = (0..250).map(|_| {
         let mut text: String = (0..1 + random.next() % 18).map(|_| char::from(b'0' + (random.next() % 10) as u8)).collect();
         text.insert(random.next() as usize % (text.len() + 1), '.');
         text
