@@ -28,7 +28,7 @@ use Rattle.kbm.specs.Table.{inI16}
 use Rattle.kbm.specs.declared.Entry.{Entry}
 use Rattle.kbm.specs.declared.Kbm.{Kbm}
 use Rattle.kbm.proofs.Entries.{mag-i16}
-use Rattle.kbm_read.specs.Reader.{takeToken, walk, start, mappingOf, readOf, givenFrom, entriesIn}
+use Rattle.kbm_read.specs.Reader.{takeToken, walk, unread, mappingOf, readOf, givenFrom, entriesIn}
 use Rattle.kbm_read.specs.Language.{blanks, MappingText}
 use Rattle.kbm_read.proofs.Language.{accepts}
 use Rattle.kbm_read.proofs.Walks.{no-value}
@@ -54,16 +54,16 @@ last-below (negsuc n) h = refl
 -- the refusals of the lines that may not come back
 module _ (room : ℕ) (t1 t2 t3 t4 t5 t6 : List ℕ) (ts : List (List ℕ)) {size : ℕ} {first last : ℤ} (e1 : readInt false (2 ^ 16) t1 ≡ value (pos size)) (e2 : readInt true (2 ^ 31) t2 ≡ value first)
     (e3 : readInt true (2 ^ 31) t3 ≡ value last) (n3 : leZ (pos 2147483647) last ≡ false) where
-  middle-not : readInt true (2 ^ 15) t4 ≡ none → walk room 1 start (selves (t1 ∷ t2 ∷ t3 ∷ t4 ∷ t5 ∷ t6 ∷ ts)) ≡ refuses 3 4
+  middle-not : readInt true (2 ^ 15) t4 ≡ none → walk room 1 unread (selves (t1 ∷ t2 ∷ t3 ∷ t4 ∷ t5 ∷ t6 ∷ ts)) ≡ refuses 3 4
   unfolding walk selves takeToken
   middle-not e4 = rw (e1, e2, e3, n3, e4)
 
-  reference-not : {middle : ℤ} → readInt true (2 ^ 15) t4 ≡ value middle → readInt true (2 ^ 15) t5 ≡ none → walk room 1 start (selves (t1 ∷ t2 ∷ t3 ∷ t4 ∷ t5 ∷ t6 ∷ ts)) ≡ refuses 3 5
+  reference-not : {middle : ℤ} → readInt true (2 ^ 15) t4 ≡ value middle → readInt true (2 ^ 15) t5 ≡ none → walk room 1 unread (selves (t1 ∷ t2 ∷ t3 ∷ t4 ∷ t5 ∷ t6 ∷ ts)) ≡ refuses 3 5
   unfolding walk selves takeToken
   reference-not e4 e5 = rw (e1, e2, e3, n3, e4, e5)
 
   pitch-not : {middle reference : ℤ} {hz : Float} → readInt true (2 ^ 15) t4 ≡ value middle → readInt true (2 ^ 15) t5 ≡ value reference → readDecimal t6 ≡ decimal.Is hz → inPitch hz ≡ false
-      → walk room 1 start (selves (t1 ∷ t2 ∷ t3 ∷ t4 ∷ t5 ∷ t6 ∷ ts)) ≡ refuses 10 6
+      → walk room 1 unread (selves (t1 ∷ t2 ∷ t3 ∷ t4 ∷ t5 ∷ t6 ∷ ts)) ≡ refuses 10 6
   unfolding walk selves takeToken
   pitch-not e4 e5 e6 n6 = rw (e1, e2, e3, n3, e4, e5, e6, n6)
 
@@ -104,7 +104,7 @@ module _ (kbm : Kbm) (es : List Entry) (y : Typed kbm es) where
       → readOf room (exportText kbm es) ≡ gives (mappingOf (headIs (kbm .count) (kbm .start .0) (lastOf kbm) (middleOf kbm) (kbm .root .reference .0) x (kbm .octave)))
   read-back room r e4 e5 {x} e6 n6 =
       let h = headIs (kbm .count) (kbm .start .0) (lastOf kbm) (middleOf kbm) (kbm .root .reference .0) x (kbm .octave) in
-      ap (walk room 1 start) (export-found kbm es)
+      ap (walk room 1 unread) (export-found kbm es)
       ∙ head-read room (wholeText (pos (kbm .count))) (wholeText (kbm .start .0)) (wholeText (lastOf kbm)) (wholeText (middleOf kbm)) (wholeText (kbm .root .reference .0)) (textOf 3 false hz) (wholeText (kbm .octave)) (entryTexts es)
       size-back start-back last-back last-low e4 e5 e6 n6 octave-back
       ∙ entries-read room 8 h 0 es (y .degrees) (omega (arith, y .counted, r))
@@ -125,14 +125,14 @@ module _ (kbm : Kbm) (es : List Entry) (y : Typed kbm es) where
     had-pitch : (b : Bool) → inPitch (nearestThree hz) ≡ b → readInt true (2 ^ 15) (wholeText (middleOf kbm)) ≡ value (middleOf kbm) → readInt true (2 ^ 15) (wholeText (kbm .root .reference .0)) ≡ value (kbm .root .reference .0)
         → readOf room (exportText kbm es) ≡ gives kbm → nearestThree hz ≡ hz
     had-pitch false n e4 e5 e =
-        no-value (sym (ap (walk room 1 start) (export-found kbm es)
+        no-value (sym (ap (walk room 1 unread) (export-found kbm es)
         ∙ pitch-not room (wholeText (pos (kbm .count))) (wholeText (kbm .start .0)) (wholeText (lastOf kbm)) (wholeText (middleOf kbm)) (wholeText (kbm .root .reference .0)) (textOf 3 false hz) ts size-back start-back last-back last-low e4 e5 pitch-back n) ∙ e)
     had-pitch true n e4 e5 e = ap (λ (k : Kbm). k .root .pitch .0) (same-value _ _ (sym (read-back room r e4 e5 pitch-back n) ∙ e))
 
     had-reference : (i : Int) → readInt true (2 ^ 15) (wholeText (kbm .root .reference .0)) ≡ i → readInt true (2 ^ 15) (wholeText (middleOf kbm)) ≡ value (middleOf kbm) → inI16 (middleOf kbm) ≡ true
         → readOf room (exportText kbm es) ≡ gives kbm → ComesBack kbm
     had-reference none q e4 m e =
-        no-value (sym (ap (walk room 1 start) (export-found kbm es)
+        no-value (sym (ap (walk room 1 unread) (export-found kbm es)
         ∙ reference-not room (wholeText (pos (kbm .count))) (wholeText (kbm .start .0)) (wholeText (lastOf kbm)) (wholeText (middleOf kbm)) (wholeText (kbm .root .reference .0)) (textOf 3 false hz) ts size-back start-back last-back last-low e4 q) ∙ e)
     had-reference (value z) q e4 m e =
         let key = kbm .root .reference .0 in
@@ -141,7 +141,7 @@ module _ (kbm : Kbm) (es : List Entry) (y : Typed kbm es) where
 
     had-middle : (i : Int) → readInt true (2 ^ 15) (wholeText (middleOf kbm)) ≡ i → readOf room (exportText kbm es) ≡ gives kbm → ComesBack kbm
     had-middle none q e =
-        no-value (sym (ap (walk room 1 start) (export-found kbm es)
+        no-value (sym (ap (walk room 1 unread) (export-found kbm es)
         ∙ middle-not room (wholeText (pos (kbm .count))) (wholeText (kbm .start .0)) (wholeText (lastOf kbm)) (wholeText (middleOf kbm)) (wholeText (kbm .root .reference .0)) (textOf 3 false hz) ts size-back start-back last-back last-low q) ∙ e)
     had-middle (value z) q e =
         let key = middleOf kbm in

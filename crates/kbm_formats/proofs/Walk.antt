@@ -24,7 +24,7 @@ use Rattle.kbm.specs.Table.{inI16}
 use Rattle.kbm.specs.declared.Entry.{Entry}
 use Rattle.kbm.specs.declared.Entry.the-variants.{Mapped, Unmapped}
 use Rattle.kbm.proofs.Entries.{mag-i16}
-use Rattle.kbm_read.specs.Reader.{isCross, entryIn, takeToken, finished, walk, start, mappingOf, givenFrom}
+use Rattle.kbm_read.specs.Reader.{isCross, entryIn, takeToken, finished, walk, unread, mappingOf, givenFrom}
 use Rattle.kbm_read.specs.declared.Due.the-variants as due
 use Rattle.kbm_read.specs.declared.EntryRead.the-variants as entry
 use Rattle.kbm_read.specs.declared.Head.{Head}
@@ -73,7 +73,7 @@ pub head-read : (room : ℕ) (t1 t2 t3 t4 t5 t6 t7 : List ℕ) (ts : List (List 
     → readInt false (2 ^ 16) t1 ≡ value (pos size) → readInt true (2 ^ 31) t2 ≡ value first → readInt true (2 ^ 31) t3 ≡ value last
     → leZ (pos 2147483647) last ≡ false → readInt true (2 ^ 15) t4 ≡ value middle → readInt true (2 ^ 15) t5 ≡ value reference
     → readDecimal t6 ≡ decimal.Is hz → inPitch hz ≡ true → readInt true (2 ^ 15) t7 ≡ value octave
-    → walk room 1 start (selves (t1 ∷ t2 ∷ t3 ∷ t4 ∷ t5 ∷ t6 ∷ t7 ∷ ts))
+    → walk room 1 unread (selves (t1 ∷ t2 ∷ t3 ∷ t4 ∷ t5 ∷ t6 ∷ t7 ∷ ts))
     ≡ walk room 8 (record { due = due.Entries; head = headIs size first last middle reference hz octave; count = 0 }) (selves ts)
 unfolding walk selves takeToken
 head-read room t1 t2 t3 t4 t5 t6 t7 ts e1 e2 e3 n3 e4 e5 e6 n6 e7 = rw (e1, e2, e3, n3, e4, e5, e6, n6, e7)
