@@ -47,7 +47,7 @@ pub fn lend<T>(call: impl FnOnce(*mut f64) -> (Code, T)) -> (Code, Float, T) {
     // the bits are lent as bits: no float register sees a signalling NaN on the way
     let mut bits = old;
     let (code, more) = call((&raw mut bits).cast());
-    // an accepted call that wrote nothing shows wherever the old bits are no answer, so in eight turns of nine
+    // an accepted call that wrote nothing shows: the old bits are no answer but where the answer is the plain NaN
     let float = match (code, bits == old) {
         (Code::ACCEPTED, true) if f64::from_bits(old).is_nan() && old != f64::NAN.to_bits() => Float::Untouched,
         (Code::ACCEPTED, _) => Float::of(f64::from_bits(bits)),
