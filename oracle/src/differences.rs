@@ -93,7 +93,7 @@ fn made() -> Vec<Row> {
         row("`Ratio::from_octaves`", "infinity", || rust(|| Ratio::from_octaves(INF).as_float()), "inf", || float(one(ffi::telbijan_ratio_from_octaves, INF)), "18"),
         row("`Ratio::from_semitones`", "-infinity", || rust(|| Ratio::from_semitones(-INF).as_float()), "0.0", || float(one(ffi::telbijan_ratio_from_semitones, -INF)), "18"),
         row("`Ratio::from_cents`", "NaN", || rust(|| Ratio::from_cents(NAN).as_float()), "NaN", || float(one(ffi::telbijan_ratio_from_cents, NAN)), "18"),
-        row("`Ratio::from_cents`", "1080000.1", || rust(|| Ratio::from_cents(1080000.1).as_float() > 2f64.powi(900)), "true", || float(one(ffi::telbijan_ratio_from_cents, 1080000.1)), "18"),
+        row("`Ratio::from_cents`", "1080000.1: above 2^900", || rust(|| Ratio::from_cents(1080000.1).as_float() > 2f64.powi(900)), "true", || float(one(ffi::telbijan_ratio_from_cents, 1080000.1)), "18"),
     ]
 }
 
@@ -107,23 +107,23 @@ fn of_zero() -> Vec<Row> {
         row("`abs`", "0.0", || rust(|| ratio(0.0).abs().as_float()), "inf", || float(one(ffi::telbijan_ratio_abs, 0.0)), "10"),
         row("`is_negligible`", "0.0", || rust(|| ratio(0.0).is_negligible()), "false", || here(ffi::is_negligible(0.0)), "10"),
         row("`total_cmp`", "0.0 with 1.0", || rust(|| ratio(0.0).total_cmp(&ratio(1.0))), "Less", || here(ffi::total_cmp(0.0, 1.0)), "10"),
-        row("`nearest_fraction`", "2^65, limit 3", || rust(|| ratio(2f64.powi(65)).nearest_fraction(3).num_octaves), "65", || here(ffi::nearest_fraction(2f64.powi(65), 3)), "10"),
-        row("`nearest_fraction`", "NaN, limit 3", || rust(|| ratio(NAN).nearest_fraction(3).numer), "0", || here(ffi::nearest_fraction(NAN, 3)), "10"),
+        row("`nearest_fraction`", "2^65, limit 3: octaves", || rust(|| ratio(2f64.powi(65)).nearest_fraction(3).num_octaves), "65", || here(ffi::nearest_fraction(2f64.powi(65), 3)), "10"),
+        row("`nearest_fraction`", "NaN, limit 3: numerator", || rust(|| ratio(NAN).nearest_fraction(3).numer), "0", || here(ffi::nearest_fraction(NAN, 3)), "10"),
     ]
 }
 
 fn of_two() -> Vec<Row> {
     vec![
         row("pitch times ratio", "0.0 by 2", || rust(|| (Pitch::from_hz(0.0) * ratio(2.0)).as_hz()), "0.0", || float(two(ffi::telbijan_pitch_times_ratio, 0.0, 2.0)), "10"),
-        row("pitch times ratio", "2^900 by 2", || rust(|| (Pitch::from_hz(2f64.powi(900)) * ratio(2.0)).as_hz() == 2f64.powi(901)), "true", || float(two(ffi::telbijan_pitch_times_ratio, 2f64.powi(900), 2.0)), "18"),
+        row("pitch times ratio", "2^900 by 2: is it 2^901", || rust(|| (Pitch::from_hz(2f64.powi(900)) * ratio(2.0)).as_hz() == 2f64.powi(901)), "true", || float(two(ffi::telbijan_pitch_times_ratio, 2f64.powi(900), 2.0)), "18"),
         row("pitch over ratio", "1 by 0.0", || rust(|| (Pitch::from_hz(1.0) / ratio(0.0)).as_hz()), "inf", || float(two(ffi::telbijan_pitch_over_ratio, 1.0, 0.0)), "10"),
-        row("pitch over ratio", "2^900 by 0.5", || rust(|| (Pitch::from_hz(2f64.powi(900)) / ratio(0.5)).as_hz() == 2f64.powi(901)), "true", || float(two(ffi::telbijan_pitch_over_ratio, 2f64.powi(900), 0.5)), "18"),
+        row("pitch over ratio", "2^900 by 0.5: is it 2^901", || rust(|| (Pitch::from_hz(2f64.powi(900)) / ratio(0.5)).as_hz() == 2f64.powi(901)), "true", || float(two(ffi::telbijan_pitch_over_ratio, 2f64.powi(900), 0.5)), "18"),
         row("`between_pitches`", "0.0 and 1", || rust(|| Ratio::between_pitches(Pitch::from_hz(0.0), Pitch::from_hz(1.0)).as_float()), "inf", || float(two(ffi::telbijan_ratio_between_pitches, 0.0, 1.0)), "10"),
-        row("`between_pitches`", "2^-900 and 2", || rust(|| Ratio::between_pitches(Pitch::from_hz(2f64.powi(-900)), Pitch::from_hz(2.0)).as_float() == 2f64.powi(901)), "true", || float(two(ffi::telbijan_ratio_between_pitches, 2f64.powi(-900), 2.0)), "18"),
+        row("`between_pitches`", "2^-900 and 2: is it 2^901", || rust(|| Ratio::between_pitches(Pitch::from_hz(2f64.powi(-900)), Pitch::from_hz(2.0)).as_float() == 2f64.powi(901)), "true", || float(two(ffi::telbijan_ratio_between_pitches, 2f64.powi(-900), 2.0)), "18"),
         row("`stretched_by`", "0.0 by 2", || rust(|| ratio(0.0).stretched_by(ratio(2.0)).as_float()), "0.0", || float(two(ffi::telbijan_ratio_stretched_by, 0.0, 2.0)), "10"),
-        row("`stretched_by`", "2^900 by 2", || rust(|| ratio(2f64.powi(900)).stretched_by(ratio(2.0)).as_float() == 2f64.powi(901)), "true", || float(two(ffi::telbijan_ratio_stretched_by, 2f64.powi(900), 2.0)), "18"),
+        row("`stretched_by`", "2^900 by 2: is it 2^901", || rust(|| ratio(2f64.powi(900)).stretched_by(ratio(2.0)).as_float() == 2f64.powi(901)), "true", || float(two(ffi::telbijan_ratio_stretched_by, 2f64.powi(900), 2.0)), "18"),
         row("`deviation_from`", "1 from 0.0", || rust(|| ratio(1.0).deviation_from(ratio(0.0)).as_float()), "inf", || float(two(ffi::telbijan_ratio_deviation_from, 1.0, 0.0)), "10"),
-        row("`deviation_from`", "2^900 from 0.5", || rust(|| ratio(2f64.powi(900)).deviation_from(ratio(0.5)).as_float() == 2f64.powi(901)), "true", || float(two(ffi::telbijan_ratio_deviation_from, 2f64.powi(900), 0.5)), "18"),
+        row("`deviation_from`", "2^900 from 0.5: is it 2^901", || rust(|| ratio(2f64.powi(900)).deviation_from(ratio(0.5)).as_float() == 2f64.powi(901)), "true", || float(two(ffi::telbijan_ratio_deviation_from, 2f64.powi(900), 0.5)), "18"),
         row("`repeated`", "0.0 by 2", || rust(|| ratio(0.0).repeated(2.0).as_float()), "0.0", || float(two(ffi::telbijan_ratio_repeated, 0.0, 2.0)), "10"),
         row("`repeated`", "2 by infinity", || rust(|| ratio(2.0).repeated(INF).as_float()), "inf", || float(two(ffi::telbijan_ratio_repeated, 2.0, INF)), "18"),
         row("`repeated`", "2 by NaN", || rust(|| ratio(2.0).repeated(NAN).as_float()), "NaN", || float(two(ffi::telbijan_ratio_repeated, 2.0, NAN)), "18"),
@@ -139,10 +139,10 @@ fn alike() -> Vec<Row> {
         row("`num_equal_steps_of_size`", "2 by 1.0", || rust(|| ratio(2.0).num_equal_steps_of_size(ratio(1.0))), "inf", || float(two(ffi::telbijan_ratio_num_equal_steps_of_size, 2.0, 1.0)), "inf"),
         row("`num_equal_steps_of_size`", "0.5 by 1.0", || rust(|| ratio(0.5).num_equal_steps_of_size(ratio(1.0))), "-inf", || float(two(ffi::telbijan_ratio_num_equal_steps_of_size, 0.5, 1.0)), "-inf"),
         row("`num_equal_steps_of_size`", "1.0 by 1.0", || rust(|| ratio(1.0).num_equal_steps_of_size(ratio(1.0))), "NaN", || float(two(ffi::telbijan_ratio_num_equal_steps_of_size, 1.0, 1.0)), "NaN"),
-        row("`nearest_fraction`", "2^63(1-2^-53), limit 3", || rust(|| fraction(2f64.powi(63).next_down(), 3)), "(1, 1, 63)", || our_fraction(2f64.powi(63).next_down(), 3), "(1, 1, 63)"),
-        row("`nearest_fraction`", "0.9999999999999999, limit 3", || rust(|| fraction(1f64.next_down(), 3)), "(2, 1, -1)", || our_fraction(1f64.next_down(), 3), "(2, 1, -1)"),
-        row("`nearest_fraction`", "1.000000001, limit 65535", || rust(|| fraction(1.000000001, 65_535)), "(1, 1, 0)", || our_fraction(1.000000001, 65_535), "(1, 1, 0)"),
-        row("`nearest_fraction`", "1.25, limit 0", || rust(|| fraction(1.25, 0)), "(0, 0, 0)", || our_fraction(1.25, 0), "(0, 0, 0)"),
+        row("`nearest_fraction`", "2^63(1-2^-53), limit 3: numerator, denominator, octaves", || rust(|| fraction(2f64.powi(63).next_down(), 3)), "(1, 1, 63)", || our_fraction(2f64.powi(63).next_down(), 3), "(1, 1, 63)"),
+        row("`nearest_fraction`", "0.9999999999999999, limit 3: numerator, denominator, octaves", || rust(|| fraction(1f64.next_down(), 3)), "(2, 1, -1)", || our_fraction(1f64.next_down(), 3), "(2, 1, -1)"),
+        row("`nearest_fraction`", "1.000000001, limit 65535: numerator, denominator, octaves", || rust(|| fraction(1.000000001, 65_535)), "(1, 1, 0)", || our_fraction(1.000000001, 65_535), "(1, 1, 0)"),
+        row("`nearest_fraction`", "1.25, limit 0: numerator, denominator, octaves", || rust(|| fraction(1.25, 0)), "(0, 0, 0)", || our_fraction(1.25, 0), "(0, 0, 0)"),
     ]
 }
 
