@@ -35,16 +35,16 @@ extern "C" {
 #define TELBIJAN_DENOM 6 /* not a denominator; the detail is the line */
 #define TELBIJAN_FLOAT_VALUE 7 /* not a decimal; the detail is the line */
 #define TELBIJAN_KEYBOARD_MAPPING 8 /* not a mapping entry; the detail is the line */
-#define TELBIJAN_UNSUPPORTED_NUMERAL 9 /* an unsupported numeral; the detail is the line */
-#define TELBIJAN_UNUSABLE 10 /* an unusable value; the detail is the line, or 0 outside a text */
-#define TELBIJAN_OVERFLOW 11 /* overflow; the detail is the line, or 0 */
-#define TELBIJAN_NO_ROOM 12 /* no room; the detail is the line, or 0 */
+#define TELBIJAN_UNSUPPORTED_NUMERAL 9 /* a numeral with an exponent, a word, or over 18 digits; the detail is the line */
+#define TELBIJAN_UNUSABLE 10 /* a value, a state or a lent table that cannot be used; the detail is the line, or 0 outside a text */
+#define TELBIJAN_OVERFLOW 11 /* a number leaves its type; the detail is the line, or 0 */
+#define TELBIJAN_NO_ROOM 12 /* what was lent is too small; the detail is the line, or 0 */
 #define TELBIJAN_TOO_LARGE 13 /* over 65,535 entries */
-#define TELBIJAN_INCONSISTENT_COUNT 14 /* the count of notes or entries is inconsistent */
+#define TELBIJAN_INCONSISTENT_COUNT 14 /* the text has another count of notes or entries than it says */
 #define TELBIJAN_FORMAL_OCTAVE_MISSING 15 /* a builder with entries and no formal octave */
 #define TELBIJAN_KEY_OUT_OF_RANGE 16 /* the key is outside the range */
 #define TELBIJAN_UNMAPPED_KEY 17 /* the key is unmapped */
-#define TELBIJAN_BEYOND_REACH 18 /* beyond reach */
+#define TELBIJAN_BEYOND_REACH 18 /* a computed pitch or ratio is outside 2^-900..2^900 */
 
 /* A mapping is a table of entries, `map`, lent with its length, and numbers beside it: `count` entries from the table's first
  * place on; keys from `start` up to, not including, `end` (the last key is end - 1); the `reference` key, and its pitch `hz`;

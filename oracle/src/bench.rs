@@ -1,7 +1,9 @@
 //! Times of the proved library beside the Rust, in one run, as ratios: `cargo run --profile speed -- bench`. Each pair is timed in turns, and the
 //! shortest of the turns counts, so that other work on the machine matters little.
 
-use crate::ffi::{self, probe};
+use crate::lent::Float;
+use crate::probe;
+use crate::{ffi, ffi_kbm};
 use crate::inputs::Random;
 use std::hint::black_box;
 use std::time::{Duration, Instant};
@@ -92,9 +94,9 @@ fn our_reading(text: &[u8]) -> f64 {
     let (mut at, mut total) = (0, 0.0);
     while at < text.len() {
         let (end, next) = probe::next_line(text, at);
-        if let probe::Line::Content { start, token, .. } = probe::read_line(text, at, end) {
+        if let (_, probe::Line::Content { start, token, .. }) = probe::read_line(text, at, end) {
             let token = &text[start..token];
-            if let probe::Decimal::Is(bits) = probe::read_decimal(token) {
+            if let (_, Float::Is(bits)) = probe::read_decimal(token) {
                 total += f64::from_bits(bits);
             } else if let Some(n) = probe::read_u32(token) {
                 total += f64::from(n);
@@ -140,31 +142,31 @@ fn comments() {
 
 /// The degree of one key: nearly all of it is the test of the lent table.
 fn degrees() {
-    let text = crate::kbm::long(65_535, 65_535);
+    let text = crate::kbm_read::long(65_535, 65_535);
     let mut map = vec![0; 65_535];
-    let (_, mapping) = ffi::read_kbm(&text, &mut map);
-    let times = shortest(&mut [&mut || { black_box(ffi::scale_degree_of(mapping, &map, 60)); }]);
+    let (_, mapping) = ffi_kbm::read_kbm(&text, &mut map);
+    let times = shortest(&mut [&mut || { black_box(ffi_kbm::scale_degree_of(mapping, &map, 60)); }]);
     line("test of a table, an entry of 65,535", 65_535, &times, &[]);
 }
 
 fn mappings() {
-    let text = crate::kbm::long(65_535, 65_535);
+    let text = crate::kbm_read::long(65_535, 65_535);
     let mut map = vec![0; 65_535];
     let times = shortest(&mut [
         &mut || {
-            black_box(ffi::read_kbm(&text, &mut map));
+            black_box(ffi_kbm::read_kbm(&text, &mut map));
         },
         &mut || {
             black_box(tune::scala::Kbm::import(&text[..]).unwrap());
         },
     ]);
     line("read a mapping, an entry of 65,535", 65_535, &times, &["the Rust"]);
-    let (_, mapping) = ffi::read_kbm(&text, &mut map);
+    let (_, mapping) = ffi_kbm::read_kbm(&text, &mut map);
     let kbm = tune::scala::Kbm::import(&text[..]).unwrap();
     let mut out = vec![0; 1 << 20];
     let times = shortest(&mut [
         &mut || {
-            black_box(ffi::export_kbm(mapping, &map, &mut out));
+            black_box(ffi_kbm::export_kbm(mapping, &map, &mut out));
         },
         &mut || {
             black_box(kbm.export().to_string());

@@ -1,8 +1,9 @@
 //! The float steps of Rust's std that are written anew: every limit with every limit, and random bits.
 
-use crate::ffi::probe::*;
 use crate::inputs::{Random, f64_limits};
-use crate::tally::{Bits, Code, Report};
+use crate::lent::Float;
+use crate::probe::*;
+use crate::tally::{Code, Report, Said, Who};
 
 const RANDOM: usize = 500_000;
 
@@ -25,15 +26,15 @@ fn pairs() -> impl Iterator<Item = (f64, f64)> {
     }))
 }
 
-fn accepted(x: f64) -> (Code, Bits) {
-    (Code::ACCEPTED, Bits::of(x))
+fn accepted(x: f64) -> (Code, Float) {
+    (Code::ACCEPTED, Float::of(x))
 }
 
 pub fn compare(all: &mut Report) {
     let one = |all: &mut Report, name: &str, ours: extern "C" fn(f64) -> f64, theirs: fn(f64) -> f64| {
-        all.function(name, |tally| {
+        all.function(name, &[], |tally| {
             for x in singles() {
-                tally.same(x, accepted(ours(x)), accepted(theirs(x)));
+                tally.same(x, accepted(ours(x)), Said::gives(Who::Rust, Float::of(theirs(x))));
             }
         });
     };
@@ -41,19 +42,19 @@ pub fn compare(all: &mut Report) {
     one(all, "f64 trunc", probe_trunc, f64::trunc);
     one(all, "f64 floor", probe_floor, f64::floor);
     let two = |all: &mut Report, name: &str, ours: extern "C" fn(f64, f64) -> f64, theirs: fn(f64, f64) -> f64| {
-        all.function(name, |tally| {
+        all.function(name, &[], |tally| {
             for (a, b) in pairs() {
-                tally.same((a, b), accepted(ours(a, b)), accepted(theirs(a, b)));
+                tally.same((a, b), accepted(ours(a, b)), Said::gives(Who::Rust, Float::of(theirs(a, b))));
             }
         });
     };
     two(all, "f64 rem_euclid", probe_rem_euclid, f64::rem_euclid);
     two(all, "f64 div_euclid", probe_div_euclid, f64::div_euclid);
     let range = |all: &mut Report, name: &str, ours: extern "C" fn(f64) -> bool, low: i32, high: i32| {
-        all.function(name, |tally| {
+        all.function(name, &[], |tally| {
             for x in singles() {
                 let inside = (2f64.powi(low)..=2f64.powi(high)).contains(&x);
-                tally.same(x, (Code::ACCEPTED, ours(x)), (Code::ACCEPTED, inside));
+                tally.same(x, (Code::ACCEPTED, ours(x)), Said::gives(Who::Rust, inside));
             }
         });
     };

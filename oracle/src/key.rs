@@ -2,7 +2,7 @@
 
 use crate::ffi;
 use crate::inputs::{Random, i32_limits};
-use crate::tally::{Code, Report, caught};
+use crate::tally::{Report, Said, Who, caught};
 use tune::key::PianoKey;
 
 const RANDOM_PAIRS: usize = 1_000_000;
@@ -13,35 +13,42 @@ fn pairs() -> impl Iterator<Item = (i32, i32)> {
     limits.chain((0..RANDOM_PAIRS).map(move |_| (random.i32(), random.i32())))
 }
 
-fn sum(call: impl FnOnce() -> i32) -> (Code, i32) {
-    match caught(call) {
-        Some(z) => (Code::ACCEPTED, z),
-        None => (Code::refusal(11, 0), ffi::OLD_I32),
+/// The Rust's sum; it panics exactly where the exact one leaves 32 bits, which is 11.
+fn sum(exact: i64, call: impl FnOnce() -> i32) -> Said<i32> {
+    Said::unless_panic(caught(call), i32::try_from(exact).is_err(), 11, ffi::OLD_I32)
+}
+
+pub fn checked(number: i32) -> Said<u8> {
+    match PianoKey::from_midi_number(number).checked_midi_number() {
+        Some(midi) => Said::gives(Who::Rust, midi),
+        None => Said::refused(Who::Rust, 16, 0, ffi::OLD_U8),
     }
 }
 
+pub fn before(number: i32, other: i32) -> Said<i32> {
+    sum(i64::from(other) - i64::from(number), || PianoKey::from_midi_number(number).num_keys_before(PianoKey::from_midi_number(other)))
+}
+
+pub fn plus(number: i32, steps: i32) -> Said<i32> {
+    sum(i64::from(number) + i64::from(steps), || PianoKey::from_midi_number(number).plus_steps(steps).midi_number())
+}
+
 pub fn compare(all: &mut Report) {
-    all.function("checked_midi_number", |tally| {
+    all.function("checked_midi_number", &[16], |tally| {
         let mut random = Random::new(3);
         let numbers = (-70_000..=70_000).chain(i32_limits()).chain((0..100_000).map(|_| random.i32()));
         for number in numbers {
-            let theirs = match PianoKey::from_midi_number(number).checked_midi_number() {
-                Some(midi) => (Code::ACCEPTED, midi),
-                None => (Code::refusal(16, 0), ffi::OLD_U8),
-            };
-            tally.same(number, ffi::checked_midi_number(number), theirs);
+            tally.same(number, ffi::checked_midi_number(number), checked(number));
         }
     });
-    all.function("num_keys_before", |tally| {
+    all.function("num_keys_before", &[11], |tally| {
         for (number, other) in pairs() {
-            let theirs = sum(|| PianoKey::from_midi_number(number).num_keys_before(PianoKey::from_midi_number(other)));
-            tally.same((number, other), ffi::num_keys_before(number, other), theirs);
+            tally.same((number, other), ffi::num_keys_before(number, other), before(number, other));
         }
     });
-    all.function("plus_steps", |tally| {
+    all.function("plus_steps", &[11], |tally| {
         for (number, steps) in pairs() {
-            let theirs = sum(|| PianoKey::from_midi_number(number).plus_steps(steps).midi_number());
-            tally.same((number, steps), ffi::plus_steps(number, steps), theirs);
+            tally.same((number, steps), ffi::plus_steps(number, steps), plus(number, steps));
         }
     });
 }

@@ -3,21 +3,35 @@
 //! - `oracle` compares and prints a line for each function: cases tried, refusals met, differences. Any difference, and any
 //!   function with no case, makes it fail.
 //! - `oracle bench` times the two sides in one run.
-//! - `oracle freeze FOLDER` writes a sample of the Rust's answers for the program `replay`.
+//! - `oracle differences` prints the rows of docs/DIFFERENCES.md, which the comparison runs.
+//! - `oracle freeze CRATES` writes a sample of the answers for the programs that replay them.
 
 mod bench;
+mod differences;
+mod differences_kbm;
 mod ffi;
+mod ffi_kbm;
 mod floats;
 mod freeze;
+mod freeze_kbm;
+mod freeze_numbers;
+mod freeze_text;
 mod inputs;
-mod kbm;
+mod kbm_build;
+mod kbm_read;
+mod kbm_use;
 mod key;
+mod lent;
 mod math;
 mod numerals;
 mod pitch;
 mod powers;
+mod probe;
+mod rules;
+mod rust_kbm;
 mod tally;
 mod texts;
+mod untouched;
 
 use std::process::ExitCode;
 
@@ -30,7 +44,11 @@ fn main() -> ExitCode {
             bench::bench();
             ExitCode::SUCCESS
         }
-        ["freeze", folder] => match freeze::freeze(folder) {
+        ["differences"] => {
+            differences::print();
+            ExitCode::SUCCESS
+        }
+        ["freeze", crates] => match freeze::freeze(crates) {
             Ok(()) => ExitCode::SUCCESS,
             Err(error) => {
                 eprintln!("freeze: {error}");
@@ -38,7 +56,7 @@ fn main() -> ExitCode {
             }
         },
         _ => {
-            eprintln!("usage: oracle [bench | freeze FOLDER]");
+            eprintln!("usage: oracle [bench | differences | freeze CRATES]");
             ExitCode::FAILURE
         }
     }
@@ -53,7 +71,10 @@ fn compare() -> ExitCode {
     pitch::compare(&mut all);
     texts::compare(&mut all);
     numerals::compare(&mut all);
-    kbm::compare(&mut all);
-    powers::report();
+    kbm_read::compare(&mut all);
+    kbm_use::compare(&mut all);
+    kbm_build::compare(&mut all);
+    differences::compare(&mut all);
+    untouched::report();
     all.verdict()
 }

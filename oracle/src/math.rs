@@ -2,7 +2,7 @@
 
 use crate::ffi;
 use crate::inputs::{Random, i32_limits, u32_limits};
-use crate::tally::{Code, Report, caught};
+use crate::tally::{Report, Said, Who, caught};
 use tune::math;
 
 const RANDOM_PAIRS: usize = 2_000_000;
@@ -14,44 +14,41 @@ pub fn pairs() -> impl Iterator<Item = (i32, u32)> {
     limits.chain(denoms).chain((0..RANDOM_PAIRS).map(move |_| (random.i32(), random.u32())))
 }
 
-/// The Rust's answer, at each denominator type that can hold the denominator; a panic is 10, and there only denominator 0 is one.
-pub fn division(numer: i32, denom: u32) -> (Code, (i32, u32)) {
-    let Some(answer) = caught(|| math::i32_dr_u(numer, denom)) else {
-        assert_eq!(denom, 0);
-        return (Code::refusal(10, 0), (ffi::OLD_I32, ffi::OLD_U32));
-    };
+/// The Rust's answer, the same at each denominator type that can hold the denominator; it panics exactly at denominator 0, which is 10.
+pub fn division(numer: i32, denom: u32) -> Said<(i32, u32)> {
+    let mut answer = caught(|| math::i32_dr_u(numer, denom));
     if let Ok(short) = u16::try_from(denom) {
-        let (q, r) = math::i32_dr_u(numer, short);
-        assert_eq!(answer, (q, r.into()));
+        let same = caught(|| math::i32_dr_u(numer, short)).map(|(q, r)| (q, r.into())) == answer;
+        answer = answer.filter(|_| same);
     }
     if let Ok(byte) = u8::try_from(denom) {
-        let (q, r) = math::i32_dr_u(numer, byte);
-        assert_eq!(answer, (q, r.into()));
+        let same = caught(|| math::i32_dr_u(numer, byte)).map(|(q, r)| (q, r.into())) == answer;
+        answer = answer.filter(|_| same);
     }
-    (Code::ACCEPTED, answer)
+    Said::unless_panic(answer, denom == 0, 10, (ffi::OLD_I32, ffi::OLD_U32))
 }
 
 pub fn compare(all: &mut Report) {
-    all.function("i32_div_u", |tally| {
+    all.function("i32_div_u", &[10], |tally| {
         for (numer, denom) in pairs() {
-            let (code, (quotient, _)) = division(numer, denom);
-            tally.same((numer, denom), ffi::i32_div_u(numer, denom), (code, quotient));
+            let theirs = division(numer, denom);
+            tally.same((numer, denom), ffi::i32_div_u(numer, denom), theirs.map(|(quotient, _)| quotient));
         }
     });
-    all.function("i32_rem_u", |tally| {
+    all.function("i32_rem_u", &[10], |tally| {
         for (numer, denom) in pairs() {
-            let (code, (_, remainder)) = division(numer, denom);
-            tally.same((numer, denom), ffi::i32_rem_u(numer, denom), (code, remainder));
+            let theirs = division(numer, denom);
+            tally.same((numer, denom), ffi::i32_rem_u(numer, denom), theirs.map(|(_, remainder)| remainder));
         }
     });
-    all.function("i32_dr_u", |tally| {
+    all.function("i32_dr_u", &[10], |tally| {
         for (numer, denom) in pairs() {
             tally.same((numer, denom), ffi::i32_dr_u(numer, denom), division(numer, denom));
         }
     });
-    all.function("odd_factors_u16", |tally| {
+    all.function("odd_factors_u16", &[], |tally| {
         for number in 0..=u16::MAX {
-            tally.same(number, ffi::odd_factors_u16(number), (Code::ACCEPTED, math::odd_factors_u16(number)));
+            tally.same(number, ffi::odd_factors_u16(number), Said::gives(Who::Rust, math::odd_factors_u16(number)));
         }
     });
 }

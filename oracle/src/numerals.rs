@@ -1,8 +1,9 @@
 //! Numerals beside `str::parse` and `format!`: short texts exhaustively over telling alphabets, limits, halfway decimals, random ones.
 
-use crate::ffi::probe::{self, Decimal};
 use crate::inputs::{Random, f64_limits, i32_limits, u32_limits};
-use crate::tally::{Code, Report};
+use crate::lent::Float;
+use crate::probe;
+use crate::tally::{Code, Report, Said, Tally, Who};
 use crate::texts::rows;
 use std::str::FromStr;
 
@@ -37,12 +38,21 @@ fn integer_texts() -> Vec<Vec<u8>> {
     found
 }
 
+/// What `str::parse` makes of a text.
+pub fn their_integer<T: FromStr>(text: &[u8]) -> Option<T> {
+    std::str::from_utf8(text).ok().and_then(|s| s.parse().ok())
+}
+
 fn integers<T: FromStr + PartialEq + std::fmt::Debug>(all: &mut Report, name: &str, ours: fn(&[u8]) -> Option<T>) {
-    all.function(name, |tally| {
+    all.function(name, &[3], |tally| {
         for text in integer_texts() {
-            let theirs = std::str::from_utf8(&text).ok().and_then(|s| s.parse().ok());
-            let refused = if theirs.is_none() { Code::refusal(3, 0) } else { Code::ACCEPTED };
-            tally.same(&text, (refused, ours(&text)), (refused, theirs));
+            let said = ours(&text);
+            let code = if said.is_none() { Code::refusal(3, 0) } else { Code::ACCEPTED };
+            let theirs = match their_integer(&text) {
+                None => Said::refused(Who::Rust, 3, 0, None),
+                value => Said::gives(Who::Rust, value),
+            };
+            tally.same(&text, (code, said), theirs);
         }
     });
 }
@@ -55,11 +65,11 @@ pub fn supported(text: &str) -> bool {
     text.chars().all(|c| c.is_ascii_digit() || "+-.".contains(c)) && digits.trim_start_matches('0').len() <= 18 && after <= 18
 }
 
-fn their_decimal(text: &[u8]) -> Decimal {
+pub fn their_decimal(text: &[u8]) -> Said<Float> {
     let Some((text, value)) = std::str::from_utf8(text).ok().and_then(|s| Some((s, s.parse::<f64>().ok()?))) else {
-        return Decimal::Bad;
+        return Said::refused(Who::Rust, 7, 0, Float::Untouched);
     };
-    if supported(text) { Decimal::Is(value.to_bits()) } else { Decimal::Unsupported }
+    if supported(text) { Said::gives(Who::Rust, Float::of(value)) } else { Said::refused(Who::Rules, 9, 0, Float::Untouched) }
 }
 
 fn decimal_texts() -> Vec<Vec<u8>> {
@@ -119,17 +129,29 @@ fn printed() -> Vec<f64> {
 const PATTERN: u8 = 0xEE;
 
 /// A text written at a place of lent bytes, in room enough, exactly full, one short and none: the place reached and every byte.
-fn written(tally: &mut crate::tally::Tally, input: &str, text: &str, write: &dyn Fn(&mut [u8], usize) -> Option<usize>) {
+fn written(tally: &mut Tally, input: &str, text: &str, write: &dyn Fn(&mut [u8], usize) -> Option<usize>) {
     for (room, at) in [(40, 5), (text.len(), 0), (text.len() + 3, 3), (text.len().saturating_sub(1), 0), (3, 7)] {
         let mut ours = vec![PATTERN; room];
         let reached = write(&mut ours, at);
+        let code = if reached.is_none() { Code::refusal(12, 0) } else { Code::ACCEPTED };
         let mut theirs = vec![PATTERN; room];
-        let fits = at + text.len() <= room;
-        if fits {
+        let said = if at + text.len() <= room {
             theirs[at..at + text.len()].copy_from_slice(text.as_bytes());
-        }
-        let code = if fits { Code::ACCEPTED } else { Code::refusal(12, 0) };
-        tally.same(input, (code, (reached, ours)), (code, (fits.then_some(at + text.len()), theirs)));
+            Said::gives(Who::Rust, (Some(at + text.len()), theirs))
+        } else {
+            Said::refused(Who::Rules, 12, 0, (None, theirs))
+        };
+        tally.same(input, (code, (reached, ours)), said);
+    }
+}
+
+/// What is not to be written: beyond 2^53, no number, over four decimals.
+fn unprintable(tally: &mut Tally) {
+    let most = 2f64.powi(53);
+    for (x, decimals) in [(most.next_up(), 3), (-most.next_up(), 0), (f64::INFINITY, 3), (f64::NEG_INFINITY, 3), (f64::NAN, 3), (f64::MAX, 3), (1.0, 5), (1.0, u64::MAX)] {
+        let mut out = [PATTERN; 64];
+        let reached = probe::write_fixed(x, decimals, false, &mut out, 0);
+        tally.require((reached, out) == (None, [PATTERN; 64]), (x, decimals));
     }
 }
 
@@ -138,18 +160,12 @@ pub fn compare(all: &mut Report) {
     integers(all, "parse u32", probe::read_u32);
     integers(all, "parse i16", probe::read_i16);
     integers(all, "parse i32", probe::read_i32);
-    all.function("parse f64", |tally| {
+    all.function("parse f64", &[7, 9], |tally| {
         for text in decimal_texts() {
-            let theirs = their_decimal(&text);
-            let code = match theirs {
-                Decimal::Is(_) => Code::ACCEPTED,
-                Decimal::Unsupported => Code::refusal(9, 0),
-                Decimal::Bad => Code::refusal(7, 0),
-            };
-            tally.same(String::from_utf8_lossy(&text), (code, probe::read_decimal(&text)), (code, theirs));
+            tally.same(String::from_utf8_lossy(&text), probe::read_decimal(&text), their_decimal(&text));
         }
     });
-    all.function("print f64", |tally| {
+    all.function("print f64", &[12], |tally| {
         for x in printed() {
             for decimals in 0..=4u64 {
                 let plain = format!("{x:.*}", decimals as usize);
@@ -158,14 +174,15 @@ pub fn compare(all: &mut Report) {
             let signed = format!("{x:+.1}");
             written(tally, &format!("{x} with a sign"), &signed, &|out, at| probe::write_fixed(x, 1, true, out, at));
         }
+        unprintable(tally);
     });
-    all.function("print i32", |tally| {
+    all.function("print i32", &[12], |tally| {
         let mut random = Random::new(16);
         for z in i32_limits().into_iter().chain((0..50_000).map(|_| random.i32())) {
             written(tally, &z.to_string(), &z.to_string(), &|out, at| probe::write_i32(z, out, at));
         }
     });
-    all.function("print u32", |tally| {
+    all.function("print u32", &[12], |tally| {
         let mut random = Random::new(17);
         for n in u32_limits().into_iter().chain((0..50_000).map(|_| random.u32())) {
             written(tally, &n.to_string(), &n.to_string(), &|out, at| probe::write_u32(n, out, at));

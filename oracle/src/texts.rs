@@ -1,13 +1,13 @@
 //! Lines, UTF-8, trimming and tokens beside Rust's std: short texts exhaustively over telling pieces, every scalar value, random
 //! long texts.
 
-use crate::ffi::probe::{self, Line};
 use crate::inputs::Random;
-use crate::tally::{Code, Report};
+use crate::probe::{self, Line};
+use crate::tally::{Code, Report, Said, Who};
 use std::io::BufRead;
 
 /// Pieces that lines, trimming and tokens turn on: ends, spaces of one, two and three bytes, what looks like them, broken UTF-8.
-const PIECES: [&[u8]; 20] = [
+pub const PIECES: [&[u8]; 20] = [
     b"\n", b"\r", b"\r\n", b" ", b"\t", b"\x0b", b"\x0c", b"!", b"a", b"2", b"\x1f", b"\xc2\x85", b"\xc2\xa0", b"\xe2\x80\x83", b"\xe2\x80\xa8",
     b"\xe2\x80\x8b", b"\xef\xbb\xbf", b"\xff", b"\x80", b"\xe2\x80",
 ];
@@ -46,7 +46,7 @@ fn texts() -> impl Iterator<Item = Vec<u8>> {
 }
 
 /// The lines of a text, as starts and ends, the way `BufRead::lines` cuts them (that one stops at the first line that is not UTF-8).
-fn their_lines(text: &[u8]) -> Vec<(usize, usize)> {
+pub fn their_lines(text: &[u8]) -> Vec<(usize, usize)> {
     let mut found = Vec::new();
     let mut at = 0;
     for line in text.split_inclusive(|&b| b == b'\n') {
@@ -72,32 +72,31 @@ fn our_lines(text: &[u8]) -> Vec<(usize, usize)> {
     found
 }
 
-fn their_line(text: &[u8], from: usize, to: usize) -> Line {
+pub fn their_line(text: &[u8], from: usize, to: usize) -> Said<Line> {
     let Ok(line) = std::str::from_utf8(&text[from..to]) else {
-        return Line::NotUtf8;
+        return Said::refused(Who::Rust, 1, 0, Line::None);
     };
     let trimmed = line.trim();
     if trimmed.is_empty() || trimmed.starts_with('!') {
-        return Line::Dropped;
+        return Said::gives(Who::Rust, Line::None);
     }
     let start = trimmed.as_ptr() as usize - text.as_ptr() as usize;
     let token = trimmed.split_ascii_whitespace().next().unwrap_or("");
     // a trimmed line starts with no space that splits, so its first token starts where it starts
     let token_end = token.as_ptr() as usize - text.as_ptr() as usize + token.len();
-    Line::Content { start, end: start + trimmed.len(), token: token_end }
+    Said::gives(Who::Rust, Line::Content { start, end: start + trimmed.len(), token: token_end })
 }
 
 pub fn compare(all: &mut Report) {
-    all.function("lines", |tally| {
+    all.function("lines", &[], |tally| {
         for text in texts() {
-            tally.same(&text, (Code::ACCEPTED, our_lines(&text)), (Code::ACCEPTED, their_lines(&text)));
+            tally.same(&text, (Code::ACCEPTED, our_lines(&text)), Said::gives(Who::Rust, their_lines(&text)));
         }
     });
-    all.function("what a line says", |tally| {
+    all.function("what a line says", &[1], |tally| {
         for text in texts() {
             for (from, to) in their_lines(&text) {
-                let ours = probe::read_line(&text, from, to);
-                tally.same((&text, from), (Code::ACCEPTED, ours), (Code::ACCEPTED, their_line(&text, from, to)));
+                tally.same((&text, from), probe::read_line(&text, from, to), their_line(&text, from, to));
             }
         }
     });

@@ -1,5 +1,5 @@
 // Inner functions that only the comparison with the Rust calls. Nothing here is part of the interface.
-mod texts;
+pub mod texts;
 
 ghost use mathlib.Core.Path.{_≡_};
 ghost use Rattle.floats.specs.Floats.{abs, trunc, floor, remEuclid, divEuclid};

@@ -8,6 +8,7 @@ use std::sync::OnceLock;
 thread_local! {
     static UNTOUCHED: Cell<bool> = const { Cell::new(false) };
     static OUTSIDE: Cell<bool> = const { Cell::new(false) };
+    static ASKED: Cell<bool> = const { Cell::new(false) };
 }
 
 /// From now on `exp2` and `log2` of the standard library answer (`true`), or E and L do (`false`).
@@ -20,7 +21,13 @@ pub fn left_domain() -> bool {
     OUTSIDE.with(|cell| cell.replace(false))
 }
 
+/// Whether a power or a logarithm was asked for since the last call of this.
+pub fn asked() -> bool {
+    ASKED.with(|cell| cell.replace(false))
+}
+
 pub fn exp2(x: f64) -> f64 {
+    ASKED.with(|cell| cell.set(true));
     if UNTOUCHED.with(Cell::get) {
         return x.exp2();
     }
@@ -31,6 +38,7 @@ pub fn exp2(x: f64) -> f64 {
 }
 
 pub fn log2(x: f64) -> f64 {
+    ASKED.with(|cell| cell.set(true));
     if UNTOUCHED.with(Cell::get) {
         return x.log2();
     }

@@ -1,5 +1,5 @@
 -- `counted_all` is safe and ends: each turn starts further on. Assumes nothing.
-use Prim.Native.Nat.{_≤_, _-_}
+use Prim.Native.Nat.{_-_}
 use borrow.Author.Needs.{needs}
 use lib.ListN.{length}
 use Rattle.replay.proofs.counted_all.Statement.{statement}
@@ -14,17 +14,26 @@ abbrev μ-loop : tie.MeasureT-loop
 loop-holds : tie.Need-loop-holds Inv-loop μ-loop
 loop-holds c = tt
 
-next-line-requires : tie.Need-next-line-requires Inv-loop μ-loop
-next-line-requires c κs = search needs
+line-requires : tie.Need-line-requires Inv-loop μ-loop
+line-requires c κs = search needs
 
-part-counted-start : tie.Need-part-counted-start Inv-loop μ-loop
-part-counted-start c = search needs
+is-who-requires : tie.Need-is-who-requires Inv-loop μ-loop
+is-who-requires c κs = search needs
 
-part-counted-end : tie.Need-part-counted-end Inv-loop μ-loop
-part-counted-end c = search needs
+is-same-requires : tie.Need-is-same-requires Inv-loop μ-loop
+is-same-requires c κs = search needs
 
 counted-requires : tie.Need-counted-requires Inv-loop μ-loop
 counted-requires c κs = search needs
+
+counted-requires-2 : tie.Need-counted-requires-2 Inv-loop μ-loop
+counted-requires-2 c κs = search needs
+
+following-requires : tie.Need-following-requires Inv-loop μ-loop
+following-requires c κs = search needs
+
+counted-requires-3 : tie.Need-counted-requires-3 Inv-loop μ-loop
+counted-requires-3 c κs = search needs
 
 returns : tie.Need-returns Inv-loop μ-loop
 returns c = search needs
@@ -45,10 +54,13 @@ counted-all-spec =
     Inv-loop
     μ-loop
     loop-holds
-    next-line-requires
-    part-counted-start
-    part-counted-end
+    line-requires
+    is-who-requires
+    is-same-requires
     counted-requires
+    counted-requires-2
+    following-requires
+    counted-requires-3
     returns
     loop-less
     loop-again

@@ -1,0 +1,87 @@
+// Runs of a builder, each push beside its answer.
+use frozen::Size;
+use integers::I16;
+use kbm::KbmAnswer;
+use kbm::builder::BuilderAnswer;
+use kbm::builder::KbmBuilder;
+
+// One push of a field, `x` or a degree.
+pub fn pushed(builder: KbmBuilder, map: &mut [i32], field: &[u8]) -> BuilderAnswer {
+    match integers::read_i16(field) {
+        I16::Is(degree) => builder.push_mapped_key(map, degree),
+        I16::IsNot => builder.push_unmapped_key(map),
+    }
+}
+
+// Where the answers of a push go on: the new count, or a refusal.
+pub fn after_push(answer: BuilderAnswer, line: &[u8], at: usize) -> usize {
+    match answer {
+        BuilderAnswer::Is(builder) => crate::fields::after_size(builder.count, line, at),
+        BuilderAnswer::Refused(refusal) => crate::fields::after_refusal(refusal, line, at),
+    }
+}
+
+// A builder after a push, or as it was.
+fn kept(answer: BuilderAnswer, old: KbmBuilder) -> KbmBuilder {
+    match answer {
+        BuilderAnswer::Is(builder) => builder,
+        BuilderAnswer::Refused(_) => old,
+    }
+}
+
+struct Done {
+    builder: KbmBuilder,
+    answer: usize,
+}
+
+// All pushes of a line, each beside its answer: the builder after them, and where the next answer stands.
+fn run(
+    first: KbmBuilder,
+    map: &mut [i32],
+    pushes: usize,
+    line: &[u8],
+    from: usize,
+    answers: usize,
+) -> Done {
+    let mut builder = first;
+    let mut at = from;
+    let mut answer = answers;
+    let mut k = 0;
+    while k < pushes {
+        let said = pushed(builder, map, frozen::field(line, at));
+        answer = after_push(said, line, answer);
+        builder = kept(said, builder);
+        at = frozen::next(line, at);
+        k += 1;
+    }
+    Done { builder, answer }
+}
+
+// A builder with the formal octave of a field; with none for `-`.
+pub fn with_octave(builder: KbmBuilder, field: &[u8]) -> KbmBuilder {
+    match integers::read_i16(field) {
+        I16::Is(octave) => builder.formal_octave(octave),
+        I16::IsNot => builder,
+    }
+}
+
+// Where the answers go on after the pushes and the build.
+pub fn after_build(builder: KbmBuilder, map: &mut [i32], line: &[u8], at: usize) -> usize {
+    let Size::Is(pushes) = frozen::size_of(line, at) else {
+        return line.len();
+    };
+    let from = frozen::next(line, at);
+    let done = run(
+        builder,
+        map,
+        pushes,
+        line,
+        from,
+        frozen::later(line, from, pushes),
+    );
+    let last = done.builder;
+    match last.build(map) {
+        KbmAnswer::Is(kbm) => crate::fields::after_mapping(kbm, line, done.answer),
+        KbmAnswer::Refused(refusal) => crate::fields::after_refusal(refusal, line, done.answer),
+    }
+}

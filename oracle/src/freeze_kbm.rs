@@ -1,0 +1,135 @@
+//! Frozen answers on mappings: files, degrees, exports, roots, pushes and builds.
+
+use crate::ffi_kbm::Mapping;
+use crate::freeze::{List, float, hex, refusal};
+use crate::inputs::Random;
+use crate::kbm_build::{self, Run};
+use crate::kbm_read::{self, PATTERN};
+use crate::kbm_use::{self, SAMPLE, WIDE};
+use crate::lent::Float;
+use crate::rules::UNMAPPED;
+use crate::rust_kbm;
+use crate::tally::{Code, Said, Who};
+
+/// The seven fields of a mapping.
+fn fields(m: Mapping) -> String {
+    format!("{} {} {} {} {} {} {}", m.count, m.start, m.end, m.reference, float(m.pitch()), m.offset, m.octave)
+}
+
+/// A table: its places, and each of them.
+fn table(map: &[i32]) -> String {
+    let places: Vec<String> = map.iter().map(|z| format!(" {z}")).collect();
+    format!("{}{}", map.len(), places.concat())
+}
+
+fn reads(list: &mut List) {
+    let one = |list: &mut List, text: &[u8], room: usize| {
+        let said = kbm_read::said(text, room);
+        let after = table(&said.value.1);
+        list.push_with(&format!("read {} {room}", hex(text)), said, |(m, _)| fields(m), &after);
+    };
+    // each damaged line of a file, then damaged copies, few of each kind
+    let texts = kbm_read::texts();
+    let short: Vec<&Vec<u8>> = texts.iter().filter(|t| t.len() <= 60).collect();
+    for (k, file) in kbm_read::FILES.iter().enumerate() {
+        one(list, file.as_bytes(), 12 - k % 3);
+    }
+    for (k, text) in short.iter().skip(6).step_by(short.len() / 140).enumerate() {
+        one(list, text, [3, 0, 8, 1][k % 4]);
+    }
+    for line in 0..8 {
+        for token in ["2147483647", "1e3", "x", "440.", "-1", "5\u{c}6", "1048577"] {
+            let mut changed: Vec<&str> = kbm_read::EXAMPLE.lines().collect();
+            changed[line] = token;
+            one(list, changed.join("\n").as_bytes(), 4);
+        }
+    }
+}
+
+fn degrees(list: &mut List) {
+    let mut random = Random::new(105);
+    let one = |list: &mut List, m: Mapping, map: &[i32], key: i32| {
+        list.push(&format!("degree {} {} {key}", table(map), fields(m)), kbm_use::degree(m, map, key), |degree| degree.to_string());
+    };
+    for key in [60, 61, 63, 59, 128, -1, 0, 127] {
+        one(list, SAMPLE, &[0, UNMAPPED, 2], key);
+    }
+    for key in [-65_536, 65_536, 0, -1] {
+        one(list, WIDE, &[-1], key);
+    }
+    one(list, Mapping { count: 0, reference: -2, ..WIDE }, &[], 2_147_483_646);
+    for k in 0..50 {
+        let (m, entries) = rust_kbm::random(&mut random, k % 7);
+        for key in [random.i32(), m.reference.wrapping_add(1), m.start] {
+            one(list, m, &entries, key);
+        }
+    }
+    for (map, count) in [(vec![0], 2), (vec![40_000], 1), (vec![0, -32_769], 2), (vec![], 1)] {
+        let m = Mapping { count, ..SAMPLE };
+        list.push(&format!("degree {} {} 500", table(&map), fields(m)), Said::refused(Who::Rules, 10, 0, 0), |degree: i32| degree.to_string());
+    }
+}
+
+fn exports(list: &mut List) {
+    let mut random = Random::new(106);
+    let one = |list: &mut List, m: Mapping, map: &[i32], room: usize| {
+        let said = kbm_use::export(m, map, room);
+        let after = hex(&said.value.1);
+        list.push_with(&format!("export {} {} {room}", table(map), fields(m)), said, |(size, _)| size.to_string(), &after);
+    };
+    for k in 0..36 {
+        let (mut m, entries) = rust_kbm::random(&mut random, k % 6);
+        m.hz = Float::of([261.6256, 440.0, 1.0625, 1.1875, 2f64.powi(20), 2f64.powi(-10), 0.0005 + k as f64][k % 7]);
+        let size = match kbm_use::export(m, &entries, 400) {
+            Said { code: Code::ACCEPTED, value: (size, _), .. } => size,
+            _ => 20,
+        };
+        one(list, m, &entries, [size, size + 2, size - 1][k % 3]);
+    }
+    one(list, Mapping { end: i32::MIN, count: 0, ..SAMPLE }, &[], 9);
+    one(list, Mapping { reference: i32::MAX, offset: 1, count: 0, ..SAMPLE }, &[], 9);
+    one(list, Mapping { hz: Float::of(0.0), count: 0, end: i32::MIN, ..SAMPLE }, &[], 9);
+}
+
+fn pushes(list: &mut List) {
+    for hz in [440.0, 2f64.powi(20), 2f64.powi(20).next_up(), 2f64.powi(-10), 2f64.powi(-10).next_down(), 0.0, -440.0, f64::NAN, f64::INFINITY] {
+        list.push(&format!("root 60 {} 2", float(hz)), kbm_build::root(60, hz, 2), |()| "usable".to_string());
+    }
+    // pushes onto states that are the table's and that are not
+    for (places, room, count) in [(3, 3, 0), (3, 3, 2), (3, 3, 3), (3, 4, 0), (3, 3, 4), (3, 2, 0), (0, 0, 0), (1, 1, 0)] {
+        for degree in [Some(-32_768), Some(7), None] {
+            let mut map = vec![PATTERN; places];
+            let run = Run { room, mapping: SAMPLE, octave: None, pushes: vec![degree; count + 1] };
+            let said = if room != places || count > room { Said::refused(Who::Rules, 10, 0, 0) } else { kbm_build::push(&run, count).map(|(after, _)| after) };
+            let before = table(&map);
+            if said.code == Code::ACCEPTED {
+                map[count] = degree.map_or(UNMAPPED, i32::from);
+            }
+            let shown = degree.map_or("x".to_string(), |d| d.to_string());
+            list.push_with(&format!("push {before} {room} {count} {shown}"), said, |after| after.to_string(), &table(&map));
+        }
+    }
+}
+
+/// A run: the answer of each push, what is built, and the table.
+fn builds(list: &mut List) {
+    let mut random = Random::new(107);
+    for k in 0..60 {
+        let run = kbm_build::random_run(&mut random, k % 7);
+        let m = run.mapping;
+        let octave = run.octave.map_or("-".to_string(), |octave| octave.to_string());
+        let degrees: Vec<String> = run.pushes.iter().map(|d| d.map_or(" x".to_string(), |d| format!(" {d}"))).collect();
+        let answers: Vec<String> = (0..run.pushes.len()).map(|k| kbm_build::push(&run, k)).map(|said| if said.code == Code::ACCEPTED { said.value.0.to_string() } else { refusal(said.code) }).collect();
+        let call = format!("build {} {} {} {} {} {} {octave} {}{} {}", run.room, m.reference, float(m.pitch()), m.offset, m.start, m.end, degrees.len(), degrees.concat(), answers.join(" "));
+        let after = table(&kbm_build::table(&run, run.pushes.len().min(run.room)));
+        list.push_with(call.trim_end(), kbm_build::build(&run), |(count, octave)| fields(Mapping { count, octave, ..m }), &after);
+    }
+}
+
+pub fn mappings(list: &mut List) {
+    reads(list);
+    degrees(list);
+    exports(list);
+    pushes(list);
+    builds(list);
+}

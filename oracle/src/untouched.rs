@@ -1,0 +1,111 @@
+//! The Rust with its own exp2 and log2, beside the same calls on E and L: how many answers differ, and how far. Nothing is left out
+//! but what E, L or the rules refuse; the inputs are those of the comparison.
+
+use crate::pitch::{self, ONES, One, TWOS, Two, ratio};
+use crate::tally::Code;
+use crate::{lent::Float, powers};
+use tune::powers::use_untouched;
+
+/// How far answers are apart: the most in absolute terms, relative to ours, and in units of the last place.
+struct Apart {
+    cases: u64,
+    differ: u64,
+    absolute: f64,
+    relative: f64,
+    places: u64,
+    /// Where one of the two is infinite, no number or zero and the other is not.
+    unlike: u64,
+}
+
+impl Apart {
+    fn new() -> Apart {
+        Apart { cases: 0, differ: 0, absolute: 0.0, relative: 0.0, places: 0, unlike: 0 }
+    }
+
+    fn add(&mut self, ours: f64, theirs: f64) {
+        self.cases += 1;
+        if ours.to_bits() == theirs.to_bits() || ours.is_nan() && theirs.is_nan() {
+            return;
+        }
+        self.differ += 1;
+        let plain = |x: f64| x.is_finite() && x != 0.0;
+        if !plain(ours) || !plain(theirs) || (ours < 0.0) != (theirs < 0.0) {
+            self.unlike += 1;
+        }
+        if ours.is_finite() && theirs.is_finite() {
+            let absolute = (ours - theirs).abs();
+            self.absolute = self.absolute.max(absolute);
+            if ours != 0.0 {
+                self.relative = self.relative.max((absolute / ours).abs());
+            }
+            if (ours < 0.0) == (theirs < 0.0) {
+                self.places = self.places.max(ours.to_bits().abs_diff(theirs.to_bits()));
+            }
+        }
+    }
+
+    fn print(&self, name: &str) {
+        println!("{name:<26} {:>9} {:>9} {:>12.3e} {:>12.3e} {:>20} {:>6}", self.cases, self.differ, self.absolute, self.relative, self.places, self.unlike);
+    }
+}
+
+fn untouched<T>(call: impl FnOnce() -> T) -> T {
+    use_untouched(true);
+    let answer = call();
+    use_untouched(false);
+    answer
+}
+
+fn bits(x: Float) -> f64 {
+    if let Float::Is(bits) = x { f64::from_bits(bits) } else { f64::NAN }
+}
+
+fn nearest() {
+    let (mut apart, mut cases, mut others) = (Apart::new(), 0, 0);
+    for x in pitch::approached().filter(|x| (2f64.powi(-64)..=2f64.powi(64)).contains(x)) {
+        for limit in [0, 1, 3, 5, 9, 15, 99, 65_535] {
+            let ours = ratio(x).nearest_fraction(limit);
+            let theirs = untouched(|| ratio(x).nearest_fraction(limit));
+            cases += 1;
+            if (ours.numer, ours.denom, ours.num_octaves) == (theirs.numer, theirs.denom, theirs.num_octaves) {
+                apart.add(ours.deviation.as_float(), theirs.deviation.as_float());
+            } else {
+                others += 1;
+            }
+        }
+    }
+    apart.print("nearest_fraction");
+    println!("nearest_fraction: another fraction or other octaves in {others} of {cases}; the line above is the deviations of the rest");
+}
+
+pub fn report() {
+    println!("the Rust's own exp2 and log2 beside E and L:");
+    println!("{:<26} {:>9} {:>9} {:>12} {:>12} {:>20} {:>6}", "function", "cases", "differ", "most apart", "relative", "last places", "unlike");
+    let mut apart = Apart::new();
+    powers::exponents().for_each(|x| tune::powers::e(x).into_iter().for_each(|y| apart.add(y, x.exp2())));
+    apart.print("exp2");
+    let mut apart = Apart::new();
+    powers::values().for_each(|x| tune::powers::l(x).into_iter().for_each(|y| apart.add(y, x.log2())));
+    apart.print("log2");
+    for One(name, _, call, _) in &ONES[2..8] {
+        let mut apart = Apart::new();
+        for x in pitch::singles() {
+            let ours = call(x);
+            if ours.code == Code::ACCEPTED {
+                apart.add(bits(ours.value), bits(untouched(|| call(x)).value));
+            }
+        }
+        apart.print(name);
+    }
+    for Two(name, _, call, _) in &TWOS[5..] {
+        let mut apart = Apart::new();
+        for (x, y) in pitch::pairs() {
+            let ours = call(x, y);
+            if ours.code == Code::ACCEPTED {
+                apart.add(bits(ours.value), bits(untouched(|| call(x, y)).value));
+            }
+        }
+        apart.print(name);
+    }
+    nearest();
+}
