@@ -126,11 +126,31 @@ fn files() -> Vec<Row> {
     ]
 }
 
+const FIELD: &[u8] = include_bytes!("../../examples/field.kbm");
+
+/// How many of the keys 0 to 127 have a degree by one of two readings of that file alone: this one, `sounds`, and Scala's, which
+/// counts the pattern from the middle key.
+fn parted(sounds: impl Fn(i32) -> bool) -> String {
+    (0..128).filter(|&key| sounds(key) == matches!((key - 60i32).rem_euclid(12), 1 | 6)).count().to_string()
+}
+
+fn field_here() -> String {
+    let mut map = [0; 12];
+    let (_, mapping) = ffi_kbm::read_kbm(FIELD, &mut map);
+    parted(|key| ffi_kbm::scale_degree_of(mapping, &map, key).0 == Code::ACCEPTED)
+}
+
+fn field_rust() -> String {
+    let kbm = tune::scala::Kbm::import(FIELD).unwrap();
+    parted(|key| kbm.scale_degree_of(PianoKey::from_midi_number(key)).is_some())
+}
+
 const FREE: Mapping = Mapping { count: 0, ..SAMPLE };
 
 fn tables() -> Vec<Row> {
     vec![
         row("Scala: the pattern starts at the middle key", "entries 0 x 2, middle 62, reference 60: key 60", || degree(Mapping { offset: 2, ..SAMPLE }, &[0, UNMAPPED, 2], 60), "Some(0)", || our_degree(Mapping { offset: 2, ..SAMPLE }, &[0, UNMAPPED, 2], 60), "0"),
+        row("Scala: the pattern starts at the middle key", "examples/field.kbm (middle 60, reference 69, 12 entries, two of them x): keys of 0..127 that sound in one reading only", field_rust, "43", field_here, "43"),
         row("`scale_degree_of`", "size 0, middle 62, reference 60: key 61", || degree(Mapping { offset: 2, ..FREE }, &[], 61), "Some(1)", || our_degree(Mapping { offset: 2, ..FREE }, &[], 61), "1"),
         row("`scale_degree_of`", "key 128 of 0..127", || degree(FREE, &[], 128), "None", || our_degree(FREE, &[], 128), "16"),
         row("`scale_degree_of`", "entries 0 x 2, reference 60: key 61", || degree(SAMPLE, &[0, UNMAPPED, 2], 61), "None", || our_degree(SAMPLE, &[0, UNMAPPED, 2], 61), "17"),

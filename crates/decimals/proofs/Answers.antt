@@ -9,7 +9,7 @@ use lib.Dec.{leb, eqb}
 use lib.Ieee.{Float}
 use borrow.Author.Tests.{leb-true}
 use Rattle.base.specs.Said.{pick}
-use Rattle.decimals.specs.DecimalScan.{afterSign, afterDot, wordAt, exponentAt, runAt, endedAt, partOf, numberAt, scaled, scanOf, minusFirst, supported, valued, judged, readDecimal}
+use Rattle.decimals.specs.DecimalScan.{afterSign, afterDot, wordAt, exponentAt, runAt, endedAt, afterPart, numberAt, scaled, scanOf, minusFirst, supported, valued, judged, readDecimal}
 use Rattle.decimals.specs.declared.Run.{Run}
 use Rattle.decimals.specs.declared.Numeral.{Numeral}
 use Rattle.decimals.specs.declared.Scanned.{Scanned}
@@ -45,7 +45,7 @@ ended-small s found x end h = go (eqb found 0) (eqb end (length s)) (exponentAt 
     go false false true = h
     go false false false = tt
 
-part-small : (s : List ℕ) (negative : Bool) (found dot : ℕ) (r : Run) → r .n < 10 ^ 18 → Small (partOf s negative found dot r)
+part-small : (s : List ℕ) (negative : Bool) (found dot : ℕ) (r : Run) → r .n < 10 ^ 18 → Small (afterPart s negative found dot r)
 part-small s negative found dot r h =
     ended-small s (found + (r .at - dot)) (record { negative = negative; n = r .n; significant = r .significant; places = r .at - dot; plain = true }) (r .at) h
 

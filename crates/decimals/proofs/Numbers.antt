@@ -11,7 +11,7 @@ use borrow.Author.Tests.{lt-ltb, le-ltb, ltb-true, eq-eqb, ne-eqb, eqb-true, eqb
 use Rattle.base.specs.Said.{pick}
 use Rattle.decimals.specs.DecimalText.{OptionalSign, DottedDigits, Exponent}
 use Rattle.integers.specs.Digits.{AllDigits}
-use Rattle.decimals.specs.DecimalScan.{runOf, runAt, afterSign, afterDot, markAt, digitsToEnd, exponentAt, scaled as withExponent, endedAt, partOf, numberAt}
+use Rattle.decimals.specs.DecimalScan.{runOf, runAt, afterSign, afterDot, markAt, digitsToEnd, exponentAt, scaled as withExponent, endedAt, afterPart, numberAt}
 use Rattle.decimals.specs.declared.Run.{Run}
 use Rattle.decimals.specs.declared.Numeral.{Numeral}
 use Rattle.decimals.specs.declared.Scanned.the-variants as scanned

@@ -11,7 +11,7 @@ use lib.Seq.{drop-cons}
 use lib.Dec.{ltb, eqb}
 use borrow.Author.Tests.{lt-ltb, le-ltb, ltb-true, le-leb, lt-leb, eq-eqb, ne-eqb}
 use Rattle.base.specs.Said.{pick}
-use Rattle.decimals.specs.DecimalScan.{grownBy, countedBy, runOf, runAt, lowered, spelled, afterSign, afterDot, markAt, exponentAt, partOf, numberAt}
+use Rattle.decimals.specs.DecimalScan.{grownBy, countedBy, runOf, runAt, lowered, spelled, afterSign, afterDot, markAt, exponentAt, afterPart, numberAt}
 use Rattle.decimals.specs.declared.Run.{Run}
 use Rattle.integers.specs.Digits.{isDigit}
 
@@ -83,5 +83,5 @@ module _ (s : List ℕ) (at : ℕ) {from : ℕ} {r : Run} (m : markAt s at ≡ t
 
 -- a number, from what the calls answered
 pub number-is : (s : List ℕ) (negative : Bool) (from : ℕ) {w p : Run} {dot : ℕ} → w ≡ runAt s 0 0 from → dot ≡ afterDot s (w .at) →
-    p ≡ runAt s (w .n) (w .significant) dot → partOf s negative (w .at - from) dot p ≡ numberAt s negative from
+    p ≡ runAt s (w .n) (w .significant) dot → afterPart s negative (w .at - from) dot p ≡ numberAt s negative from
 number-is s negative from a b c = rw (c, b, a)

@@ -93,17 +93,17 @@ endedAt s found x end =
     (pick (eqb end (length s)) (scanned.Is x) (pick (exponentAt s end) (scanned.Is (scaled x)) scanned.Bad))
 
 -- the same, where the digits r from `dot` on follow `found` digits
-abbrev pub partOf : List ℕ → Bool → ℕ → ℕ → Run → Scanned
-partOf s negative found dot r =
+abbrev pub afterPart : List ℕ → Bool → ℕ → ℕ → Run → Scanned
+afterPart s negative found dot r =
     endedAt s (found + (r .at - dot)) (record { negative = negative; n = r .n; significant = r .significant; places = r .at - dot; plain = true }) (r .at)
 
 -- the same, where the digits r stand from `from` on
-abbrev pub wholeOf : List ℕ → Bool → ℕ → Run → Scanned
-wholeOf s negative from r = partOf s negative (r .at - from) (afterDot s (r .at)) (runAt s (r .n) (r .significant) (afterDot s (r .at)))
+abbrev pub afterWhole : List ℕ → Bool → ℕ → Run → Scanned
+afterWhole s negative from r = afterPart s negative (r .at - from) (afterDot s (r .at)) (runAt s (r .n) (r .significant) (afterDot s (r .at)))
 
 -- the numeral that the text from `from` on is, after its sign
 abbrev pub numberAt : List ℕ → Bool → ℕ → Scanned
-numberAt s negative from = wholeOf s negative from (runAt s 0 0 from)
+numberAt s negative from = afterWhole s negative from (runAt s 0 0 from)
 
 -- the numeral that a text is
 unfoldable pub scanOf : List ℕ → Scanned

@@ -1,5 +1,5 @@
--- Document 01, "Sample lines": the starred ones of a mapping. "Entries 0, x, 2, octave 5, keys 0 to 127, reference 60: 60 gives 0;
--- 61 gives 17; 63 gives 5; 59 gives -3; 128 gives 16. Middle 62 changes none." Assumes nothing.
+-- Mappings for samples: that of document 01's starred ones ("Entries 0, x, 2, octave 5, keys 0 to 127, reference 60"), one at the
+-- ends of 32 bits, and the Rust's own example. Assumes nothing.
 use mathlib.Core.Path.{_≡_}
 use mathlib.Core.List.{List, [], _∷_}
 use lib.IntN.{ℤ, pos, negℤ}
@@ -17,13 +17,6 @@ sample pitch offset = record { root = record { reference = key (pos 60); pitch =
 -- entries 0, x, 2
 abbrev pub sampleTable : List ℤ
 sampleTable = pos 0 ∷ unmapped ∷ pos 2 ∷ []
-
-pub record Samples (pitch : Pitch) (offset : ℤ) : Type 0 where
-  pub at60 : scaleDegreeOf (sample pitch offset) sampleTable (key (pos 60)) ≡ gives (pos 0)
-  pub at61 : scaleDegreeOf (sample pitch offset) sampleTable (key (pos 61)) ≡ refuses 17 0
-  pub at63 : scaleDegreeOf (sample pitch offset) sampleTable (key (pos 63)) ≡ gives (pos 5)
-  pub at59 : scaleDegreeOf (sample pitch offset) sampleTable (key (pos 59)) ≡ gives (negℤ (pos 3))
-  pub at128 : scaleDegreeOf (sample pitch offset) sampleTable (key (pos 128)) ≡ refuses 16 0
 
 -- exact values, not steps of 32 bits: one entry -1, formal octave -32768, reference key 0
 abbrev pub steep : Pitch → Kbm

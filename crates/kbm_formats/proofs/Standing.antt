@@ -8,7 +8,7 @@ use native.Mathlib.Omega.{arith}
 use Rattle.kbm_read.specs.Language.{Tokens}
 use Rattle.kbm_write.specs.Published as P
 use Rattle.kbm_write.proofs.Plain.{Plain, Word}
-use Rattle.text.specs.Characters.{Each, written, encode}
+use Rattle.text.specs.Characters.{Each, inBytes, encode}
 use Rattle.text.specs.Reading.{WhiteSpace, EmptyOrComment, strict, Trimmed, Splits, Stops, Meaning, invalid, dropped, content, Line, EachLine}
 use Rattle.text.proofs.Encodings.{enc1, enc2, enc3, enc4, split}
 use Rattle.text.proofs.TokenLanguage.{one-token}
@@ -72,41 +72,41 @@ white-head w c v u x l h e = let y = low-head w c v u (omega arith) e .0 in not-
 no-cons : {A : Type 0} {b : ℕ} {l : List ℕ} → [] ≡ b ∷ l → A
 no-cons e = let z : _≡_ {A = ℕ} 0 1 = cc in absurd (omega arith)
 
-all-white : (vs bs : List ℕ) (c : ℕ) (u : List ℕ) → Each WhiteSpace vs → Each P.Blank bs → Plain c → written encode vs ≡ bs ++ (c ∷ u) → ⊥
-unfolding written
+all-white : (vs bs : List ℕ) (c : ℕ) (u : List ℕ) → Each WhiteSpace vs → Each P.Blank bs → Plain c → inBytes encode vs ≡ bs ++ (c ∷ u) → ⊥
+unfolding inBytes
 all-white [] [] c u x y p e = no-cons e
 all-white [] (b ∷ bs) c u x y p e = no-cons e
-all-white (a ∷ vs) [] c u x y p e = white-head a c (written encode vs) u (x .0) (omega (arith, p)) (p .1) e
-all-white (a ∷ vs) (b ∷ bs) c u x y p e = all-white vs bs c u (x .1) (y .1) p (low-head a b (written encode vs) (bs ++ (c ∷ u)) (blank-low b (y .0)) e .1)
+all-white (a ∷ vs) [] c u x y p e = white-head a c (inBytes encode vs) u (x .0) (omega (arith, p)) (p .1) e
+all-white (a ∷ vs) (b ∷ bs) c u x y p e = all-white vs bs c u (x .1) (y .1) p (low-head a b (inBytes encode vs) (bs ++ (c ∷ u)) (blank-low b (y .0)) e .1)
 
 -- what is trimmed before a value is the blanks before it
 module _ (m vs : List ℕ) (c : ℕ) (u : List ℕ) (x : Each WhiteSpace vs) (p : Plain c) (starts : (d : ℕ) (t : List ℕ) → WhiteSpace d → m ≡ encode d ++ t → ⊥) where
-  trims-blank : (ws bs : List ℕ) → Each WhiteSpace ws → Each P.Blank bs → written encode ws ++ (m ++ written encode vs) ≡ bs ++ (c ∷ u) → m ++ written encode vs ≡ c ∷ u
-  unfolding written
+  trims-blank : (ws bs : List ℕ) → Each WhiteSpace ws → Each P.Blank bs → inBytes encode ws ++ (m ++ inBytes encode vs) ≡ bs ++ (c ∷ u) → m ++ inBytes encode vs ≡ c ∷ u
+  unfolding inBytes
   trims-blank [] [] q y e = e
   trims-blank [] (b ∷ bs) q y e = absurd (go m starts e)
     where
-      go : (n : List ℕ) → ((d : ℕ) (t : List ℕ) → WhiteSpace d → n ≡ encode d ++ t → ⊥) → n ++ written encode vs ≡ b ∷ (bs ++ (c ∷ u)) → ⊥
+      go : (n : List ℕ) → ((d : ℕ) (t : List ℕ) → WhiteSpace d → n ≡ encode d ++ t → ⊥) → n ++ inBytes encode vs ≡ b ∷ (bs ++ (c ∷ u)) → ⊥
       go [] s f = all-white vs (b ∷ bs) c u x y p f
       go (d ∷ n) s f =
           let g : d ≡ b = cc in
           s b n (blank-white b (y .0)) (rw (enc1 b (blank-low b (y .0))) (ap (λ (k : ℕ). k ∷ n) g))
-  trims-blank (w ∷ ws) [] q y e = absurd (white-head w c (written encode ws ++ (m ++ written encode vs)) u (q .0) (omega (arith, p)) (p .1) (sym (append-assoc (encode w) (written encode ws) (m ++ written encode vs)) ∙ e))
+  trims-blank (w ∷ ws) [] q y e = absurd (white-head w c (inBytes encode ws ++ (m ++ inBytes encode vs)) u (q .0) (omega (arith, p)) (p .1) (sym (append-assoc (encode w) (inBytes encode ws) (m ++ inBytes encode vs)) ∙ e))
   trims-blank (w ∷ ws) (b ∷ bs) q y e =
       trims-blank ws bs (q .1) (y .1)
-      (low-head w b (written encode ws ++ (m ++ written encode vs)) (bs ++ (c ∷ u)) (blank-low b (y .0)) (sym (append-assoc (encode w) (written encode ws) (m ++ written encode vs)) ∙ e) .1)
+      (low-head w b (inBytes encode ws ++ (m ++ inBytes encode vs)) (bs ++ (c ∷ u)) (blank-low b (y .0)) (sym (append-assoc (encode w) (inBytes encode ws) (m ++ inBytes encode vs)) ∙ e) .1)
 
 -- a text before white characters that starts with plain bytes has them all, and then ends or splits
-leads : (t m vs r : List ℕ) → Each Plain t → Each WhiteSpace vs → P.Ends r → m ++ written encode vs ≡ t ++ r → (v : List ℕ) × (m ≡ t ++ v) × Stops v
-unfolding written
+leads : (t m vs r : List ℕ) → Each Plain t → Each WhiteSpace vs → P.Ends r → m ++ inBytes encode vs ≡ t ++ r → (v : List ℕ) × (m ≡ t ++ v) × Stops v
+unfolding inBytes
 leads [] [] vs r p x n e = ([], refl, tt)
 leads [] (y ∷ m) vs [] p x n e = no-cons (sym e)
 leads [] (y ∷ m) vs (b ∷ r) p x n e = let f : b ≡ y = cc in (y ∷ m, refl, blank-splits y (subst P.Blank f n))
 leads (c ∷ t) [] [] r p x n e = no-cons e
-leads (c ∷ t) [] (a ∷ vs) r p x n e = absurd (white-head a c (written encode vs) (t ++ r) (x .0) (omega (arith, p .0)) (p .0 .1) e)
+leads (c ∷ t) [] (a ∷ vs) r p x n e = absurd (white-head a c (inBytes encode vs) (t ++ r) (x .0) (omega (arith, p .0)) (p .0 .1) e)
 leads (c ∷ t) (y ∷ m) vs r p x n e =
     let f : y ≡ c = cc in
-    let g : m ++ written encode vs ≡ t ++ r = cc in
+    let g : m ++ inBytes encode vs ≡ t ++ r = cc in
     let h = leads t m vs r (p .1) x n g in
     let k = h .1 in
     (h .0, cc, h .2)
@@ -134,18 +134,18 @@ value-line l t x w s (Line.says r m u y n q e) =
 
 -- a comment as published is no text, or drops out
 pub comment-line : (l : List ℕ) (x : Meaning) → P.Comment l → Line strict l x → (x ≡ invalid) ⊎ (x ≡ dropped)
-unfolding written
+unfolding inBytes
 comment-line [] x c y = absurd c
 comment-line (b ∷ l) x c (Line.not-text n e) = inl e
 comment-line (b ∷ l) x c (Line.drops r m y d e) = inr e
 comment-line (b ∷ l) x c (Line.says r m t y n q e) = absurd (n (go (y .before) m (y .white-before) (y .whole)))
   where
-    go : (ws u : List ℕ) → Each WhiteSpace ws → b ∷ l ≡ written encode ws ++ (u ++ written encode (y .after)) → EmptyOrComment u
+    go : (ws u : List ℕ) → Each WhiteSpace ws → b ∷ l ≡ inBytes encode ws ++ (u ++ inBytes encode (y .after)) → EmptyOrComment u
     go [] [] k f = EmptyOrComment.empty refl
     go [] (d ∷ u) k f = let g : d ≡ 33 = cc in EmptyOrComment.comment u (ap (λ (i : ℕ). i ∷ u) g)
     go (w ∷ ws) u k f =
-        let v = written encode ws ++ (u ++ written encode (y .after)) in
-        absurd (white-head w b v l (k .0) (omega (arith, c)) (omega (arith, c)) (sym (append-assoc (encode w) (written encode ws) (u ++ written encode (y .after))) ∙ sym f))
+        let v = inBytes encode ws ++ (u ++ inBytes encode (y .after)) in
+        absurd (white-head w b v l (k .0) (omega (arith, c)) (omega (arith, c)) (sym (append-assoc (encode w) (inBytes encode ws) (u ++ inBytes encode (y .after))) ∙ sym f))
 
 -- each of the lines holds the value beside it
 abbrev pub Holds : List (List ℕ) → List (List ℕ) → Type 0

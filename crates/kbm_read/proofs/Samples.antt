@@ -14,7 +14,7 @@ use Rattle.integers.specs.Integer.{scan, magnitudeOf, readSigned}
 use Rattle.text.specs.Cut.{lines}
 use Rattle.text.specs.ReadLine.{tokenLength, meaningBy, meanings}
 use Rattle.text.specs.Trim.{widthBy, run}
-use Rattle.text.specs.Utf8Machine.{leadOf, stepOf}
+use Rattle.text.specs.Utf8Machine.{leadOf, utf8Step}
 use Rattle.text.specs.Utf8Machine as utf8
 use Rattle.kbm_read.specs.Language.{blanks}
 use Rattle.kbm_read.specs.Reader.{entryIn, takeToken, finished, walk, readOf, givenFrom, entriesIn}
@@ -50,7 +50,7 @@ pub record Samples : Type 0 where
   pub nothing : readOf 8 [] ≡ refuses 2 1
 
 pub samples : Samples
-unfolding lines meaningBy meanings tokenLength widthBy run leadOf stepOf utf8.runOf scan magnitudeOf readSigned decimals.runOf spelled scanOf readDecimal entryIn takeToken finished walk givenFrom blanks round ofBits le
+unfolding lines meaningBy meanings tokenLength widthBy run leadOf utf8Step utf8.utf8From scan magnitudeOf readSigned decimals.runOf spelled scanOf readDecimal entryIn takeToken finished walk givenFrom blanks round ofBits le
 samples =
     record {
       mapping = refl;

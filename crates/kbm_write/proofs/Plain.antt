@@ -10,7 +10,7 @@ use lib.ListN.{length}
 use lib.Ieee.Bits.{is-true}
 use borrow.Author.Tests.{leb-true}
 use Rattle.floats.proofs.Ranges.{and-true}
-use Rattle.text.specs.Characters.{Each, written, Span, span, Among, Scalar, encode}
+use Rattle.text.specs.Characters.{Each, inBytes, Span, span, Among, Scalar, encode}
 use Rattle.text.specs.Cut.{lines}
 use Rattle.text.specs.Lines.{NoLF, EndsCR, Lines}
 use Rattle.text.specs.ReadLine.{strictly, meanings}
@@ -77,14 +77,14 @@ characters : (t : List ℕ) → Each Plain t → Each Scalar t
 characters [] p = tt
 characters (b ∷ t) p = (inl (omega (arith, p .0)), characters t (p .1))
 
-themselves : (t : List ℕ) → Each Plain t → t ≡ written encode t
-unfolding written
+themselves : (t : List ℕ) → Each Plain t → t ≡ inBytes encode t
+unfolding inBytes
 themselves [] p = refl
 themselves (b ∷ t) p = rw (enc1 b (omega (arith, p .0))) (ap (λ (s : List ℕ). b ∷ s) (themselves t (p .1)))
 
 -- nothing is trimmed, nothing splits, nothing ends a line
 kept : (t : List ℕ) → Each Plain t → Trimmed WhiteSpace encode t t
-unfolding written
+unfolding inBytes
 kept t p =
     record {
       before = [];

@@ -24,7 +24,7 @@ use Rattle.math.specs.OddPart.{halvedWhileEven}
 use Rattle.explog.specs.Rules.{E, L, logOf, powerOf, floorOf}
 use Rattle.explog.proofs.Reach.{log-sized, exp-within, sized-powers}
 use Rattle.pitch.specs.Given.{computed}
-use Rattle.pitch.specs.NearestFraction.{fraction, walkOf, start, turns, walked, endOf, floatOf, bothOver, bothWithin, improved, passed, turnAt, stepOf, bestFor, nearestFraction}
+use Rattle.pitch.specs.NearestFraction.{fraction, walkOf, widest, turns, walked, endOf, floatOf, bothOver, bothWithin, improved, passed, turnAt, turnOf, bestFor, nearestFraction}
 use Rattle.pitch.specs.Ratios.{fromOctaves, upward}
 use Rattle.pitch.specs.declared.nearest.Fraction.{Fraction}
 use Rattle.pitch.specs.declared.nearest.Step.{Step}
@@ -154,7 +154,7 @@ module _ (target : Float) (limit : ℕ) (some : 1 ≤ limit) (t : Within 128 128
   unfolding bothWithin halvedWhileEven
   one-within = rw (le-leb 1 limit some)
 
-  -- any number is below the infinite deviation of the start
+  -- any number is below the infinite deviation of the widest
   below : {x : Float} → Within 144 144 x → lt x (upward (inf false)) ≡ true
   unfolding lt upward neg
   below (within-fin m e p l h) = refl
@@ -162,7 +162,7 @@ module _ (target : Float) (limit : ℕ) (some : 1 ≤ limit) (t : Within 128 128
   one-nearer : lt (upward deviation-one) (upward (inf false)) ≡ true
   one-nearer = below (upward-within deviation-one (lit≤ tt) (over-within (lit≤ tt) (lit≤ tt) t (fraction-within one one-proper)))
 
-  improved-one : improved start one deviation-one limit ≡ walkOf (fraction 0 1) (fraction 1 0) one deviation-one
+  improved-one : improved widest one deviation-one limit ≡ walkOf (fraction 0 1) (fraction 1 0) one deviation-one
   unfolding improved
   improved-one = rw (one-within, one-nearer)
 
@@ -172,11 +172,11 @@ module _ (target : Float) (limit : ℕ) (some : 1 ≤ limit) (t : Within 128 128
   at-one : State (Counted target limit) (walkOf (fraction 0 1) (fraction 1 0) one deviation-one)
   at-one = record { between = record { low = omega arith; high = omega arith }; held = record { low-numer = omega arith; low-denom = omega arith; high-numer = omega arith; high-denom = omega arith }; best = new one one-proper one-within }
 
-  first : stepOf start target limit ≡ passed (walkOf (fraction 0 1) (fraction 1 0) one deviation-one) one target
-  unfolding stepOf turnAt
+  first : turnOf widest target limit ≡ passed (walkOf (fraction 0 1) (fraction 1 0) one deviation-one) one target
+  unfolding turnOf turnAt
   first = rw (not-over, improved-one)
 
-  counted-after : (k : ℕ) → State (Counted target limit) (walked (suc k) start target limit)
+  counted-after : (k : ℕ) → State (Counted target limit) (walked (suc k) widest target limit)
   unfolding walked
   counted-after k =
       subst (λ (e : Step). State (Counted target limit) (endOf e (λ next. walked k next target limit))) (sym first)
@@ -186,5 +186,5 @@ module _ (target : Float) (limit : ℕ) (some : 1 ≤ limit) (t : Within 128 128
       go (On next) h = state-rest target limit (Counted target limit) new k next h
       go (Done last) h = h
 
-  pub counted : State (Counted target limit) (walked turns start target limit)
+  pub counted : State (Counted target limit) (walked turns widest target limit)
   counted = counted-after (turns - 1)

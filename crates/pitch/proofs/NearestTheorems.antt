@@ -13,7 +13,7 @@ use Rattle.floats.proofs.Between.{within-more, within-reach}
 use Rattle.floats.proofs.Ranges.{Within}
 use Rattle.explog.specs.Rules.{L}
 use Rattle.math.specs.OddPart.{halvedWhileEven}
-use Rattle.pitch.specs.NearestFraction.{fraction, start, turns, walked, floatOf, bothOver, bothWithin, turnAt, stepOf, bestFor, nearestFraction}
+use Rattle.pitch.specs.NearestFraction.{fraction, widest, turns, walked, floatOf, bothOver, bothWithin, turnAt, turnOf, bestFor, nearestFraction}
 use Rattle.pitch.specs.Ratios.{upward}
 use Rattle.pitch.specs.declared.nearest.NearestFraction.{NearestFraction}
 use Rattle.pitch.specs.declared.nearest.Walk.{Walk}
@@ -36,9 +36,9 @@ abbrev pub noFraction : ℤ → NearestFraction
 noFraction octaves = record { numer = 0; denom = 0; deviation = record { 0 = inf false }; «num_octaves» = octaves }
 
 -- the walk ends where it starts
-pub walk-limit-zero : (target : Float) → walked turns start target 0 ≡ start
-unfolding stepOf turnAt bothOver halvedWhileEven
-walk-limit-zero target = walked-end target 0 (turns - 1) start start refl
+pub walk-limit-zero : (target : Float) → walked turns widest target 0 ≡ widest
+unfolding turnOf turnAt bothOver halvedWhileEven
+walk-limit-zero target = walked-end target 0 (turns - 1) widest widest refl
 
 best-limit-zero : (target : Float) (octaves : ℤ) → bestFor target octaves 0 ≡ noFraction octaves
 unfolding bestFor
@@ -63,7 +63,7 @@ pub steps-in-reach : (r : Float) → fits binary64 r ≡ true → inSearch r ≡
 steps-in-reach r f s = let d = reduced r f s in (d, (within-reach (within-more (lit≤ tt) (lit≤ tt) (d .power-within)), within-reach (within-more (lit≤ tt) (lit≤ tt) (d .target-within))))
 
 pub walk-in-reach : {r : Float} (d : Reduced r) (limit k n m : ℕ) →
-    (let w = walked k start (div binary64 r (d .power)) limit in
+    (let w = walked k widest (div binary64 r (d .power)) limit in
     let deviation = div binary64 (div binary64 r (d .power)) (floatOf (fraction n m)) in
     n ≡ w .low .numer + w .high .numer → m ≡ w .low .denom + w .high .denom → n ≤ 65535 → m ≤ 65535 → (inReach deviation ≡ true) × (inReach (upward deviation) ≡ true))
 walk-in-reach {r} d limit k n m p q h g =
@@ -78,7 +78,7 @@ pub record Answers (limit : ℕ) (q : NearestFraction) : Type 0 where
 
 answers-best : (target : Float) (octaves : ℤ) (limit : ℕ) → 1 ≤ limit → Within 128 128 target → Answers limit (bestFor target octaves limit)
 unfolding bestFor
-answers-best target octaves limit l t = go (walked turns start target limit) (counted target limit l t .best)
+answers-best target octaves limit l t = go (walked turns widest target limit) (counted target limit l t .best)
   where
     go : (w : Walk) → Counted target limit (w .best) (w .deviation) → Answers limit (record { numer = w .best .numer; denom = w .best .denom; deviation = record { 0 = w .deviation }; «num_octaves» = octaves })
     go w c = record { proper = c .proper; within = c .within; deviation = ap inReach (c .deviation) ∙ deviation-reach target (w .best) t (c .proper) .0 }

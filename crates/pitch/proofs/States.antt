@@ -8,7 +8,7 @@ use lib.Dec.{ltb}
 use lib.Ieee.{Float, binary64, div, lt}
 use borrow.Author.Tests.{ltb-false}
 use Rattle.base.specs.Said.{pick}
-use Rattle.pitch.specs.NearestFraction.{fraction, walkOf, start, floatOf, bothOver, bothWithin, improved, passed, turnAt, stepOf, endOf, walked}
+use Rattle.pitch.specs.NearestFraction.{fraction, walkOf, widest, floatOf, bothOver, bothWithin, improved, passed, turnAt, turnOf, endOf, walked}
 use Rattle.pitch.specs.Ratios.{upward}
 use Rattle.pitch.specs.declared.nearest.Fraction.{Fraction}
 use Rattle.pitch.specs.declared.nearest.Step.{Step}
@@ -117,8 +117,8 @@ module _ (target : Float) (limit : ℕ) (B : Fraction → Float → Type 0) (new
       go false = past _ mid (better w mid s p) p
 
   -- a turn keeps what holds
-  pub state-step : (w : Walk) → State B w → State B (after (stepOf w target limit))
-  unfolding stepOf
+  pub state-step : (w : Walk) → State B w → State B (after (turnOf w target limit))
+  unfolding turnOf
   state-step w s =
       at (w .low .numer + w .high .numer) (w .low .denom + w .high .denom) (omega (arith, s .between .high)) (omega (arith, s .between .low))
     where
@@ -133,14 +133,14 @@ module _ (target : Float) (limit : ℕ) (B : Fraction → Float → Type 0) (new
   pub state-rest : (k : ℕ) (w : Walk) → State B w → State B (walked k w target limit)
   unfolding walked
   state-rest zero w s = s
-  state-rest (suc k) w s = go (λ next h. state-rest k next h) (stepOf w target limit) (state-step w s)
+  state-rest (suc k) w s = go (λ next h. state-rest k next h) (turnOf w target limit) (state-step w s)
     where
       go : ((next : Walk) → State B next → State B (walked k next target limit)) → (e : Step) → State B (after e) → State B (endOf e (λ next. walked k next target limit))
       go f (On next) h = f next h
       go f (Done last) h = h
 
--- every state of the walk from its start
-pub state-start : State Any start
+-- every state of the walk from its widest
+pub state-start : State Any widest
 state-start =
     record {
       between = record { low = omega arith; high = omega arith };
@@ -148,8 +148,8 @@ state-start =
       best = tt;
     }
 
-pub state-step-any : (target : Float) (limit : ℕ) (w : Walk) → State Any w → State Any (after (stepOf w target limit))
+pub state-step-any : (target : Float) (limit : ℕ) (w : Walk) → State Any w → State Any (after (turnOf w target limit))
 state-step-any target limit w s = state-step target limit Any (λ mid p t. tt) w s
 
-pub state-walked : (target : Float) (limit k : ℕ) → State Any (walked k start target limit)
-state-walked target limit k = state-rest target limit Any (λ mid p t. tt) k start state-start
+pub state-walked : (target : Float) (limit k : ℕ) → State Any (walked k widest target limit)
+state-walked target limit k = state-rest target limit Any (λ mid p t. tt) k widest state-start

@@ -7,7 +7,7 @@ use native.Mathlib.Omega.{arith}
 use lib.Dec.{ltb}
 use lib.Ieee.{Float, binary64, div, lt}
 use Rattle.base.specs.Said.{pick}
-use Rattle.pitch.specs.NearestFraction.{fraction, walkOf, start, turns, floatOf, bothOver, improved, passed, turnAt, stepOf, walked}
+use Rattle.pitch.specs.NearestFraction.{fraction, walkOf, widest, turns, floatOf, bothOver, improved, passed, turnAt, turnOf, walked}
 use Rattle.pitch.specs.declared.nearest.Fraction.{Fraction}
 use Rattle.pitch.specs.declared.nearest.Step.{Step}
 use Rattle.pitch.specs.declared.nearest.Step.the-variants.{On, Done}
@@ -70,8 +70,8 @@ module _ (w : Walk) (b : Between w) where
         | inr is ↦ higher better next (improved-keeps w mid _ limit) is
       ]
 
-  pub grows : (target : Float) (limit : ℕ) {next : Walk} → stepOf w target limit ≡ On next → Grown w next
-  unfolding stepOf mid
+  pub grows : (target : Float) (limit : ℕ) {next : Walk} → turnOf w target limit ≡ On next → Grown w next
+  unfolding turnOf mid
   grows target limit {next} = go (ltb 65535 (w .low .numer + w .high .numer)) (ltb 65535 (w .low .denom + w .high .denom))
     where
       go : (a c : Bool) → pick a (Done w) (pick c (Done w) (turnAt w mid target limit)) ≡ On next → Grown w next
@@ -79,54 +79,54 @@ module _ (w : Walk) (b : Between w) where
       go false true e = absurd (no-end e)
       go false false e = turned target limit e
 
--- ---- the loop's state: the walk from its start comes to what is left of it from here, and turns enough are left
+-- ---- the loop's state: the walk from its widest comes to what is left of it from here, and turns enough are left
 pub record Walking (target : Float) (limit : ℕ) (w : Walk) : Type 0 where
   pub left : ℕ
   pub enough : turns ≤ left + size w
   pub small : size w ≤ 262140
   pub between : Between w
-  pub same : walked turns start target limit ≡ walked left w target limit
+  pub same : walked turns widest target limit ≡ walked left w target limit
 
 module _ (target : Float) (limit : ℕ) where
-  pub walking-start : Walking target limit start
+  pub walking-start : Walking target limit widest
   unfolding size
   walking-start = record { left = turns; enough = omega arith; small = omega arith; between = record { low = omega arith; high = omega arith }; same = refl }
 
-  walked-on : (k : ℕ) (w next : Walk) → stepOf w target limit ≡ On next → walked (suc k) w target limit ≡ walked k next target limit
+  walked-on : (k : ℕ) (w next : Walk) → turnOf w target limit ≡ On next → walked (suc k) w target limit ≡ walked k next target limit
   unfolding walked
   walked-on k w next e = rw e
 
-  pub walked-end : (k : ℕ) (w last : Walk) → stepOf w target limit ≡ Done last → walked (suc k) w target limit ≡ last
+  pub walked-end : (k : ℕ) (w last : Walk) → turnOf w target limit ≡ Done last → walked (suc k) w target limit ≡ last
   unfolding walked
   walked-end k w last e = rw e
 
-  pub walking-on : {w next : Walk} → Walking target limit w → stepOf w target limit ≡ On next → size next ≤ 262140 → Walking target limit next
+  pub walking-on : {w next : Walk} → Walking target limit w → turnOf w target limit ≡ On next → size next ≤ 262140 → Walking target limit next
   walking-on {w} {next} s e small = go (s .left) (s .enough) (s .same)
     where
       grown : Grown w next
       grown = grows w (s .between) target limit e
 
-      go : (k : ℕ) → turns ≤ k + size w → walked turns start target limit ≡ walked k w target limit → Walking target limit next
+      go : (k : ℕ) → turns ≤ k + size w → walked turns widest target limit ≡ walked k w target limit → Walking target limit next
       go zero m q = absurd (omega (arith, s .small))
       go (suc k) m q = record { left = k; enough = omega (arith, grown .more); small = small; between = grown .between; same = q ∙ walked-on k w next e }
 
-  pub walking-end : {w last : Walk} → Walking target limit w → stepOf w target limit ≡ Done last → last ≡ walked turns start target limit
+  pub walking-end : {w last : Walk} → Walking target limit w → turnOf w target limit ≡ Done last → last ≡ walked turns widest target limit
   walking-end {w} {last} s e = go (s .left) (s .enough) (s .same)
     where
-      go : (k : ℕ) → turns ≤ k + size w → walked turns start target limit ≡ walked k w target limit → last ≡ walked turns start target limit
+      go : (k : ℕ) → turns ≤ k + size w → walked turns widest target limit ≡ walked k w target limit → last ≡ walked turns widest target limit
       go zero m q = absurd (omega (arith, s .small))
       go (suc k) m q = sym (q ∙ walked-end k w last e)
 
   -- each turn that goes on is one fewer
-  pub walking-less : {w next : Walk} → Walking target limit w → stepOf w target limit ≡ On next → size next ≤ 262140 → 262140 - size next < 262140 - size w
+  pub walking-less : {w next : Walk} → Walking target limit w → turnOf w target limit ≡ On next → size next ≤ 262140 → 262140 - size next < 262140 - size w
   walking-less {w} s e small = omega (arith, grows w (s .between) target limit e .more)
 
 -- ---- the turns are enough: what the two fractions hold stays within 16 bits, so that a walk cannot grow for ever
 module _ (target : Float) (limit : ℕ) where
-  step-cases : (w : Walk) → ((next : Walk) × (stepOf w target limit ≡ On next)) ⊎ ((last : Walk) × (stepOf w target limit ≡ Done last))
-  step-cases w = go (stepOf w target limit) refl
+  step-cases : (w : Walk) → ((next : Walk) × (turnOf w target limit ≡ On next)) ⊎ ((last : Walk) × (turnOf w target limit ≡ Done last))
+  step-cases w = go (turnOf w target limit) refl
     where
-      go : (s : Step) → stepOf w target limit ≡ s → ((next : Walk) × (stepOf w target limit ≡ On next)) ⊎ ((last : Walk) × (stepOf w target limit ≡ Done last))
+      go : (s : Step) → turnOf w target limit ≡ s → ((next : Walk) × (turnOf w target limit ≡ On next)) ⊎ ((last : Walk) × (turnOf w target limit ≡ Done last))
       go (On next) e = inl (next, e)
       go (Done last) e = inr (last, e)
 
@@ -142,7 +142,7 @@ module _ (target : Float) (limit : ℕ) where
     | inr s ↦ walked-end target limit k w (s .0) (s .1) ∙ sym (walked-end target limit j w (s .0) (s .1))
   ]
 
-  -- the walk from its start has ended after so many turns: more change nothing
-  pub walk-ends : (more : ℕ) → walked (turns + more) start target limit ≡ walked turns start target limit
+  -- the walk from its widest has ended after so many turns: more change nothing
+  pub walk-ends : (more : ℕ) → walked (turns + more) widest target limit ≡ walked turns widest target limit
   unfolding size
-  walk-ends more = settled (turns + more) turns start state-start (omega arith) (omega arith)
+  walk-ends more = settled (turns + more) turns widest state-start (omega arith) (omega arith)

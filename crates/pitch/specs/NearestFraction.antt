@@ -26,8 +26,8 @@ abbrev pub walkOf : Fraction → Fraction → Fraction → Float → Walk
 walkOf low high best deviation = record { low = low; high = high; best = best; deviation = deviation }
 
 -- between 0/1 and 1/0, with 0/0 as the best and an infinite deviation
-abbrev pub start : Walk
-start = walkOf (fraction 0 1) (fraction 1 0) (fraction 0 0) (inf false)
+abbrev pub widest : Walk
+widest = walkOf (fraction 0 1) (fraction 1 0) (fraction 0 0) (inf false)
 
 -- a fraction as a float
 abbrev pub floatOf : Fraction → Float
@@ -58,8 +58,8 @@ turnAt w mid target limit =
     pick (bothOver mid limit) (Done w) (passed (improved w mid (div binary64 target (floatOf mid)) limit) mid target)
 
 -- one turn: the fraction in the middle adds numerators and denominators; the walk ends where one of them leaves 16 bits
-unfoldable pub stepOf : Walk → Float → ℕ → Step
-stepOf w target limit =
+unfoldable pub turnOf : Walk → Float → ℕ → Step
+turnOf w target limit =
     let numer = w .low .numer + w .high .numer in
     let denom = w .low .denom + w .high .denom in
     pick (ltb 65535 numer) (Done w) (pick (ltb 65535 denom) (Done w) (turnAt w (fraction numer denom) target limit))
@@ -72,7 +72,7 @@ endOf (Done w) rest = w
 -- turns to the end, at most so many
 unfoldable pub walked : ℕ → Walk → Float → ℕ → Walk
 walked zero w target limit = w
-walked (suc k) w target limit = endOf (stepOf w target limit) (λ next. walked k next target limit)
+walked (suc k) w target limit = endOf (turnOf w target limit) (λ next. walked k next target limit)
 
 -- more turns than a walk over fractions of 16 bits can have: `walk-ends` of proofs/WalkEnds.antt
 abbrev pub turns : ℕ
@@ -81,16 +81,16 @@ turns = 262144
 -- the best of the walk towards a target
 unfoldable pub bestFor : Float → ℤ → ℕ → NearestFraction
 bestFor target octaves limit =
-    let w = walked turns start target limit in
+    let w = walked turns widest target limit in
     record { numer = w .best .numer; denom = w .best .denom; deviation = record { 0 = w .deviation }; «num_octaves» = octaves }
 
 -- the ratio over a power of two, and the best fraction for what is left
-abbrev pub over : Float → ℕ → ℤ → Float → Said NearestFraction
-over r limit octaves power = andThen (computed (div binary64 r power)) (λ target. gives (bestFor target octaves limit))
+abbrev pub overPower : Float → ℕ → ℤ → Float → Said NearestFraction
+overPower r limit octaves power = andThen (computed (div binary64 r power)) (λ target. gives (bestFor target octaves limit))
 
 -- the ratio without so many octaves
 abbrev pub withoutOctaves : Float → ℕ → ℤ → Said NearestFraction
-withoutOctaves r limit octaves = andThen (fromOctaves (ofInt binary64 octaves)) (over r limit octaves)
+withoutOctaves r limit octaves = andThen (fromOctaves (ofInt binary64 octaves)) (overPower r limit octaves)
 
 -- its whole octaves: the floor of its logarithm
 abbrev pub withoutWhole : Float → ℕ → Float → Said NearestFraction

@@ -13,7 +13,7 @@ use Rattle.explog.specs.Log.{bOf, yOf}
 use Rattle.explog.specs.Rules.{E, L, floorOf, timesPower, powerOf, logOf, logAt, ratioOf}
 use Rattle.math.specs.OddPart.{halvedWhileEven}
 use Rattle.pitch.specs.Given.{computed}
-use Rattle.pitch.specs.NearestFraction.{fraction, walked, stepOf, turnAt, passed, improved, bothOver, bothWithin, floatOf, bestFor, nearestFraction}
+use Rattle.pitch.specs.NearestFraction.{fraction, walked, turnOf, turnAt, passed, improved, bothOver, bothWithin, floatOf, bestFor, nearestFraction}
 use Rattle.pitch.specs.Ratios.{fromOctaves, upward}
 use Rattle.pitch.specs.declared.nearest.NearestFraction.{NearestFraction}
 
@@ -35,13 +35,13 @@ is-1575 = refl
 
 -- "Ratio 1.25, odd limit 3: 4/3"
 pub four-thirds : nearestFraction (fin false 5 (negsuc 1)) 3 ≡ gives (answerOf 4 3 (div binary64 (fin false 5 (negsuc 1)) (floatOf (fraction 4 3))))
-unfolding nearestFraction le lt eq ofBits L logOf logAt ratioOf bOf yOf round size floor toSigned ofInt E floorOf powerOf timesPower tOf root rootFrom pOf neg div bestFor walked stepOf turnAt passed improved bothOver bothWithin halvedWhileEven upward
+unfolding nearestFraction le lt eq ofBits L logOf logAt ratioOf bOf yOf round size floor toSigned ofInt E floorOf powerOf timesPower tOf root rootFrom pOf neg div bestFor walked turnOf turnAt passed improved bothOver bothWithin halvedWhileEven upward
 four-thirds = refl
 
 -- ---- 1.575 with odd limit 9
 -- the walk
 walk : bestFor x1575 (pos 0) 9 ≡ answerOf 8 5 (fin false 8866461766385663 (negsuc 52))
-unfolding le lt eq ofBits round size ofInt neg div bestFor walked stepOf turnAt passed improved bothOver bothWithin halvedWhileEven upward
+unfolding le lt eq ofBits round size ofInt neg div bestFor walked turnOf turnAt passed improved bothOver bothWithin halvedWhileEven upward
 walk = refl
 
 -- the steps before it: no octave is taken off

@@ -6,7 +6,7 @@ use integer_math::I32Answer;
 ghost use mathlib.Core.Path.{_≡_};
 ghost use Prim.Native.Nat.{_+_};
 ghost use Rattle.pitch.specs.Answers.{saysNearest};
-ghost use Rattle.pitch.specs.NearestFraction.{floatOf, bothOver, bothWithin, improved, passed, turnAt, stepOf, start, turns, walked, bestFor, withoutOctaves, reducedNearest, nearestFraction};
+ghost use Rattle.pitch.specs.NearestFraction.{floatOf, bothOver, bothWithin, improved, passed, turnAt, turnOf, widest, turns, walked, bestFor, withoutOctaves, reducedNearest, nearestFraction};
 
 pub struct Fraction {
     pub numer: u16,
@@ -127,7 +127,7 @@ fn turn_at(w: Walk, mid: Fraction, target: f64, limit: u16) -> Step
 
 // One turn; the end, where the fraction in the middle does not fit 16 bits.
 fn turn(w: Walk, target: f64, limit: u16) -> Step
-    ensures { λ r. ⌜ r ≡ stepOf w target limit ⌝ }
+    ensures { λ r. ⌜ r ≡ turnOf w target limit ⌝ }
 {
     let low = w.low;
     let high = w.high;
@@ -148,7 +148,7 @@ fn turn(w: Walk, target: f64, limit: u16) -> Step
 
 // Turns to the end: the best of the walk towards a target.
 fn walk_to_end(target: f64, limit: u16) -> Walk
-    ensures { λ r. ⌜ r ≡ walked turns start target limit ⌝ }
+    ensures { λ r. ⌜ r ≡ walked turns widest target limit ⌝ }
 {
     let mut w = Walk {
         low: Fraction { numer: 0, denom: 1 },

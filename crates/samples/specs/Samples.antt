@@ -20,17 +20,17 @@ abbrev pub tenThousandths : ℕ → Float
 tenThousandths n = round binary64 false n 10000
 
 -- what a key has in the mapping of the sample, whatever its pitch and its middle key
-abbrev pub Has : ℕ → Said ℤ → Type 0
-Has number said = (pitch : Pitch) (offset : ℤ) → scaleDegreeOf (sample pitch offset) sampleTable (key (pos number)) ≡ said
+abbrev pub KeyHas : ℕ → Said ℤ → Type 0
+KeyHas number said = (pitch : Pitch) (offset : ℤ) → scaleDegreeOf (sample pitch offset) sampleTable (key (pos number)) ≡ said
 
 pub record Samples : Type 0 where
   -- "Entries 0, x, 2, octave 5, keys 0 to 127, reference 60: 60 gives 0; 61 gives 17; 63 gives 5; 59 gives -3; 128 gives 16.
   -- Middle 62 changes none."
-  pub key60 : Has 60 (gives (pos 0))
-  pub key61 : Has 61 (refuses 17 0)
-  pub key63 : Has 63 (gives (pos 5))
-  pub key59 : Has 59 (gives (negℤ (pos 3)))
-  pub key128 : Has 128 (refuses 16 0)
+  pub key60 : KeyHas 60 (gives (pos 0))
+  pub key61 : KeyHas 61 (refuses 17 0)
+  pub key63 : KeyHas 63 (gives (pos 5))
+  pub key59 : KeyHas 59 (gives (negℤ (pos 3)))
+  pub key128 : KeyHas 128 (refuses 16 0)
   -- "-2147483648 by 65535: -32769 remainder 32767"
   pub division : divisionOf (negℤ (pos 2147483648)) 65535 ≡ gives (record { quotient = negℤ (pos 32769); remainder = 32767 })
   -- "0.0625 prints 0.062; 0.1875 prints 0.188"

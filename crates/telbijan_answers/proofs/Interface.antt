@@ -5,7 +5,7 @@ use Prim.Native.Nat.{ℕ, _≤_, _<_, _^_}
 use native.Mathlib.Omega.{arith}
 use Rattle.base.specs.Said.{Said, gives, refuses, refusal, Numbered}
 use Rattle.base.specs.declared.Refusal.{Refusal}
-use Rattle.telbijan_answers.specs.Interface.{code, result, kept, partOf, numberIn, detailIn}
+use Rattle.telbijan_answers.specs.Interface.{code, result, kept, fieldOf, numberIn, detailIn}
 
 -- x is what a call answered, told what its contract says of it, and x′ what a match made of it
 module _ {X A : Type 0} (says : X → Said A) {s : Said A} {x x′ : X} (told : says x ≡ s) (is : x ≡ x′) where
@@ -19,8 +19,8 @@ module _ {X A : Type 0} (says : X → Said A) {s : Said A} {x x′ : X} (told : 
   pub stored : {a v : A} (old : A) → says x′ ≡ gives a → v ≡ a → v ≡ kept s old
   stored old gave is-part = is-part ∙ ap (λ s. kept s old) (sym gave ∙ said)
 
-  pub stored-part : {B : Type 0} (part : A → B) {a : A} {v : B} (old : B) → says x′ ≡ gives a → v ≡ part a → v ≡ kept (partOf part s) old
-  stored-part part old gave is-part = is-part ∙ ap (λ s. kept (partOf part s) old) (sym gave ∙ said)
+  pub stored-part : {B : Type 0} (part : A → B) {a : A} {v : B} (old : B) → says x′ ≡ gives a → v ≡ part a → v ≡ kept (fieldOf part s) old
+  stored-part part old gave is-part = is-part ∙ ap (λ s. kept (fieldOf part s) old) (sym gave ∙ said)
 
   -- a refusal r: the result is its code, and what was there stays
   pub refused : (r : Refusal) {n : ℕ} → says x′ ≡ refusal r → n ≡ code (r .number) (r .detail) → n ≡ result s
@@ -29,8 +29,8 @@ module _ {X A : Type 0} (says : X → Said A) {s : Said A} {x x′ : X} (told : 
   pub stays : (r : Refusal) (old : A) → says x′ ≡ refusal r → old ≡ kept s old
   stays r old gave = ap (λ s. kept s old) (sym gave ∙ said)
 
-  pub stays-part : {B : Type 0} (part : A → B) (r : Refusal) (old : B) → says x′ ≡ refusal r → old ≡ kept (partOf part s) old
-  stays-part part r old gave = ap (λ s. kept (partOf part s) old) (sym gave ∙ said)
+  pub stays-part : {B : Type 0} (part : A → B) (r : Refusal) (old : B) → says x′ ≡ refusal r → old ≡ kept (fieldOf part s) old
+  stays-part part r old gave = ap (λ s. kept (fieldOf part s) old) (sym gave ∙ said)
 
 -- what a `store_..` call made of an answer, of which told says what it says: n is its result, v what is stored, by `keep`
 pub handed-on : {X A B : Type 0} (says : X → Said A) (keep : Said A → B) (x : X) {s : Said A} {n : ℕ} {v : B} → says x ≡ s → (n ≡ result (says x)) × (v ≡ keep (says x)) → (n ≡ result s) × (v ≡ keep s)

@@ -21,7 +21,7 @@ use Rattle.math.specs.declared.U32Answer.{U32Answer}
 use Rattle.pitch.specs.declared.BoolAnswer.{BoolAnswer}
 use Rattle.pitch.specs.declared.PitchAnswer.{PitchAnswer}
 use Rattle.pitch.specs.declared.RatioAnswer.{RatioAnswer}
-use Rattle.telbijan_answers.specs.Interface.{code, result, kept, partOf}
+use Rattle.telbijan_answers.specs.Interface.{code, result, kept, fieldOf}
 
 pub code-of-one : (refusal : Refusal) → One (λ r. r) (code (refusal .number) (refusal .detail))
 code-of-one refusal = one-result (code (refusal .number) (refusal .detail))
@@ -35,8 +35,8 @@ store-u32-one answer old = (one-result (result (saysU32 answer)), one-result (ke
 pub store-midi-one : (answer : MidiAnswer) (old : ℕ) → One (λ r. r) (result (saysMidi answer)) × One (λ v. v) (kept (saysMidi answer) old)
 store-midi-one answer old = (one-result (result (saysMidi answer)), one-result (kept (saysMidi answer) old))
 
-pub store-key-one : (answer : KeyAnswer) (old : ℤ) → One (λ r. r) (result (saysKey answer)) × One (λ v. v) (kept (partOf (λ k. k .0) (saysKey answer)) old)
-store-key-one answer old = (one-result (result (saysKey answer)), one-result (kept (partOf (λ k. k .0) (saysKey answer)) old))
+pub store-key-one : (answer : KeyAnswer) (old : ℤ) → One (λ r. r) (result (saysKey answer)) × One (λ v. v) (kept (fieldOf (λ k. k .0) (saysKey answer)) old)
+store-key-one answer old = (one-result (result (saysKey answer)), one-result (kept (fieldOf (λ k. k .0) (saysKey answer)) old))
 
 pub store-float-one : (answer : FloatAnswer) (old : Float) → One (λ r. r) (result (saysFloat answer)) × One (λ v. v) (kept (saysFloat answer) old)
 store-float-one answer old = (one-result (result (saysFloat answer)), one-result (kept (saysFloat answer) old))

@@ -18,9 +18,9 @@ kept (gives a) old = a
 kept (refuses number detail) old = old
 
 -- a part of the value given; a refusal stays
-abbrev pub partOf : {A B : Type 0} → (A → B) → Said A → Said B
-partOf part (gives a) = gives (part a)
-partOf part (refuses number detail) = refuses number detail
+abbrev pub fieldOf : {A B : Type 0} → (A → B) → Said A → Said B
+fieldOf part (gives a) = gives (part a)
+fieldOf part (refuses number detail) = refuses number detail
 
 -- the number and the detail that a caller takes from a result
 abbrev pub numberIn : ℕ → ℕ

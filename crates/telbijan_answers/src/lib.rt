@@ -17,7 +17,7 @@ ghost use Rattle.key.specs.Answers.{saysMidi, saysKey};
 ghost use Rattle.integer_math.specs.Answers.{saysI32};
 ghost use Rattle.math.specs.Answers.{saysU32};
 ghost use Rattle.pitch.specs.Answers.{saysRatio, saysPitch, saysBool};
-ghost use Rattle.telbijan_answers.specs.Interface.{code, result, kept, partOf};
+ghost use Rattle.telbijan_answers.specs.Interface.{code, result, kept, fieldOf};
 
 // detail * 256 + number.
 pub fn code_of(refusal: Refusal) -> u64
@@ -69,7 +69,7 @@ pub fn store_midi(answer: MidiAnswer, out: &mut u8) -> u64
 
 pub fn store_key(answer: KeyAnswer, out: &mut i32) -> u64
     ensures { λ r. ⌜ r ≡ result (saysKey answer) ⌝ }
-    ensures { λ _. ⌜ now (out .exit) ≡ kept (partOf (λ k. k .0) (saysKey answer)) (now (out .entry)) ⌝ }
+    ensures { λ _. ⌜ now (out .exit) ≡ kept (fieldOf (λ k. k .0) (saysKey answer)) (now (out .entry)) ⌝ }
 {
     match answer {
         KeyAnswer::Is(value) => {

@@ -15,7 +15,7 @@ use Rattle.kbm.specs.Root.{rootOf}
 use Rattle.kbm.specs.declared.Entry.the-variants.{Mapped, Unmapped}
 use Rattle.kbm_read.specs.Reader.{readOf, afterRead}
 use Rattle.kbm_write.specs.Export.{exportOf, textLength}
-use Rattle.telbijan_answers.specs.Interface.{result, kept, partOf}
+use Rattle.telbijan_answers.specs.Interface.{result, kept, fieldOf}
 use Rattle.telbijan_mappings.specs.Mappings.{mappingWith, octaveWith, builderWith, pushingWith}
 
 pub scale-degree-of-one : (map : List ℤ) (count : ℕ) (start : ℤ) (end : ℤ) (reference : ℤ) (hz : Float) (offset : ℤ) (octave : ℤ) (number : ℤ) (degree : ℤ) → One (λ r. r) (result (scaleDegreeOf (mappingWith count start end reference hz offset octave) map (key number))) × One (λ r. r) (kept (scaleDegreeOf (mappingWith count start end reference hz offset octave) map (key number)) degree)
@@ -27,14 +27,14 @@ export-kbm-one map count start end reference hz offset octave out written = (one
 pub kbm-root-one : (reference : ℤ) (hz : Float) (offset : ℤ) → One (λ r. r) (result (rootOf (key reference) (record { 0 = hz }) offset))
 kbm-root-one reference hz offset = one-result (result (rootOf (key reference) (record { 0 = hz }) offset))
 
-pub push-mapped-key-one : (map : List ℤ) (room : ℕ) (count : ℕ) (degree : ℤ) (after : ℕ) → One (λ r. r) (result (pushed (pushingWith room count) map)) × (One (λ r. r) (afterPush (pushingWith room count) map (Mapped degree)) × One (λ r. r) (kept (partOf (λ b. b .count) (pushed (pushingWith room count) map)) after))
-push-mapped-key-one map room count degree after = (one-result (result (pushed (pushingWith room count) map)), (one-result (afterPush (pushingWith room count) map (Mapped degree)), one-result (kept (partOf (λ b. b .count) (pushed (pushingWith room count) map)) after)))
+pub push-mapped-key-one : (map : List ℤ) (room : ℕ) (count : ℕ) (degree : ℤ) (after : ℕ) → One (λ r. r) (result (pushed (pushingWith room count) map)) × (One (λ r. r) (afterPush (pushingWith room count) map (Mapped degree)) × One (λ r. r) (kept (fieldOf (λ b. b .count) (pushed (pushingWith room count) map)) after))
+push-mapped-key-one map room count degree after = (one-result (result (pushed (pushingWith room count) map)), (one-result (afterPush (pushingWith room count) map (Mapped degree)), one-result (kept (fieldOf (λ b. b .count) (pushed (pushingWith room count) map)) after)))
 
-pub push-unmapped-key-one : (map : List ℤ) (room : ℕ) (count : ℕ) (after : ℕ) → One (λ r. r) (result (pushed (pushingWith room count) map)) × (One (λ r. r) (afterPush (pushingWith room count) map Unmapped) × One (λ r. r) (kept (partOf (λ b. b .count) (pushed (pushingWith room count) map)) after))
-push-unmapped-key-one map room count after = (one-result (result (pushed (pushingWith room count) map)), (one-result (afterPush (pushingWith room count) map Unmapped), one-result (kept (partOf (λ b. b .count) (pushed (pushingWith room count) map)) after)))
+pub push-unmapped-key-one : (map : List ℤ) (room : ℕ) (count : ℕ) (after : ℕ) → One (λ r. r) (result (pushed (pushingWith room count) map)) × (One (λ r. r) (afterPush (pushingWith room count) map Unmapped) × One (λ r. r) (kept (fieldOf (λ b. b .count) (pushed (pushingWith room count) map)) after))
+push-unmapped-key-one map room count after = (one-result (result (pushed (pushingWith room count) map)), (one-result (afterPush (pushingWith room count) map Unmapped), one-result (kept (fieldOf (λ b. b .count) (pushed (pushingWith room count) map)) after)))
 
-pub build-kbm-one : (map : List ℤ) (room : ℕ) (count : ℕ) (start : ℤ) (end : ℤ) (reference : ℤ) (hz : Float) (offset : ℤ) (given : Bool) (octave : ℤ) (entries : ℕ) (formal : ℤ) → One (λ r. r) (result (built (builderWith room count start end reference hz offset (octaveWith given octave)) map)) × (One (λ r. r) (kept (partOf (λ k. k .count) (built (builderWith room count start end reference hz offset (octaveWith given octave)) map)) entries) × One (λ r. r) (kept (partOf (λ k. k .octave) (built (builderWith room count start end reference hz offset (octaveWith given octave)) map)) formal))
-build-kbm-one map room count start end reference hz offset given octave entries formal = (one-result (result (built (builderWith room count start end reference hz offset (octaveWith given octave)) map)), (one-result (kept (partOf (λ k. k .count) (built (builderWith room count start end reference hz offset (octaveWith given octave)) map)) entries), one-result (kept (partOf (λ k. k .octave) (built (builderWith room count start end reference hz offset (octaveWith given octave)) map)) formal)))
+pub build-kbm-one : (map : List ℤ) (room : ℕ) (count : ℕ) (start : ℤ) (end : ℤ) (reference : ℤ) (hz : Float) (offset : ℤ) (given : Bool) (octave : ℤ) (entries : ℕ) (formal : ℤ) → One (λ r. r) (result (built (builderWith room count start end reference hz offset (octaveWith given octave)) map)) × (One (λ r. r) (kept (fieldOf (λ k. k .count) (built (builderWith room count start end reference hz offset (octaveWith given octave)) map)) entries) × One (λ r. r) (kept (fieldOf (λ k. k .octave) (built (builderWith room count start end reference hz offset (octaveWith given octave)) map)) formal))
+build-kbm-one map room count start end reference hz offset given octave entries formal = (one-result (result (built (builderWith room count start end reference hz offset (octaveWith given octave)) map)), (one-result (kept (fieldOf (λ k. k .count) (built (builderWith room count start end reference hz offset (octaveWith given octave)) map)) entries), one-result (kept (fieldOf (λ k. k .octave) (built (builderWith room count start end reference hz offset (octaveWith given octave)) map)) formal)))
 
-pub read-kbm-one : (text : List ℕ) (map : List ℤ) (count : ℕ) (start : ℤ) (end : ℤ) (reference : ℤ) (hz : Float) (offset : ℤ) (octave : ℤ) → One (λ r. r) (result (readOf (length map) text)) × (One (λ r. r) (afterRead text map) × (One (λ r. r) (kept (partOf (λ k. k .count) (readOf (length map) text)) count) × (One (λ r. r) (kept (partOf (λ k. k .start .0) (readOf (length map) text)) start) × (One (λ r. r) (kept (partOf (λ k. k .end .0) (readOf (length map) text)) end) × (One (λ r. r) (kept (partOf (λ k. k .root .reference .0) (readOf (length map) text)) reference) × (One (λ r. r) (kept (partOf (λ k. k .root .pitch .0) (readOf (length map) text)) hz) × (One (λ r. r) (kept (partOf (λ k. k .root .offset) (readOf (length map) text)) offset) × One (λ r. r) (kept (partOf (λ k. k .octave) (readOf (length map) text)) octave))))))))
-read-kbm-one text map count start end reference hz offset octave = (one-result (result (readOf (length map) text)), (one-result (afterRead text map), (one-result (kept (partOf (λ k. k .count) (readOf (length map) text)) count), (one-result (kept (partOf (λ k. k .start .0) (readOf (length map) text)) start), (one-result (kept (partOf (λ k. k .end .0) (readOf (length map) text)) end), (one-result (kept (partOf (λ k. k .root .reference .0) (readOf (length map) text)) reference), (one-result (kept (partOf (λ k. k .root .pitch .0) (readOf (length map) text)) hz), (one-result (kept (partOf (λ k. k .root .offset) (readOf (length map) text)) offset), one-result (kept (partOf (λ k. k .octave) (readOf (length map) text)) octave)))))))))
+pub read-kbm-one : (text : List ℕ) (map : List ℤ) (count : ℕ) (start : ℤ) (end : ℤ) (reference : ℤ) (hz : Float) (offset : ℤ) (octave : ℤ) → One (λ r. r) (result (readOf (length map) text)) × (One (λ r. r) (afterRead text map) × (One (λ r. r) (kept (fieldOf (λ k. k .count) (readOf (length map) text)) count) × (One (λ r. r) (kept (fieldOf (λ k. k .start .0) (readOf (length map) text)) start) × (One (λ r. r) (kept (fieldOf (λ k. k .end .0) (readOf (length map) text)) end) × (One (λ r. r) (kept (fieldOf (λ k. k .root .reference .0) (readOf (length map) text)) reference) × (One (λ r. r) (kept (fieldOf (λ k. k .root .pitch .0) (readOf (length map) text)) hz) × (One (λ r. r) (kept (fieldOf (λ k. k .root .offset) (readOf (length map) text)) offset) × One (λ r. r) (kept (fieldOf (λ k. k .octave) (readOf (length map) text)) octave))))))))
+read-kbm-one text map count start end reference hz offset octave = (one-result (result (readOf (length map) text)), (one-result (afterRead text map), (one-result (kept (fieldOf (λ k. k .count) (readOf (length map) text)) count), (one-result (kept (fieldOf (λ k. k .start .0) (readOf (length map) text)) start), (one-result (kept (fieldOf (λ k. k .end .0) (readOf (length map) text)) end), (one-result (kept (fieldOf (λ k. k .root .reference .0) (readOf (length map) text)) reference), (one-result (kept (fieldOf (λ k. k .root .pitch .0) (readOf (length map) text)) hz), (one-result (kept (fieldOf (λ k. k .root .offset) (readOf (length map) text)) offset), one-result (kept (fieldOf (λ k. k .octave) (readOf (length map) text)) octave)))))))))

@@ -19,7 +19,7 @@ ghost use Rattle.kbm.specs.Root.{rootOf};
 ghost use Rattle.kbm.specs.declared.Entry.the-variants.{Mapped, Unmapped};
 ghost use Rattle.kbm_read.specs.Reader.{readOf, afterRead};
 ghost use Rattle.kbm_write.specs.Export.{exportOf, textLength};
-ghost use Rattle.telbijan_answers.specs.Interface.{result, kept, partOf};
+ghost use Rattle.telbijan_answers.specs.Interface.{result, kept, fieldOf};
 ghost use Rattle.telbijan_mappings.specs.Mappings.{rootWith, mappingWith, octaveWith, builderWith, pushingWith};
 
 // The mapping of its numbers.
@@ -139,7 +139,7 @@ pub extern "C" fn telbijan_push_mapped_key(
 ) -> u64
     ensures { λ r. ⌜ r ≡ result (pushed (pushingWith room count) (now (map .entry))) ⌝ }
     ensures { λ _. ⌜ now (map .exit) ≡ afterPush (pushingWith room count) (now (map .entry)) (Mapped degree) ⌝ }
-    ensures { λ _. ⌜ now (after .exit) ≡ kept (partOf (λ b. b .count) (pushed (pushingWith room count) (now (map .entry)))) (now (after .entry)) ⌝ }
+    ensures { λ _. ⌜ now (after .exit) ≡ kept (fieldOf (λ b. b .count) (pushed (pushingWith room count) (now (map .entry)))) (now (after .entry)) ⌝ }
 {
     match pushing(room, count).push_mapped_key(map, degree) {
         BuilderAnswer::Is(builder) => {
@@ -161,7 +161,7 @@ pub extern "C" fn telbijan_push_unmapped_key(
 ) -> u64
     ensures { λ r. ⌜ r ≡ result (pushed (pushingWith room count) (now (map .entry))) ⌝ }
     ensures { λ _. ⌜ now (map .exit) ≡ afterPush (pushingWith room count) (now (map .entry)) Unmapped ⌝ }
-    ensures { λ _. ⌜ now (after .exit) ≡ kept (partOf (λ b. b .count) (pushed (pushingWith room count) (now (map .entry)))) (now (after .entry)) ⌝ }
+    ensures { λ _. ⌜ now (after .exit) ≡ kept (fieldOf (λ b. b .count) (pushed (pushingWith room count) (now (map .entry)))) (now (after .entry)) ⌝ }
 {
     match pushing(room, count).push_unmapped_key(map) {
         BuilderAnswer::Is(builder) => {
@@ -202,8 +202,8 @@ pub extern "C" fn telbijan_build_kbm(
     formal: &mut i16,
 ) -> u64
     ensures { λ r. ⌜ r ≡ result (built (builderWith room count start end reference hz offset (octaveWith given octave)) (now (map .entry))) ⌝ }
-    ensures { λ _. ⌜ now (entries .exit) ≡ kept (partOf (λ k. k .count) (built (builderWith room count start end reference hz offset (octaveWith given octave)) (now (map .entry)))) (now (entries .entry)) ⌝ }
-    ensures { λ _. ⌜ now (formal .exit) ≡ kept (partOf (λ k. k .octave) (built (builderWith room count start end reference hz offset (octaveWith given octave)) (now (map .entry)))) (now (formal .entry)) ⌝ }
+    ensures { λ _. ⌜ now (entries .exit) ≡ kept (fieldOf (λ k. k .count) (built (builderWith room count start end reference hz offset (octaveWith given octave)) (now (map .entry)))) (now (entries .entry)) ⌝ }
+    ensures { λ _. ⌜ now (formal .exit) ≡ kept (fieldOf (λ k. k .octave) (built (builderWith room count start end reference hz offset (octaveWith given octave)) (now (map .entry)))) (now (formal .entry)) ⌝ }
 {
     let builder = KbmBuilder {
         root: KbmRoot {
@@ -245,13 +245,13 @@ pub extern "C" fn telbijan_read_kbm(
 ) -> u64
     ensures { λ r. ⌜ r ≡ result (readOf (length (now (map .entry))) (now (text .entry))) ⌝ }
     ensures { λ _. ⌜ now (map .exit) ≡ afterRead (now (text .entry)) (now (map .entry)) ⌝ }
-    ensures { λ _. ⌜ now (count .exit) ≡ kept (partOf (λ k. k .count) (readOf (length (now (map .entry))) (now (text .entry)))) (now (count .entry)) ⌝ }
-    ensures { λ _. ⌜ now (start .exit) ≡ kept (partOf (λ k. k .start .0) (readOf (length (now (map .entry))) (now (text .entry)))) (now (start .entry)) ⌝ }
-    ensures { λ _. ⌜ now (end .exit) ≡ kept (partOf (λ k. k .end .0) (readOf (length (now (map .entry))) (now (text .entry)))) (now (end .entry)) ⌝ }
-    ensures { λ _. ⌜ now (reference .exit) ≡ kept (partOf (λ k. k .root .reference .0) (readOf (length (now (map .entry))) (now (text .entry)))) (now (reference .entry)) ⌝ }
-    ensures { λ _. ⌜ now (hz .exit) ≡ kept (partOf (λ k. k .root .pitch .0) (readOf (length (now (map .entry))) (now (text .entry)))) (now (hz .entry)) ⌝ }
-    ensures { λ _. ⌜ now (offset .exit) ≡ kept (partOf (λ k. k .root .offset) (readOf (length (now (map .entry))) (now (text .entry)))) (now (offset .entry)) ⌝ }
-    ensures { λ _. ⌜ now (octave .exit) ≡ kept (partOf (λ k. k .octave) (readOf (length (now (map .entry))) (now (text .entry)))) (now (octave .entry)) ⌝ }
+    ensures { λ _. ⌜ now (count .exit) ≡ kept (fieldOf (λ k. k .count) (readOf (length (now (map .entry))) (now (text .entry)))) (now (count .entry)) ⌝ }
+    ensures { λ _. ⌜ now (start .exit) ≡ kept (fieldOf (λ k. k .start .0) (readOf (length (now (map .entry))) (now (text .entry)))) (now (start .entry)) ⌝ }
+    ensures { λ _. ⌜ now (end .exit) ≡ kept (fieldOf (λ k. k .end .0) (readOf (length (now (map .entry))) (now (text .entry)))) (now (end .entry)) ⌝ }
+    ensures { λ _. ⌜ now (reference .exit) ≡ kept (fieldOf (λ k. k .root .reference .0) (readOf (length (now (map .entry))) (now (text .entry)))) (now (reference .entry)) ⌝ }
+    ensures { λ _. ⌜ now (hz .exit) ≡ kept (fieldOf (λ k. k .root .pitch .0) (readOf (length (now (map .entry))) (now (text .entry)))) (now (hz .entry)) ⌝ }
+    ensures { λ _. ⌜ now (offset .exit) ≡ kept (fieldOf (λ k. k .root .offset) (readOf (length (now (map .entry))) (now (text .entry)))) (now (offset .entry)) ⌝ }
+    ensures { λ _. ⌜ now (octave .exit) ≡ kept (fieldOf (λ k. k .octave) (readOf (length (now (map .entry))) (now (text .entry)))) (now (octave .entry)) ⌝ }
 {
     match kbm_read::read_kbm(text, map) {
         KbmAnswer::Is(kbm) => {

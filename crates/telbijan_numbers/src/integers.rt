@@ -3,7 +3,7 @@ use math::DivisionAnswer;
 ghost use mathlib.Core.Path.{_≡_};
 ghost use Rattle.math.specs.Division.{quotientOf, remainderOf, divisionOf};
 ghost use Rattle.math.specs.OddPart.{oddPart};
-ghost use Rattle.telbijan_answers.specs.Interface.{result, kept, partOf};
+ghost use Rattle.telbijan_answers.specs.Interface.{result, kept, fieldOf};
 
 // The quotient rounded down, stored; 10 for denominator 0.
 #[no_mangle]
@@ -32,8 +32,8 @@ pub extern "C" fn telbijan_i32_dr_u(
     remainder: &mut u32,
 ) -> u64
     ensures { λ r. ⌜ r ≡ result (divisionOf numer denom) ⌝ }
-    ensures { λ _. ⌜ now (quotient .exit) ≡ kept (partOf (λ p. p .quotient) (divisionOf numer denom)) (now (quotient .entry)) ⌝ }
-    ensures { λ _. ⌜ now (remainder .exit) ≡ kept (partOf (λ p. p .remainder) (divisionOf numer denom)) (now (remainder .entry)) ⌝ }
+    ensures { λ _. ⌜ now (quotient .exit) ≡ kept (fieldOf (λ p. p .quotient) (divisionOf numer denom)) (now (quotient .entry)) ⌝ }
+    ensures { λ _. ⌜ now (remainder .exit) ≡ kept (fieldOf (λ p. p .remainder) (divisionOf numer denom)) (now (remainder .entry)) ⌝ }
 {
     match math::i32_dr_u(numer, denom) {
         DivisionAnswer::Is(division) => {

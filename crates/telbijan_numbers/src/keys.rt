@@ -2,7 +2,7 @@
 use key::PianoKey;
 ghost use mathlib.Core.Path.{_≡_};
 ghost use Rattle.key.specs.Keys.{key, keyAfter, stepsBetween, midiOf};
-ghost use Rattle.telbijan_answers.specs.Interface.{result, kept, partOf};
+ghost use Rattle.telbijan_answers.specs.Interface.{result, kept, fieldOf};
 
 // The MIDI number of a key in 0..127, stored; else 16.
 #[no_mangle]
@@ -26,7 +26,7 @@ pub extern "C" fn telbijan_num_keys_before(number: i32, other: i32, steps: &mut 
 #[no_mangle]
 pub extern "C" fn telbijan_plus_steps(number: i32, steps: i32, after: &mut i32) -> u64
     ensures { λ r. ⌜ r ≡ result (keyAfter (key number) steps) ⌝ }
-    ensures { λ _. ⌜ now (after .exit) ≡ kept (partOf (λ k. k .0) (keyAfter (key number) steps)) (now (after .entry)) ⌝ }
+    ensures { λ _. ⌜ now (after .exit) ≡ kept (fieldOf (λ k. k .0) (keyAfter (key number) steps)) (now (after .entry)) ⌝ }
 {
     telbijan_answers::store_key(PianoKey(number).plus_steps(steps), after)
 }

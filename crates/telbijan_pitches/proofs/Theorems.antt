@@ -8,7 +8,7 @@ use Rattle.base.proofs.Said.{One, one-result}
 use Rattle.pitch.specs.NearestFraction.{nearestFraction}
 use Rattle.pitch.specs.Pitches.{fromHz, pitchTimes, pitchOver, betweenPitches}
 use Rattle.pitch.specs.Ratios.{fromFloat, fromOctaves, fromSemitones, fromCents, asOctaves, asSemitones, asCents, stretchedBy, deviationFrom, repeated, dividedInto, stepsOfSize, inverse, absolute, isNegligible, totalCmp}
-use Rattle.telbijan_answers.specs.Interface.{result, kept, partOf}
+use Rattle.telbijan_answers.specs.Interface.{result, kept, fieldOf}
 use Rattle.telbijan_pitches.specs.Orders.{orderNumber}
 
 pub ratio-from-float-one : (value : Float) (ratio : Float) → One (λ r. r) (result (fromFloat value)) × One (λ r. r) (kept (fromFloat value) ratio)
@@ -68,8 +68,8 @@ pitch-over-ratio-one value ratio hz = (one-result (result (pitchOver value ratio
 pub ratio-is-negligible-one : (value : Float) (negligible : Bool) → One (λ r. r) (result (isNegligible value)) × One (λ r. r) (kept (isNegligible value) negligible)
 ratio-is-negligible-one value negligible = (one-result (result (isNegligible value)), one-result (kept (isNegligible value) negligible))
 
-pub ratio-total-cmp-one : (value : Float) (other : Float) (order : ℤ) → One (λ r. r) (result (totalCmp value other)) × One (λ r. r) (kept (partOf orderNumber (totalCmp value other)) order)
-ratio-total-cmp-one value other order = (one-result (result (totalCmp value other)), one-result (kept (partOf orderNumber (totalCmp value other)) order))
+pub ratio-total-cmp-one : (value : Float) (other : Float) (order : ℤ) → One (λ r. r) (result (totalCmp value other)) × One (λ r. r) (kept (fieldOf orderNumber (totalCmp value other)) order)
+ratio-total-cmp-one value other order = (one-result (result (totalCmp value other)), one-result (kept (fieldOf orderNumber (totalCmp value other)) order))
 
-pub ratio-nearest-fraction-one : (value : Float) (limit : ℕ) (numer : ℕ) (denom : ℕ) (deviation : Float) (octaves : ℤ) → One (λ r. r) (result (nearestFraction value limit)) × (One (λ r. r) (kept (partOf (λ f. f .numer) (nearestFraction value limit)) numer) × (One (λ r. r) (kept (partOf (λ f. f .denom) (nearestFraction value limit)) denom) × (One (λ r. r) (kept (partOf (λ f. f .deviation .0) (nearestFraction value limit)) deviation) × One (λ r. r) (kept (partOf (λ f. f .«num_octaves») (nearestFraction value limit)) octaves))))
-ratio-nearest-fraction-one value limit numer denom deviation octaves = (one-result (result (nearestFraction value limit)), (one-result (kept (partOf (λ f. f .numer) (nearestFraction value limit)) numer), (one-result (kept (partOf (λ f. f .denom) (nearestFraction value limit)) denom), (one-result (kept (partOf (λ f. f .deviation .0) (nearestFraction value limit)) deviation), one-result (kept (partOf (λ f. f .«num_octaves») (nearestFraction value limit)) octaves)))))
+pub ratio-nearest-fraction-one : (value : Float) (limit : ℕ) (numer : ℕ) (denom : ℕ) (deviation : Float) (octaves : ℤ) → One (λ r. r) (result (nearestFraction value limit)) × (One (λ r. r) (kept (fieldOf (λ f. f .numer) (nearestFraction value limit)) numer) × (One (λ r. r) (kept (fieldOf (λ f. f .denom) (nearestFraction value limit)) denom) × (One (λ r. r) (kept (fieldOf (λ f. f .deviation .0) (nearestFraction value limit)) deviation) × One (λ r. r) (kept (fieldOf (λ f. f .«num_octaves») (nearestFraction value limit)) octaves))))
+ratio-nearest-fraction-one value limit numer denom deviation octaves = (one-result (result (nearestFraction value limit)), (one-result (kept (fieldOf (λ f. f .numer) (nearestFraction value limit)) numer), (one-result (kept (fieldOf (λ f. f .denom) (nearestFraction value limit)) denom), (one-result (kept (fieldOf (λ f. f .deviation .0) (nearestFraction value limit)) deviation), one-result (kept (fieldOf (λ f. f .«num_octaves») (nearestFraction value limit)) octaves)))))

@@ -8,7 +8,7 @@ ghost use mathlib.Core.Path.{_≡_};
 ghost use Rattle.pitch.specs.NearestFraction.{nearestFraction};
 ghost use Rattle.pitch.specs.Pitches.{fromHz, pitchTimes, pitchOver, betweenPitches};
 ghost use Rattle.pitch.specs.Ratios.{fromFloat, fromOctaves, fromSemitones, fromCents, asOctaves, asSemitones, asCents, stretchedBy, deviationFrom, repeated, dividedInto, stepsOfSize, inverse, absolute, isNegligible, totalCmp};
-ghost use Rattle.telbijan_answers.specs.Interface.{result, kept, partOf};
+ghost use Rattle.telbijan_answers.specs.Interface.{result, kept, fieldOf};
 ghost use Rattle.telbijan_pitches.specs.Orders.{orderNumber};
 
 // The ratio of a number; 10 outside 2^-900..2^900.
@@ -205,7 +205,7 @@ fn order_number(order: Order) -> i32
 #[no_mangle]
 pub extern "C" fn telbijan_ratio_total_cmp(value: f64, other: f64, order: &mut i32) -> u64
     ensures { λ r. ⌜ r ≡ result (totalCmp value other) ⌝ }
-    ensures { λ _. ⌜ now (order .exit) ≡ kept (partOf orderNumber (totalCmp value other)) (now (order .entry)) ⌝ }
+    ensures { λ _. ⌜ now (order .exit) ≡ kept (fieldOf orderNumber (totalCmp value other)) (now (order .entry)) ⌝ }
 {
     match Ratio(value).total_cmp(Ratio(other)) {
         OrderAnswer::Is(answer) => {
@@ -228,10 +228,10 @@ pub extern "C" fn telbijan_ratio_nearest_fraction(
     octaves: &mut i32,
 ) -> u64
     ensures { λ r. ⌜ r ≡ result (nearestFraction value limit) ⌝ }
-    ensures { λ _. ⌜ now (numer .exit) ≡ kept (partOf (λ f. f .numer) (nearestFraction value limit)) (now (numer .entry)) ⌝ }
-    ensures { λ _. ⌜ now (denom .exit) ≡ kept (partOf (λ f. f .denom) (nearestFraction value limit)) (now (denom .entry)) ⌝ }
-    ensures { λ _. ⌜ now (deviation .exit) ≡ kept (partOf (λ f. f .deviation .0) (nearestFraction value limit)) (now (deviation .entry)) ⌝ }
-    ensures { λ _. ⌜ now (octaves .exit) ≡ kept (partOf (λ f. f .«num_octaves») (nearestFraction value limit)) (now (octaves .entry)) ⌝ }
+    ensures { λ _. ⌜ now (numer .exit) ≡ kept (fieldOf (λ f. f .numer) (nearestFraction value limit)) (now (numer .entry)) ⌝ }
+    ensures { λ _. ⌜ now (denom .exit) ≡ kept (fieldOf (λ f. f .denom) (nearestFraction value limit)) (now (denom .entry)) ⌝ }
+    ensures { λ _. ⌜ now (deviation .exit) ≡ kept (fieldOf (λ f. f .deviation .0) (nearestFraction value limit)) (now (deviation .entry)) ⌝ }
+    ensures { λ _. ⌜ now (octaves .exit) ≡ kept (fieldOf (λ f. f .«num_octaves») (nearestFraction value limit)) (now (octaves .entry)) ⌝ }
 {
     match Ratio(value).nearest_fraction(limit) {
         NearestAnswer::Is(answer) => {

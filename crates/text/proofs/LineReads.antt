@@ -8,7 +8,7 @@ use native.Mathlib.Omega.{arith}
 use lib.ListN.{length, take, drop, length-drop}
 use lib.Seq.{length-take-le, take-all}
 use Rattle.text.specs.Trim.{run, keepBy}
-use Rattle.text.specs.Utf8Machine.{runOf}
+use Rattle.text.specs.Utf8Machine.{utf8From}
 use Rattle.text.specs.ReadLine.{tokenLength, Way, strictly, part, partAt, lineBy, lineOf}
 use Rattle.text.specs.declared.line.LineSays.{LineSays}
 use Rattle.text.specs.declared.line.LineSays.the-variants.{NotUtf8, Dropped, Content}
@@ -57,7 +57,7 @@ module _ (w : Way) (a : ℕ) (l : List ℕ) {r : Bool} (d : r ≡ w .valid l) wh
 
 -- no line at all drops out
 pub line-empty : (text : List ℕ) (a e : ℕ) → e ≤ a → Dropped ≡ lineOf strictly text a e
-unfolding lineBy runOf run
+unfolding lineBy utf8From run
 line-empty text a e h = let z : e - a ≡ 0 = omega arith in rw z
 
 -- what lies past the end of the text is not there

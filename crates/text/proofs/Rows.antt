@@ -6,7 +6,7 @@ use Prim.Native.Nat.{ℕ, zero, suc, _+_, _≤_, _<_}
 use native.Mathlib.Omega.{arith}
 use lib.ListN.{length, take, drop, length-append, length-drop, take-append-drop}
 use lib.Seq.{drop-drop, drop-at}
-use Rattle.text.specs.Characters.{Each, written}
+use Rattle.text.specs.Characters.{Each, inBytes}
 use Rattle.text.specs.Trim.{run}
 use Rattle.text.proofs.Runs.{run-none, run-more}
 
@@ -36,35 +36,35 @@ module _ (White : ℕ → Type 0) (bytes : ℕ → List ℕ) (width : List ℕ �
   width-none t f = ⊎-elim (λ z. z) (λ n. let s = found-split t n in absurd (f (s .0) (drop (width t) t) (s .1) (s .2))) (zero-or (width t))
 
   -- the run passes a row of characters
-  pub run-row : (ws : List ℕ) → Each White ws → (u : List ℕ) → run width 0 (written bytes ws ++ u) ≡ length (written bytes ws) + run width 0 u
-  unfolding written
+  pub run-row : (ws : List ℕ) → Each White ws → (u : List ℕ) → run width 0 (inBytes bytes ws ++ u) ≡ length (inBytes bytes ws) + run width 0 u
+  unfolding inBytes
   run-row [] x u = omega arith
   run-row (c ∷ ws) x u =
-      let rest = written bytes ws ++ u in
+      let rest = inBytes bytes ws ++ u in
       let t = bytes c ++ rest in
       let k = m .meets c (x .0) rest in
       let more = run-more width (m .fits) t (λ z. omega (arith, k, m .some c (x .0))) in
       let d : drop (width t) t ≡ rest = rw k (drop-at (bytes c) rest (length (bytes c)) refl) in
-      rw (append-assoc (bytes c) (written bytes ws) u)
-      (omega (arith, more, k, ap (run width 0) d, run-row ws (x .1) u, length-append (bytes c) (written bytes ws)))
+      rw (append-assoc (bytes c) (inBytes bytes ws) u)
+      (omega (arith, more, k, ap (run width 0) d, run-row ws (x .1) u, length-append (bytes c) (inBytes bytes ws)))
 
   -- what the run passes is a row of characters, and none follows it
   abbrev pub Passed : List ℕ → Type 0
-  Passed t = (ws : List ℕ) × Each White ws × (t ≡ written bytes ws ++ drop (run width 0 t) t) × (width (drop (run width 0 t) t) ≡ 0)
+  Passed t = (ws : List ℕ) × Each White ws × (t ≡ inBytes bytes ws ++ drop (run width 0 t) t) × (width (drop (run width 0 t) t) ≡ 0)
 
   passed-none : (t : List ℕ) → width t ≡ 0 → Passed t
-  unfolding written
+  unfolding inBytes
   passed-none t z = rw (run-none width t z) ([], tt, refl, z)
 
   passed-more : (t : List ℕ) → (width t ≡ 0 → ⊥) → Passed (drop (width t) t) → Passed t
-  unfolding written
+  unfolding inBytes
   passed-more t x (ws, e, p, z) =
       let s = found-split t x in
       let tail : drop (run width 0 (drop (width t) t)) (drop (width t) t) ≡ drop (run width 0 t) t =
       drop-drop (run width 0 (drop (width t) t)) (width t) t ∙ ap (λ (k : ℕ). drop k t) (sym (run-more width (m .fits) t x)) in (
         s .0 ∷ ws,
         (s .1, e),
-        s .2 ∙ ap (λ (l : List ℕ). bytes (s .0) ++ l) (p ∙ ap (λ (l : List ℕ). written bytes ws ++ l) tail) ∙ sym (append-assoc (bytes (s .0)) (written bytes ws) (drop (run width 0 t) t)),
+        s .2 ∙ ap (λ (l : List ℕ). bytes (s .0) ++ l) (p ∙ ap (λ (l : List ℕ). inBytes bytes ws ++ l) tail) ∙ sym (append-assoc (bytes (s .0)) (inBytes bytes ws) (drop (run width 0 t) t)),
         ap width (sym tail) ∙ z,
       )
 

@@ -6,7 +6,7 @@ use Rattle.text.specs.Cut.{lines}
 use Rattle.text.specs.Reading.{Meaning, invalid, dropped, content}
 use Rattle.text.specs.ReadLine.{tokenLength, strictly, meaningBy}
 use Rattle.text.specs.Trim.{widthBy, run}
-use Rattle.text.specs.Utf8Machine.{leadOf, stepOf, runOf}
+use Rattle.text.specs.Utf8Machine.{leadOf, utf8Step, utf8From}
 
 -- what a line says
 abbrev says : List ℕ → Meaning
@@ -36,7 +36,7 @@ pub record Samples : Type 0 where
   pub cut-short : says (33 ∷ 226 ∷ 128 ∷ []) ≡ invalid
 
 pub samples : Samples
-unfolding lines meaningBy tokenLength widthBy run leadOf stepOf runOf
+unfolding lines meaningBy tokenLength widthBy run leadOf utf8Step utf8From
 samples =
     record {
       one-line = refl;

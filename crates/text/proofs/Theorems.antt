@@ -6,14 +6,14 @@ use Rattle.base.proofs.Said.{One, one-result}
 use Rattle.text.specs.Cut.{cut}
 use Rattle.text.specs.ReadLine.{tokenLength, strictly, lineOf}
 use Rattle.text.specs.Trim.{front, back, run}
-use Rattle.text.specs.Utf8Machine.{start, runOf}
+use Rattle.text.specs.Utf8Machine.{fresh, utf8From}
 
 module _ (s : List ℕ) where
   pub next-line-one : (at : ℕ) → One (λ r. r) (cut at (drop at s))
   next-line-one at = one-result (cut at (drop at s))
 
-  pub is-utf8-one : One (λ r. r) (runOf start s)
-  is-utf8-one = one-result (runOf start s)
+  pub is-utf8-one : One (λ r. r) (utf8From fresh s)
+  is-utf8-one = one-result (utf8From fresh s)
 
   pub trim-start-one : One (λ r. r) (run front 0 s)
   trim-start-one = one-result (run front 0 s)

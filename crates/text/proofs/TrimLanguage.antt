@@ -8,7 +8,7 @@ use native.Mathlib.Omega.{arith}
 use lib.ListN.{length, getD, take, length-reverse}
 use Rattle.text.specs.Characters.{encode}
 use Rattle.text.specs.Reading.{WhiteSpace, Trimmed}
-use Rattle.text.specs.Trim.{white1, white2, white3, back2, back3, widthOf, widthBy, front, back, trimBy}
+use Rattle.text.specs.Trim.{white1, white2, white3, back2, back3, whiteWidth, widthBy, front, back, trimBy}
 use Rattle.text.proofs.Widths.{Hit, front-hit, back-hit, front-fits, back-fits}
 use Rattle.text.proofs.WhiteSpaces.{Lead, Shape, shape, is1, is2, is3, lead2, lead3, lead-last}
 use Rattle.text.proofs.Rows.{Measures}
@@ -73,14 +73,14 @@ unfolding widthBy
 joins-lead [] b v l h z = absurd (omega arith)
 joins-lead (x ∷ []) b v l h z = rw (no1 (white1 x) (white2 x 0) (white3 x 0 0) z, lead2 b l x, lead3 b l x (getD v 0 0))
   where
-    no1 : (p q r : Bool) → widthOf p q r ≡ 0 → p ≡ false
+    no1 : (p q r : Bool) → whiteWidth p q r ≡ 0 → p ≡ false
     no1 true q r e = absurd (omega arith)
     no1 false q r e = refl
 joins-lead (x ∷ y ∷ []) b v l h z =
     let n = no2 (white1 x) (white2 x y) (white3 x y 0) z in
     rw (n .0, n .1, lead-last b l x y)
   where
-    no2 : (p q r : Bool) → widthOf p q r ≡ 0 → (p ≡ false) × (q ≡ false)
+    no2 : (p q r : Bool) → whiteWidth p q r ≡ 0 → (p ≡ false) × (q ≡ false)
     no2 true q r e = absurd (omega arith)
     no2 false true r e = absurd (omega arith)
     no2 false false r e = (refl, refl)

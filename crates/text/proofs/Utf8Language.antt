@@ -9,8 +9,8 @@ use native.Mathlib.Omega.{arith}
 use lib.Dec.{ltb}
 use borrow.Author.Tests.{ltb-true, ltb-false, ne-eqb, eqb-true}
 use Rattle.base.specs.Said.{pick}
-use Rattle.text.specs.Characters.{Scalar, Each, encode, written, Utf8}
-use Rattle.text.specs.Utf8Machine.{state, start, Entry, lookup, entries, leadOf, stepOf, onward, runOf}
+use Rattle.text.specs.Characters.{Scalar, Each, encode, inBytes, Utf8}
+use Rattle.text.specs.Utf8Machine.{state, fresh, Entry, lookup, entries, leadOf, utf8Step, onward, utf8From}
 use Rattle.text.specs.declared.utf8.State.{State}
 use Rattle.text.specs.declared.utf8.Step.{Step}
 use Rattle.text.specs.declared.utf8.Step.the-variants.{Go, Stop}
@@ -22,7 +22,7 @@ differ e = omega arith
 
 -- one more character
 more : (c : ℕ) → Scalar c → {t : List ℕ} → Utf8 t → Utf8 (encode c ++ t)
-unfolding written
+unfolding inBytes
 more c x u = record { codes = c ∷ u .codes; each = (x, u .each); text = ap (λ (l : List ℕ). encode c ++ l) (u .text) }
 
 -- bytes in their ranges are a character
@@ -137,52 +137,52 @@ starts b = entries-all Starts 0 entries all-entries b (omega arith)
 
 -- SOUND: what the machine accepts is what is due
 nil : Utf8 []
-unfolding written
+unfolding inBytes
 nil = record { codes = []; each = tt; text = refl }
 
-due : (r : Step) (s : List ℕ) → ((n l h : ℕ) → runOf (state n l h) s ≡ true → Rest n l h s) → onward r (λ t. runOf t s) ≡ true → Due r s
+due : (r : Step) (s : List ℕ) → ((n l h : ℕ) → utf8From (state n l h) s ≡ true → Rest n l h s) → onward r (λ t. utf8From t s) ≡ true → Due r s
 due (Go t) s k e = k (t .need) (t .lo) (t .hi) e
 due Stop s k e = let z : _≡_ {A = ℕ} 0 1 = cc in absurd (differ z)
 
-sound : (s : List ℕ) (n l h : ℕ) → runOf (state n l h) s ≡ true → Rest n l h s
-unfolding runOf stepOf
+sound : (s : List ℕ) (n l h : ℕ) → utf8From (state n l h) s ≡ true → Rest n l h s
+unfolding utf8From utf8Step
 sound [] zero l h e = nil
 sound [] (suc n) l h e = let x = eqb-true (suc n) 0 e in absurd (omega arith)
 sound (b ∷ s) zero l h e = starts b s (due (leadOf b) s (sound s) e)
 sound (b ∷ s) (suc n) l h e = by-low (ltb b l) refl (rw (ne-eqb (suc n) 0 (omega arith)) at e) (sound s)
   where
-    by-high : (u : Bool) → ltb h b ≡ u → l ≤ b → onward (pick u Stop (Go (state (suc n - 1) 128 191))) (λ t. runOf t s) ≡ true →
-        ((n l h : ℕ) → runOf (state n l h) s ≡ true → Rest n l h s) → Rest (suc n) l h (b ∷ s)
+    by-high : (u : Bool) → ltb h b ≡ u → l ≤ b → onward (pick u Stop (Go (state (suc n - 1) 128 191))) (λ t. utf8From t s) ≡ true →
+        ((n l h : ℕ) → utf8From (state n l h) s ≡ true → Rest n l h s) → Rest (suc n) l h (b ∷ s)
     by-high true p x q k = let z : _≡_ {A = ℕ} 0 1 = cc in absurd (differ z)
     by-high false p x q k =
         let m : suc n - 1 ≡ n = omega arith in
         (b, s, refl, x, ltb-false h b p, k n 128 191 (rw m at q))
 
-    by-low : (u : Bool) → ltb b l ≡ u → onward (pick u Stop (pick (ltb h b) Stop (Go (state (suc n - 1) 128 191)))) (λ t. runOf t s) ≡ true →
-        ((n l h : ℕ) → runOf (state n l h) s ≡ true → Rest n l h s) → Rest (suc n) l h (b ∷ s)
+    by-low : (u : Bool) → ltb b l ≡ u → onward (pick u Stop (pick (ltb h b) Stop (Go (state (suc n - 1) 128 191)))) (λ t. utf8From t s) ≡ true →
+        ((n l h : ℕ) → utf8From (state n l h) s ≡ true → Rest n l h s) → Rest (suc n) l h (b ∷ s)
     by-low true p q k = let z : _≡_ {A = ℕ} 0 1 = cc in absurd (differ z)
     by-low false p q k = by-high (ltb h b) refl (ltb-false b l p) q k
 
 -- COMPLETE: the machine goes over each encoding and comes back to its start
-run : (st : State) (b : ℕ) (s : List ℕ) {t : State} → stepOf st b ≡ Go t → runOf st (b ∷ s) ≡ runOf t s
-unfolding runOf
+run : (st : State) (b : ℕ) (s : List ℕ) {t : State} → utf8Step st b ≡ Go t → utf8From st (b ∷ s) ≡ utf8From t s
+unfolding utf8From
 run st b s e = rw e
 
-lead-run : (b : ℕ) (s : List ℕ) {t : State} → leadOf b ≡ Go t → runOf start (b ∷ s) ≡ runOf t s
-lead-run b s e = run start b s (step-lead start b refl ∙ e)
+lead-run : (b : ℕ) (s : List ℕ) {t : State} → leadOf b ≡ Go t → utf8From fresh (b ∷ s) ≡ utf8From t s
+lead-run b s e = run fresh b s (step-lead fresh b refl ∙ e)
 
 -- the bytes after the first
-run1 : (c lo hi : ℕ) (s : List ℕ) → lo ≤ c → c ≤ hi → runOf (state 1 lo hi) (c ∷ s) ≡ runOf start s
+run1 : (c lo hi : ℕ) (s : List ℕ) → lo ≤ c → c ≤ hi → utf8From (state 1 lo hi) (c ∷ s) ≡ utf8From fresh s
 run1 c lo hi s x y = run (state 1 lo hi) c s (step-in 1 lo hi c (omega arith) x y)
 
-run2 : (c d lo hi : ℕ) (s : List ℕ) → lo ≤ c → c ≤ hi → Cont d → runOf (state 2 lo hi) (c ∷ d ∷ s) ≡ runOf start s
+run2 : (c d lo hi : ℕ) (s : List ℕ) → lo ≤ c → c ≤ hi → Cont d → utf8From (state 2 lo hi) (c ∷ d ∷ s) ≡ utf8From fresh s
 run2 c d lo hi s x y z = run (state 2 lo hi) c (d ∷ s) (step-in 2 lo hi c (omega arith) x y) ∙ run1 d 128 191 s (z .0) (z .1)
 
-run3 : (c d e lo hi : ℕ) (s : List ℕ) → lo ≤ c → c ≤ hi → Cont d → Cont e → runOf (state 3 lo hi) (c ∷ d ∷ e ∷ s) ≡ runOf start s
+run3 : (c d e lo hi : ℕ) (s : List ℕ) → lo ≤ c → c ≤ hi → Cont d → Cont e → utf8From (state 3 lo hi) (c ∷ d ∷ e ∷ s) ≡ utf8From fresh s
 run3 c d e lo hi s x y z w = run (state 3 lo hi) c (d ∷ e ∷ s) (step-in 3 lo hi c (omega arith) x y) ∙ run2 d e 128 191 s (z .0) (z .1) w
 
 abbrev Over : ℕ → List ℕ → Type 0
-Over c s = runOf start (encode c ++ s) ≡ runOf start s
+Over c s = utf8From fresh (encode c ++ s) ≡ utf8From fresh s
 
 over1 : (c : ℕ) (s : List ℕ) → c < 0x80 → Over c s
 over1 c s h = rw (enc1 c h) (lead-run c s (lead-at 0 c (omega arith) h))
@@ -228,11 +228,11 @@ module _ (c : ℕ) (s : List ℕ) where
       (λ a. ⊎-elim (λ b. over2 c s a b) (λ b. ⊎-elim (λ d. over3 b d x) (λ d. over4 d (top x)) (split c 0x10000)) (split c 0x800))
       (split c 0x80)
 
-run-all : (cs : List ℕ) → Each Scalar cs → runOf start (written encode cs) ≡ true
-unfolding written runOf
+run-all : (cs : List ℕ) → Each Scalar cs → utf8From fresh (inBytes encode cs) ≡ true
+unfolding inBytes utf8From
 run-all [] x = refl
-run-all (c ∷ cs) x = over c (written encode cs) (x .0) ∙ run-all cs (x .1)
+run-all (c ∷ cs) x = over c (inBytes encode cs) (x .0) ∙ run-all cs (x .1)
 
 -- THE THEOREM
-pub accepts : (s : List ℕ) → (runOf start s ≡ true) ↔ Utf8 s
+pub accepts : (s : List ℕ) → (utf8From fresh s ≡ true) ↔ Utf8 s
 accepts s = (sound s 0 128 191, λ u. rw (u .text) (run-all (u .codes) (u .each)))

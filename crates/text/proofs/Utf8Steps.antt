@@ -13,7 +13,7 @@ use lib.Dec.{leb, eqb}
 use borrow.Author.Tests.{lt-ltb, le-ltb, leb-true, eq-eqb, ne-eqb}
 use Rattle.base.specs.Said.{pick}
 use Rattle.base.proofs.Pick.{pick-both}
-use Rattle.text.specs.Utf8Machine.{state, start, Entry, lookup, entries, leadOf, stepOf, onward, runOf}
+use Rattle.text.specs.Utf8Machine.{state, fresh, Entry, lookup, entries, leadOf, utf8Step, onward, utf8From}
 use Rattle.text.specs.Eights.{Passed}
 use Rattle.text.specs.declared.utf8.State.{State}
 use Rattle.text.specs.declared.utf8.Step.{Step}
@@ -65,34 +65,34 @@ lead-at n b l x = at-entry 0 entries refl n b l x
 
 -- a step inside a character
 module _ (n l h b : ℕ) (some : n ≡ 0 → ⊥) where
-  pub step-low : b < l → stepOf (state n l h) b ≡ Stop
-  unfolding stepOf
+  pub step-low : b < l → utf8Step (state n l h) b ≡ Stop
+  unfolding utf8Step
   step-low x = rw (ne-eqb n 0 some, lt-ltb b l x)
 
-  pub step-high : l ≤ b → h < b → stepOf (state n l h) b ≡ Stop
-  unfolding stepOf
+  pub step-high : l ≤ b → h < b → utf8Step (state n l h) b ≡ Stop
+  unfolding utf8Step
   step-high x y = rw (ne-eqb n 0 some, le-ltb b l x, lt-ltb h b y)
 
-  pub step-in : l ≤ b → b ≤ h → stepOf (state n l h) b ≡ Go (state (n - 1) 128 191)
-  unfolding stepOf
+  pub step-in : l ≤ b → b ≤ h → utf8Step (state n l h) b ≡ Go (state (n - 1) 128 191)
+  unfolding utf8Step
   step-in x y = rw (ne-eqb n 0 some, le-ltb b l x, le-ltb h b y)
 
-pub step-lead : (st : State) (b : ℕ) → st .need ≡ 0 → stepOf st b ≡ leadOf b
-unfolding stepOf
+pub step-lead : (st : State) (b : ℕ) → st .need ≡ 0 → utf8Step st b ≡ leadOf b
+unfolding utf8Step
 step-lead st b e = rw (eq-eqb (st .need) 0 e)
 
 -- a turn of the loop
-pub run-turn : (st : State) (s : List ℕ) (i : ℕ) → i < length s → {r r′ : Step} → r ≡ stepOf st (getD s i 0) → r ≡ r′ →
-    runOf st (drop i s) ≡ onward r′ (λ t. runOf t (drop (i + 1) s))
-unfolding runOf
+pub run-turn : (st : State) (s : List ℕ) (i : ℕ) → i < length s → {r r′ : Step} → r ≡ utf8Step st (getD s i 0) → r ≡ r′ →
+    utf8From st (drop i s) ≡ onward r′ (λ t. utf8From t (drop (i + 1) s))
+unfolding utf8From
 run-turn st s i h p q = rw (drop-cons s i 0 h, add-one i, ← p, q)
 
-pub run-end : (st : State) (s : List ℕ) (i : ℕ) → length s ≤ i → runOf st (drop i s) ≡ eqb (st .need) 0
-unfolding runOf
+pub run-end : (st : State) (s : List ℕ) (i : ℕ) → length s ≤ i → utf8From st (drop i s) ≡ eqb (st .need) 0
+unfolding utf8From
 run-end st s i h = rw (drop-of-length-le s h)
 
 -- bytes below 128 are characters by themselves
-pub run-pass : {s : List ℕ} {low r : ℕ} → Passed low 127 s 0 r → runOf start s ≡ runOf start (drop r s)
+pub run-pass : {s : List ℕ} {low r : ℕ} → Passed low 127 s 0 r → utf8From fresh s ≡ utf8From fresh (drop r s)
 run-pass {s} p =
-    pass-over (λ (k : ℕ). runOf start (drop k s)) p
-    (λ k h l u. run-turn start s k h refl (step-lead start (getD s k 0) refl ∙ lead-at 0 (getD s k 0) (omega arith) (omega arith)))
+    pass-over (λ (k : ℕ). utf8From fresh (drop k s)) p
+    (λ k h l u. run-turn fresh s k h refl (step-lead fresh (getD s k 0) refl ∙ lead-at 0 (getD s k 0) (omega arith) (omega arith)))

@@ -7,7 +7,7 @@ use native.Mathlib.Omega.{arith}
 use lib.Dec.{eqb}
 use lib.ListN.{length, getD}
 use Rattle.base.proofs.Pick.{pick-never}
-use Rattle.text.specs.Trim.{white1, white2, white3, back2, back3, widthOf, widthBy, front, back}
+use Rattle.text.specs.Trim.{white1, white2, white3, back2, back3, whiteWidth, widthBy, front, back}
 
 -- the character of n bytes that t starts with: one byte, two or three of the set
 pub data Hit (two : ℕ → ℕ → Bool) (three : ℕ → ℕ → ℕ → Bool) (t : List ℕ) (n : ℕ) : Type 0 where
@@ -23,18 +23,18 @@ module _ (two : ℕ → ℕ → Bool) (three : ℕ → ℕ → ℕ → Bool) (no
   hit [] = Hit.none (rw (no2 0, no3 0 0))
   hit (x ∷ []) = go (white1 x) refl
     where
-      go : (p : Bool) → white1 x ≡ p → Hit two three (x ∷ []) (widthOf p (two x 0) (three x 0 0))
+      go : (p : Bool) → white1 x ≡ p → Hit two three (x ∷ []) (whiteWidth p (two x 0) (three x 0 0))
       go true p = Hit.hit1 x [] refl p refl
       go false p = Hit.none (rw (no2 x, no3 x 0))
   hit (x ∷ y ∷ []) = go (white1 x) refl (two x y) refl
     where
-      go : (p : Bool) → white1 x ≡ p → (q : Bool) → two x y ≡ q → Hit two three (x ∷ y ∷ []) (widthOf p q (three x y 0))
+      go : (p : Bool) → white1 x ≡ p → (q : Bool) → two x y ≡ q → Hit two three (x ∷ y ∷ []) (whiteWidth p q (three x y 0))
       go true p q e = Hit.hit1 x (y ∷ []) refl p refl
       go false p true e = Hit.hit2 x y [] refl e refl
       go false p false e = Hit.none (rw (no3 x y))
   hit (x ∷ y ∷ z ∷ r) = go (white1 x) refl (two x y) refl (three x y z) refl
     where
-      go : (p : Bool) → white1 x ≡ p → (q : Bool) → two x y ≡ q → (u : Bool) → three x y z ≡ u → Hit two three (x ∷ y ∷ z ∷ r) (widthOf p q u)
+      go : (p : Bool) → white1 x ≡ p → (q : Bool) → two x y ≡ q → (u : Bool) → three x y z ≡ u → Hit two three (x ∷ y ∷ z ∷ r) (whiteWidth p q u)
       go true p q e u f = Hit.hit1 x (y ∷ z ∷ r) refl p refl
       go false p true e u f = Hit.hit2 x y (z ∷ r) refl e refl
       go false p false e true f = Hit.hit3 x y z r refl f refl
@@ -51,7 +51,7 @@ module _ (two : ℕ → ℕ → Bool) (three : ℕ → ℕ → ℕ → Bool) (no
 
 -- what the calls answered is the width at the start of t: b, c, d are its first bytes
 pub width-told : (two : ℕ → ℕ → Bool) (three : ℕ → ℕ → ℕ → Bool) (t : List ℕ) {b c d : ℕ} {p q u : Bool} {r : ℕ} → b ≡ getD t 0 0 → c ≡ getD t 1 0 → d ≡ getD t 2 0 →
-    p ≡ white1 b → q ≡ two b c → u ≡ three b c d → r ≡ widthOf p q u → r ≡ widthBy two three t
+    p ≡ white1 b → q ≡ two b c → u ≡ three b c d → r ≡ whiteWidth p q u → r ≡ widthBy two three t
 unfolding widthBy
 width-told two three t eb ec ed ep eq eu e = rw (← eb, ← ec, ← ed, ← ep, ← eq, ← eu) e
 

@@ -13,15 +13,15 @@ Each P [] = Unit {0}
 Each P (c ∷ cs) = P c × Each P cs
 
 -- the bytes of a row of characters, by the bytes of each
-unfoldable pub written : (ℕ → List ℕ) → List ℕ → List ℕ
-written bytes [] = []
-written bytes (c ∷ cs) = bytes c ++ written bytes cs
+unfoldable pub inBytes : (ℕ → List ℕ) → List ℕ → List ℕ
+inBytes bytes [] = []
+inBytes bytes (c ∷ cs) = bytes c ++ inBytes bytes cs
 
 -- s is a row of these characters
 pub record Row (Character : ℕ → Type 0) (bytes : ℕ → List ℕ) (s : List ℕ) : Type 0 where
   pub codes : List ℕ
   pub each : Each Character codes
-  pub text : s ≡ written bytes codes
+  pub text : s ≡ inBytes bytes codes
 
 -- the numbers from one to another, both among them
 pub record Span : Type 0 where

@@ -8,7 +8,7 @@ use lib.ListN.{length, take, drop}
 use Rattle.base.specs.Said.{pick}
 use Rattle.text.specs.Reading.{Meaning, invalid, dropped, content}
 use Rattle.text.specs.Trim.{front, back, run, trimBy}
-use Rattle.text.specs.Utf8Machine.{start, runOf}
+use Rattle.text.specs.Utf8Machine.{fresh, utf8From}
 use Rattle.text.specs.declared.line.LineSays.{LineSays}
 use Rattle.text.specs.declared.line.LineSays.the-variants.{NotUtf8, Dropped, Content}
 
@@ -36,7 +36,7 @@ pub record Way : Type 0 where
 
 -- document 01's reading
 abbrev pub strictly : Way
-strictly = record { valid = runOf start; ahead = front; behind = back; drops = emptyOrComment }
+strictly = record { valid = utf8From fresh; ahead = front; behind = back; drops = emptyOrComment }
 
 -- what the trimmed part m says
 abbrev pub partMeaning : Way → List ℕ → Meaning

@@ -3,7 +3,7 @@
 use mathlib.Core.Path.{_≡_}
 use mathlib.Core.List.{List, [], _∷_, _++_}
 use Prim.Native.Nat.{ℕ}
-use Rattle.text.specs.Characters.{Each, Row, written, span, Among, Scalar, encode}
+use Rattle.text.specs.Characters.{Each, Row, inBytes, span, Among, Scalar, encode}
 use Rattle.text.specs.Lines.{Lines}
 
 -- what a line's reading depends on: the characters there are and their bytes, which are trimmed, and which trimmed lines drop out
@@ -34,7 +34,7 @@ pub record Trimmed (White : ℕ → Type 0) (bytes : ℕ → List ℕ) (s m : Li
   pub after : List ℕ
   pub white-before : Each White before
   pub white-after : Each White after
-  pub whole : s ≡ written bytes before ++ (m ++ written bytes after)
+  pub whole : s ≡ inBytes bytes before ++ (m ++ inBytes bytes after)
   pub starts : (c : ℕ) (t : List ℕ) → White c → m ≡ bytes c ++ t → ⊥
   pub ends : (c : ℕ) (t : List ℕ) → White c → m ≡ t ++ bytes c → ⊥
 

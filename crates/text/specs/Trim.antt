@@ -34,13 +34,13 @@ abbrev pub back3 : ℕ → ℕ → ℕ → Bool
 back3 b c d = white3 d c b
 
 -- how many bytes a white character has, by whether one, two or three bytes are one; 0 if none are
-abbrev pub widthOf : Bool → Bool → Bool → ℕ
-widthOf one two three = pick one 1 (pick two 2 (pick three 3 0))
+abbrev pub whiteWidth : Bool → Bool → Bool → ℕ
+whiteWidth one two three = pick one 1 (pick two 2 (pick three 3 0))
 
 -- how long the white character is that t starts with; 0 if it starts with none (past the end stands 0, which is in none)
 unfoldable pub widthBy : (ℕ → ℕ → Bool) → (ℕ → ℕ → ℕ → Bool) → List ℕ → ℕ
 widthBy two three t =
-    widthOf (white1 (getD t 0 0)) (two (getD t 0 0) (getD t 1 0)) (three (getD t 0 0) (getD t 1 0) (getD t 2 0))
+    whiteWidth (white1 (getD t 0 0)) (two (getD t 0 0) (getD t 1 0)) (three (getD t 0 0) (getD t 1 0) (getD t 2 0))
 
 -- at the start, and at the end of what is read backwards
 abbrev pub front : List ℕ → ℕ

@@ -14,8 +14,8 @@ abbrev pub state : ℕ → ℕ → ℕ → State
 state n l h = record { need = n; lo = l; hi = h }
 
 -- none is due: between two characters
-abbrev pub start : State
-start = state 0 128 191
+abbrev pub fresh : State
+fresh = state 0 128 191
 
 -- what a first byte below a number asks, where no earlier entry holds it
 pub record Entry : Type 0 where
@@ -42,8 +42,8 @@ unfoldable pub leadOf : ℕ → Step
 leadOf b = lookup entries b
 
 -- the state after one more byte
-unfoldable pub stepOf : State → ℕ → Step
-stepOf st b =
+unfoldable pub utf8Step : State → ℕ → Step
+utf8Step st b =
     pick (eqb (st .need) 0) (leadOf b)
     (pick (ltb b (st .lo)) Stop (pick (ltb (st .hi) b) Stop (Go (state (st .need - 1) 128 191))))
 
@@ -53,6 +53,6 @@ onward (Go t) f = f t
 onward Stop f = false
 
 -- whether what is due and the rest are UTF-8
-unfoldable pub runOf : State → List ℕ → Bool
-runOf st [] = eqb (st .need) 0
-runOf st (b ∷ s) = onward (stepOf st b) (λ t. runOf t s)
+unfoldable pub utf8From : State → List ℕ → Bool
+utf8From st [] = eqb (st .need) 0
+utf8From st (b ∷ s) = onward (utf8Step st b) (λ t. utf8From t s)

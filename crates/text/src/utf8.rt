@@ -1,7 +1,7 @@
 // Whether a line is UTF-8. Document 01, "Lines": each line, comment or not, must be UTF-8.
 use crate::eights::pass;
 ghost use mathlib.Core.Path.{_≡_};
-ghost use Rattle.text.specs.Utf8Machine.{leadOf, stepOf, runOf, start};
+ghost use Rattle.text.specs.Utf8Machine.{leadOf, utf8Step, utf8From, fresh};
 
 // The last byte that is a character by itself.
 const ASCII_END: u8 = 127;
@@ -65,7 +65,7 @@ fn lead(b: u8) -> Step
 
 // The state after one more byte.
 fn advance(st: State, b: u8) -> Step
-    ensures { λ r. ⌜ r ≡ stepOf st b ⌝ }
+    ensures { λ r. ⌜ r ≡ utf8Step st b ⌝ }
 {
     let need = st.need;
     if need == 0 {
@@ -84,7 +84,7 @@ fn advance(st: State, b: u8) -> Step
 
 // Whether `s` is UTF-8.
 pub fn is_utf8(s: &[u8]) -> bool
-    ensures { λ r. ⌜ r ≡ runOf start (now (s .entry)) ⌝ }
+    ensures { λ r. ⌜ r ≡ utf8From fresh (now (s .entry)) ⌝ }
 {
     let mut st = State {
         need: 0,

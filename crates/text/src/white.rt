@@ -3,7 +3,7 @@ ghost use mathlib.Core.Path.{_≡_};
 ghost use mathlib.Core.List.{reverse};
 ghost use Prim.Native.Nat.{ℕ, _-_, _≤_, _<_};
 ghost use lib.ListN.{length, take, drop, getD};
-ghost use Rattle.text.specs.Trim.{white1, white2, white3, general, widthOf, front, back, run};
+ghost use Rattle.text.specs.Trim.{white1, white2, white3, general, whiteWidth, front, back, run};
 
 // Whether a byte is White_Space by itself: U+0009 to 000D, 0020.
 fn is_white1(b: u8) -> bool
@@ -80,7 +80,7 @@ fn is_white3(b: u8, c: u8, d: u8) -> bool
 
 // How many bytes a white character has, by whether one, two or three bytes are one; 0 if none are.
 fn width(one: bool, two: bool, three: bool) -> usize
-    ensures { λ r. ⌜ r ≡ widthOf one two three ⌝ }
+    ensures { λ r. ⌜ r ≡ whiteWidth one two three ⌝ }
 {
     if one {
         return 1;

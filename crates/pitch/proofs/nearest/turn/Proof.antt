@@ -1,6 +1,6 @@
 -- `nearest::turn` meets its contract: the end past 16 bits, else at the fraction in the middle.
 -- Assumes nothing.
-use Rattle.pitch.specs.NearestFraction.{stepOf}
+use Rattle.pitch.specs.NearestFraction.{turnOf}
 use borrow.Author.Needs.{needs}
 use borrow.Author.Tests.{lt-ltb, le-ltb}
 use Rattle.pitch.proofs.nearest.turn.Statement.{statement}
@@ -25,11 +25,11 @@ add-denom : tie.Need-add-denom
 add-denom c = search needs
 
 returns : tie.Need-returns
-unfolding stepOf
+unfolding turnOf
 returns c = rw (lt-ltb _ _ (c .if1 .taken))
 
 returns-2 : tie.Need-returns-2
-unfolding stepOf
+unfolding turnOf
 returns-2 c = rw (le-ltb _ _ (c .before .if1 .left), lt-ltb _ _ (c .if2 .taken))
 
 cast-t12 : tie.Need-cast-t12
@@ -42,7 +42,7 @@ turn-at-requires : tie.Need-turn-at-requires
 turn-at-requires c κs = search needs
 
 returns-3 : tie.Need-returns-3
-unfolding stepOf
+unfolding turnOf
 returns-3 c = rw (le-ltb _ _ (c .before .before .if1 .left), le-ltb _ _ (c .before .if2 .left)) (c .turn-at .ensures)
 
 pub turn-spec : {M : Type 1} → statement M

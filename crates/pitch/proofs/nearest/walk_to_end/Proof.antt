@@ -5,7 +5,7 @@ use Prim.Native.Nat.{_-_, _≤_}
 use native.Mathlib.Omega.{arith}
 use lib.Ieee.{div, ofBits}
 use borrow.Author.Needs.{needs}
-use Rattle.pitch.specs.NearestFraction.{stepOf}
+use Rattle.pitch.specs.NearestFraction.{turnOf}
 use Rattle.pitch.specs.declared.nearest.Step.the-variants.{On}
 use Rattle.pitch.proofs.WalkEnds.{size, Walking, walking-start, walking-on, walking-end, walking-less}
 use Rattle.pitch.proofs.nearest.walk_to_end.Statement.{statement}
@@ -31,7 +31,7 @@ enum-known-next : tie.Need-enum-known-next Inv-loop μ-loop
 enum-known-next c = search needs
 
 -- the turn went on, to fractions of 16 bits
-went : (c : tie.After-known-told Inv-loop μ-loop) → stepOf (c .before .before .before .before .loop .w) (c .before .before .before .before .before .args .target) (c .before .before .before .before .before .args .limit) ≡ On (c .before .next .given .0 .0)
+went : (c : tie.After-known-told Inv-loop μ-loop) → turnOf (c .before .before .before .before .loop .w) (c .before .before .before .before .before .args .target) (c .before .before .before .before .before .args .limit) ≡ On (c .before .next .given .0 .0)
 went c = sym (c .before .before .before .turn .ensures) ∙ c .before .next .given .1
 
 small : (c : tie.After-known-told Inv-loop μ-loop) → size (c .before .next .given .0 .0) ≤ 262140

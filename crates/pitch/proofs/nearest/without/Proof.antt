@@ -3,7 +3,7 @@
 use Rattle.base.proofs.Said.{and-then}
 use Rattle.base.specs.Said.{gives}
 use Rattle.pitch.specs.Answers.{saysRatio}
-use Rattle.pitch.specs.NearestFraction.{bestFor, over}
+use Rattle.pitch.specs.NearestFraction.{bestFor, overPower}
 use borrow.Author.Needs.{needs}
 use mathlib.Core.Path.{_∙_, ap}
 use mir.Facts.{toZ-ofZ}
@@ -35,13 +35,13 @@ enum-known-refusal-2 : tie.Need-enum-known-refusal-2
 enum-known-refusal-2 c = search needs
 
 returns : tie.Need-returns
-returns c = let start = c .before .before .before .before .before .before .before .before .before .before .before in let fits = start .fits .octaves in let octaves = start .args .octaves in let limit = start .args .limit in ap gives (rw (toZ-ofZ fits) at (c .best-for .ensures)) ∙ and-then saysRatio (λ target. gives (bestFor target octaves limit)) (c .before .before .before .before .checked-ratio .ensures) (c .before .before .target .given .1) ∙ and-then saysRatio (over (start .args .ratio) limit octaves) (rw (toZ-ofZ fits) at (c .before .before .before .before .before .before .before .before .before .from-octaves .ensures)) (c .before .before .before .before .before .before .before .power .given .1)
+returns c = let start = c .before .before .before .before .before .before .before .before .before .before .before in let fits = start .fits .octaves in let octaves = start .args .octaves in let limit = start .args .limit in ap gives (rw (toZ-ofZ fits) at (c .best-for .ensures)) ∙ and-then saysRatio (λ target. gives (bestFor target octaves limit)) (c .before .before .before .before .checked-ratio .ensures) (c .before .before .target .given .1) ∙ and-then saysRatio (overPower (start .args .ratio) limit octaves) (rw (toZ-ofZ fits) at (c .before .before .before .before .before .before .before .before .before .from-octaves .ensures)) (c .before .before .before .before .before .before .before .power .given .1)
 
 returns-2 : tie.Need-returns-2
-returns-2 c = let start = c .before .before .before .before .before .before .before .before .before .before in let fits = start .fits .octaves in let octaves = start .args .octaves in let limit = start .args .limit in and-then saysRatio (λ target. gives (bestFor target octaves limit)) (c .before .before .before .checked-ratio .ensures) (c .before .refusal .given .1) ∙ and-then saysRatio (over (start .args .ratio) limit octaves) (rw (toZ-ofZ fits) at (c .before .before .before .before .before .before .before .before .from-octaves .ensures)) (c .before .before .before .before .before .before .power .given .1)
+returns-2 c = let start = c .before .before .before .before .before .before .before .before .before .before in let fits = start .fits .octaves in let octaves = start .args .octaves in let limit = start .args .limit in and-then saysRatio (λ target. gives (bestFor target octaves limit)) (c .before .before .before .checked-ratio .ensures) (c .before .refusal .given .1) ∙ and-then saysRatio (overPower (start .args .ratio) limit octaves) (rw (toZ-ofZ fits) at (c .before .before .before .before .before .before .before .before .from-octaves .ensures)) (c .before .before .before .before .before .before .power .given .1)
 
 returns-3 : tie.Need-returns-3
-returns-3 c = let start = c .before .before .before .before .before in let fits = start .fits .octaves in let octaves = start .args .octaves in let limit = start .args .limit in and-then saysRatio (over (start .args .ratio) limit octaves) (rw (toZ-ofZ fits) at (c .before .before .before .from-octaves .ensures)) (c .before .refusal2 .given .1)
+returns-3 c = let start = c .before .before .before .before .before in let fits = start .fits .octaves in let octaves = start .args .octaves in let limit = start .args .limit in and-then saysRatio (overPower (start .args .ratio) limit octaves) (rw (toZ-ofZ fits) at (c .before .before .before .from-octaves .ensures)) (c .before .refusal2 .given .1)
 
 pub without-spec : {M : Type 1} → statement M
 without-spec =

@@ -5,14 +5,14 @@ use Prim.Native.Nat.{_≤_, _-_}
 use native.Mathlib.Omega.{arith}
 use borrow.Author.Needs.{needs}
 use lib.ListN.{length, drop}
-use Rattle.text.specs.Utf8Machine.{start, runOf}
+use Rattle.text.specs.Utf8Machine.{fresh, utf8From}
 use Rattle.text.proofs.Utf8Steps.{run-turn, run-end, run-pass}
 use Rattle.text.proofs.Passes.{passed-end}
 use Rattle.text.proofs.utf8.is_utf8.Statement.{statement}
 use Rattle.text.proofs.utf8.is_utf8.Tie as tie
 
 abbrev Inv-loop : tie.InvT-loop
-Inv-loop s st₀ i₀ st i = (i ≤ length s) × (runOf start s ≡ runOf st (drop i s))
+Inv-loop s st₀ i₀ st i = (i ≤ length s) × (utf8From fresh s ≡ utf8From st (drop i s))
 
 abbrev μ-loop : tie.MeasureT-loop
 μ-loop s st₀ i₀ st i = length s - i
