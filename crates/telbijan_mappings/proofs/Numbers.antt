@@ -33,7 +33,7 @@ held-numbered z = numbered-pick (inI32 z) (Numbered.value z) (Numbered.number (o
 
 -- ---- degrees
 entry-numbered : (e : Entry) (q octave : ℤ) → Numbered (degreeOfEntry e q octave)
-entry-numbered Unmapped q octave = Numbered.number (omega arith) (omega arith)
+entry-numbered Unmapped q octave = Numbered.number {n = 17} (omega arith) (omega arith)
 entry-numbered (Mapped e) q octave = held-numbered (e +ℤ q *ℤ octave)
 
 at-numbered : (d octave : ℤ) (es : List Entry) → Numbered (degreeAt d octave es)
