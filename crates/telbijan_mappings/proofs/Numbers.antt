@@ -6,10 +6,10 @@ use Prim.Native.Nat.{ℕ, _+_, _≤_}
 use native.Mathlib.Omega.{arith}
 use lib.Dec.{leb, ltb}
 use lib.IntN.{ℤ, pos, _+ℤ_, _-ℤ_, _*ℤ_}
-use lib.ListN.{length}
+use lib.ListN.{length, getD}
 use lib.Signed.{leZ}
 use lib.Ieee.{Float}
-use Rattle.base.specs.Integers.{inI32, held}
+use Rattle.base.specs.Integers.{floorDiv, floorMod, inI32, held}
 use Rattle.base.specs.Said.{Said, gives, Numbered}
 use Rattle.base.proofs.Said.{numbered-pick, numbered-then}
 use Rattle.floats.specs.Ranges.{inPitch}
@@ -39,7 +39,7 @@ entry-numbered (Mapped e) q octave = held-numbered (e +ℤ q *ℤ octave)
 at-numbered : (d octave : ℤ) (es : List Entry) → Numbered (degreeAt d octave es)
 unfolding degreeAt
 at-numbered d octave [] = Numbered.value d
-at-numbered d octave (e ∷ es) = entry-numbered _ _ octave
+at-numbered d octave (e ∷ es) = entry-numbered (getD (e ∷ es) (floorMod d (length (e ∷ es))) Unmapped) (floorDiv d (length (e ∷ es))) octave
 
 pub scale-degree-of-numbered : (kbm : Kbm) (map : List ℤ) (key : PianoKey) → Numbered (scaleDegreeOf kbm map key)
 unfolding scaleDegreeOf
