@@ -135,9 +135,14 @@ fn texts() {
 
 /// A text of comments alone, as long ones stand above a scale.
 fn comments() {
-    let text = "! A comment line as files have them, with what the scale is and who made it.\n".repeat(13_000).into_bytes();
-    let times = shortest(&mut [&mut || { black_box(our_reading(&text)); }, &mut || { black_box(their_reading(&text)); }]);
-    line("comments, a byte", text.len(), &times, &["the Rust"]);
+    for (name, comment) in [
+        ("comments, a byte", "! A comment line as files have them, with what the scale is and who made it.\n"),
+        ("comments with accents, a byte", "! Une gamme à la manière de Salinas, réglée à l'oreille par un facteur d'orgues.\n"),
+    ] {
+        let text = comment.repeat(13_000).into_bytes();
+        let times = shortest(&mut [&mut || { black_box(our_reading(&text)); }, &mut || { black_box(their_reading(&text)); }]);
+        line(name, text.len(), &times, &["the Rust"]);
+    }
 }
 
 /// The degree of one key: nearly all of it is the test of the lent table.

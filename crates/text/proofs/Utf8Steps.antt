@@ -1,6 +1,6 @@
 -- The laws of the UTF-8 machine, as the code meets them: what a first byte asks, a step inside a character, a turn of the loop.
 -- Assumes nothing.
-use mathlib.Core.Path.{_≡_, refl, _∙_}
+use mathlib.Core.Path.{_≡_, refl, sym, ap, _∙_}
 use mathlib.Core.List.{List, [], _∷_}
 use mathlib.Core.Bool.{Bool, true, false}
 use Prim.Native.Nat.{ℕ, zero, suc, _+_, _-_, _≤_, _<_}
@@ -91,8 +91,16 @@ pub run-end : (st : State) (s : List ℕ) (i : ℕ) → length s ≤ i → utf8F
 unfolding utf8From
 run-end st s i h = rw (drop-of-length-le s h)
 
+-- between two characters every state is as good as a fresh one
+fresh-too : (st : State) (s : List ℕ) → st .need ≡ 0 → utf8From st s ≡ utf8From fresh s
+unfolding utf8From
+fresh-too st [] e = rw e
+fresh-too st (b ∷ s) e = ap (λ (x : Step). onward x (λ t. utf8From t s)) (step-lead st b e ∙ sym (step-lead fresh b refl))
+
 -- bytes below 128 are characters by themselves
-pub run-pass : {s : List ℕ} {low r : ℕ} → Passed low 127 s 0 r → utf8From fresh s ≡ utf8From fresh (drop r s)
-run-pass {s} p =
-    pass-over (λ (k : ℕ). utf8From fresh (drop k s)) p
+pub run-pass : {s : List ℕ} {low from r : ℕ} (st : State) → st .need ≡ 0 → Passed low 127 s from r → utf8From st (drop from s) ≡ utf8From st (drop r s)
+run-pass {s} {from = from} {r = r} st e p =
+    fresh-too st (drop from s) e
+    ∙ pass-over (λ (k : ℕ). utf8From fresh (drop k s)) p
     (λ k h l u. run-turn fresh s k h refl (step-lead fresh (getD s k 0) refl ∙ lead-at 0 (getD s k 0) (omega arith) (omega arith)))
+    ∙ sym (fresh-too st (drop r s) e)

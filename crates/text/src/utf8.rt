@@ -98,6 +98,9 @@ pub fn is_utf8(s: &[u8]) -> bool
         };
         st = t;
         i += 1;
+        if st.need == 0 {
+            i = pass(s, i, 0, ASCII_END);
+        }
     }
     st.need == 0
 }

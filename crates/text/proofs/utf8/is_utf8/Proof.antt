@@ -1,6 +1,7 @@
 -- `is_utf8` answers whether the machine accepts the text.
--- Invariant: the machine's answer on all of it is its answer on the rest from `i` on, in the state reached.
-use mathlib.Core.Path.{_≡_, sym, _∙_}
+-- Invariant: the machine's answer on all of it is its answer on the rest from `i` on, in the state reached. Between two
+-- characters plain bytes are passed eight at a time.
+use mathlib.Core.Path.{_≡_, refl, sym, _∙_}
 use Prim.Native.Nat.{_≤_, _-_}
 use native.Mathlib.Omega.{arith}
 use borrow.Author.Needs.{needs}
@@ -21,7 +22,7 @@ pass-requires : tie.Need-pass-requires Inv-loop μ-loop
 pass-requires c κs = search needs
 
 loop-holds : tie.Need-loop-holds Inv-loop μ-loop
-loop-holds c = (passed-end (c .pass .ensures) (omega arith), run-pass (c .pass .ensures))
+loop-holds c = (passed-end (c .pass .ensures) (omega arith), run-pass fresh refl (c .pass .ensures))
 
 shared-slice-read-advance : tie.Need-shared-slice-read-advance Inv-loop μ-loop
 shared-slice-read-advance c = omega arith
@@ -43,13 +44,28 @@ returns c =
 add-i : tie.Need-add-i Inv-loop μ-loop
 add-i c = omega arith
 
+pass-requires-2 : tie.Need-pass-requires-2 Inv-loop μ-loop
+pass-requires-2 c κs = search needs
+
 loop-less : tie.Need-loop-less Inv-loop μ-loop
-loop-less c = omega arith
+loop-less c = let p = c .pass2 .ensures .onward in omega arith
 
 loop-again : tie.Need-loop-again Inv-loop μ-loop
 loop-again c =
-    let l = c .before .before .before .before .before in
-    (omega arith, l .before .loop .inv .1 ∙ run-turn _ _ _ (l .loop-test .taken) (c .before .before .before .advance .ensures) (c .before .t .given .1))
+    let l = c .before .before .before .before .before .before .before .before in (
+      passed-end (c .pass2 .ensures) (omega arith),
+      l .before .loop .inv .1
+      ∙ run-turn _ _ _ (l .loop-test .taken) (c .before .before .before .before .before .before .advance .ensures) (c .before .before .before .before .t .given .1)
+      ∙ run-pass (c .before .before .before .before .t .given .0 .0) (c .before .if1 .taken) (c .pass2 .ensures),
+    )
+
+loop-less-2 : tie.Need-loop-less-2 Inv-loop μ-loop
+loop-less-2 c = omega arith
+
+loop-again-2 : tie.Need-loop-again-2 Inv-loop μ-loop
+loop-again-2 c =
+    let l = c .before .before .before .before .before .before .before in
+    (omega arith, l .before .loop .inv .1 ∙ run-turn _ _ _ (l .loop-test .taken) (c .before .before .before .before .before .advance .ensures) (c .before .before .before .t .given .1))
 
 returns-2 : tie.Need-returns-2 Inv-loop μ-loop
 returns-2 c = sym (c .before .before .loop .inv .1 ∙ run-end _ _ _ (c .before .loop-test .left))
@@ -68,6 +84,9 @@ is-utf8-spec =
     enum-told
     returns
     add-i
+    pass-requires-2
     loop-less
     loop-again
+    loop-less-2
+    loop-again-2
     returns-2)
