@@ -7,7 +7,7 @@ use mathlib.Core.Logic.{_⊎_, inl, inr}
 use Prim.Native.Nat.{ℕ, _^_, _≤_, _<_}
 use native.Mathlib.Omega.{arith}
 use lib.Ieee.{Float, round, binary64}
-use lib.IntN.{ℤ, pos, _+ℤ_, _-ℤ_}
+use lib.IntN.{ℤ, pos, _+ℤ_}
 use lib.ListN.{length, length-append}
 use Rattle.kbm.specs.declared.Entry.{Entry}
 use Rattle.kbm.specs.declared.Entry.the-variants.{Mapped}
@@ -26,6 +26,7 @@ use Rattle.kbm_write.proofs.Plain.{Plain, Word, each-append}
 use Rattle.text.specs.Characters.{Each}
 use Rattle.text.specs.Reading.{strict, EachLine}
 use Rattle.text.proofs.LinesLanguage.{one-lines}
+use Rattle.kbm_formats.specs.Agree.{Agree}
 use Rattle.kbm_formats.proofs.RoundTrip.{export-in-language}
 use Rattle.kbm_formats.proofs.Standing.{Holds, same-tokens}
 
@@ -143,17 +144,6 @@ same-entries (t ∷ ts) (e ∷ es) (f ∷ fs) a b =
 
 same-number : {l : List ℕ} {z w : ℤ} {t : List ℕ} {sign : Bool} {top : ℕ} → (x : P.Number l z) → IntText sign top t w → t ≡ x .token → z ≡ w
 same-number {z = z} {w = w} {sign = sign} {top = top} x i e = whole-agrees sign top (x .token) z w (x .value) (subst (λ (u : List ℕ). IntText sign top u w) e i)
-
--- what a text says as published is what it says by document 01: the same numbers, the f64 nearest the frequency, the same entries
-pub record Agree (m : P.Mapping) (k : Kbm) (es : List Entry) : Type 0 where
-  pub size : m .size ≡ k .count
-  pub first : m .first ≡ k .start .0
-  pub last : m .last +ℤ pos 1 ≡ k .end .0
-  pub reference : m .reference ≡ k .root .reference .0
-  pub middle : m .middle -ℤ m .reference ≡ k .root .offset
-  pub octave : m .octave ≡ k .octave
-  pub entries : es ≡ added (m .size) (m .given)
-  pub pitch : k .root .pitch .0 ≡ round binary64 false (m .hertz) (10 ^ m .places)
 
 module _ (s : List ℕ) (m : P.Mapping) (p : P.PublishedText s m) where
   written-degrees : Written (p .rest) (m .given)

@@ -2,3 +2,4 @@ pub mod Walk
 pub mod RoundTrip
 pub mod Standing
 pub mod Agree
+pub mod Range
