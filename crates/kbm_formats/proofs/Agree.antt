@@ -68,7 +68,7 @@ letter-whole : {t : List ℕ} {b : ℕ} {z : ℤ} → 57 < b → t ≡ b ∷ [] 
 letter-whole h e (P.Whole.plain n d f) = not-digits (λ a c. omega arith) e d
 letter-whole {b = b} h e (P.Whole.minus u n q d f) = let x : b ≡ 45 = cc in omega arith
 
-letter-integer : {t : List ℕ} {b top : ℕ} {sign : Bool} {z : ℤ} → 57 < b → t ≡ b ∷ [] → IntText sign top t z → ⊥
+pub letter-integer : {t : List ℕ} {b top : ℕ} {sign : Bool} {z : ℤ} → 57 < b → t ≡ b ∷ [] → IntText sign top t z → ⊥
 letter-integer h e (IntText.plain n d l f) = not-digits (λ a c. omega arith) e d
 letter-integer {b = b} h e (IntText.plus u n q d l f) = let x : b ≡ 43 = cc in omega arith
 letter-integer {b = b} h e (IntText.minus u n s q d l f) = let x : b ≡ 45 = cc in omega arith

@@ -3,3 +3,4 @@ pub mod RoundTrip
 pub mod Standing
 pub mod Agree
 pub mod Range
+pub mod KeysOfText

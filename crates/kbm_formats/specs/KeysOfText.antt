@@ -61,8 +61,8 @@ MappedTo ts r e = (r < length ts) × IntText true (2 ^ 15) (getD ts r []) e
 -- A KEY WITHOUT A DEGREE: below the first key, above the last, or the map has entries and the place reached is unmapped. (The place is
 -- looked up only where d is a number of 32 bits: "Order: 16, 11 for d, 17, 11")
 pub data Silent (vs : Values required) (ts : List (List ℕ)) (key : ℤ) : Type 0 where
-  below : key <ℤ firstKey vs → Silent vs ts key
-  above : lastKey vs <ℤ key → Silent vs ts key
+  under : key <ℤ firstKey vs → Silent vs ts key
+  over : lastKey vs <ℤ key → Silent vs ts key
   gap : inI32 (steps vs key) ≡ true → (q : ℤ) (r : ℕ) → Counts vs key q r → NotMapped ts r → Silent vs ts key
 
 -- A KEY WHOSE NUMBERS PASS 32 BITS: d does, or "entry + q*formal octave" of the place reached does
