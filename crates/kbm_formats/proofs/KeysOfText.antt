@@ -33,7 +33,7 @@ use Rattle.key.specs.declared.PianoKey.{PianoKey}
 use Rattle.kbm_formats.specs.KeysOfText.{entryTokens, firstKey, lastKey, formalOctave, Inside, Outside, steps, Counts, NotMapped, MappedTo, Silent, TooFar, SaidOf}
 use Rattle.kbm_write.specs.Export.{lastOf}
 use Rattle.text.proofs.Encodings.{split}
-use Rattle.kbm_formats.proofs.Agree.{letter-integer}
+use Rattle.kbm_formats.proofs.Values.{letter-integer}
 use Rattle.kbm_formats.proofs.Range.{inside, inside-back, outside, outside-back}
 
 -- ---- a place of the map, by its token

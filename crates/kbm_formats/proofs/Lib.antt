@@ -1,6 +1,9 @@
 pub mod Walk
 pub mod RoundTrip
 pub mod Standing
+pub mod Values
 pub mod Agree
+pub mod Limits
+pub mod Accepted
 pub mod Range
 pub mod KeysOfText
