@@ -5,5 +5,6 @@ pub mod Values
 pub mod Agree
 pub mod Limits
 pub mod Accepted
+pub mod OneMeaning
 pub mod Range
 pub mod KeysOfText
