@@ -6,5 +6,6 @@ pub mod Agree
 pub mod Limits
 pub mod Accepted
 pub mod OneMeaning
+pub mod Samples
 pub mod Range
 pub mod KeysOfText

@@ -1,3 +1,4 @@
 pub mod Agree
 pub mod KeysOfText
 pub mod Limits
+pub mod Samples
