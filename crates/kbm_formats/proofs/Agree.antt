@@ -14,7 +14,7 @@ use Rattle.kbm_write.specs.Again.{ComesBack}
 use Rattle.kbm_write.specs.Export.{exportText}
 use Rattle.kbm_write.specs.Published as P
 use Rattle.kbm_write.specs.Typed.{Typed}
-use Rattle.kbm_write.proofs.Published.{publishedOf, export-published}
+use Rattle.kbm_write.proofs.Published.{export-published}
 use Rattle.integers.specs.IntegerText.{IntText}
 use Rattle.kbm_write.proofs.Plain.{Word}
 use Rattle.text.specs.Reading.{strict, EachLine}
@@ -106,5 +106,5 @@ module _ {s : List ℕ} {m : P.Mapping} (p : P.PublishedText s m) where
   agree k es a = let r = read-values a in rw (a .mapping, a .entries) (by-values (a .values) (a .given) (r .0) (r .1))
 
 -- some text is in both: the export of any mapping that comes back
-pub in-both : (kbm : Kbm) (es : List Entry) → Typed kbm es → ComesBack kbm → P.PublishedText (exportText kbm es) (publishedOf kbm es) × MappingText (exportText kbm es) kbm es
+pub in-both : (kbm : Kbm) (es : List Entry) → Typed kbm es → ComesBack kbm → P.PublishedText (exportText kbm es) (P.publishedOf kbm es) × MappingText (exportText kbm es) kbm es
 in-both kbm es y c = (export-published kbm es y, export-in-language kbm es y .1 c)

@@ -44,7 +44,7 @@ blank-at (suc n) zero = refl
 blank-at (suc n) (suc r) = blank-at n r
 
 -- an added entry is as none
-added-at : (es : List Entry) (n r : ℕ) → getD (es ++ blanks n) r Unmapped ≡ getD es r Unmapped
+pub added-at : (es : List Entry) (n r : ℕ) → getD (es ++ blanks n) r Unmapped ≡ getD es r Unmapped
 added-at [] n r = blank-at n r
 added-at (e ∷ es) n zero = refl
 added-at (e ∷ es) n (suc r) = added-at es n r

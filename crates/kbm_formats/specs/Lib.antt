@@ -2,3 +2,4 @@ pub mod Agree
 pub mod KeysOfText
 pub mod Limits
 pub mod Samples
+pub mod Sounding

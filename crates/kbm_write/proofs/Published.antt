@@ -93,23 +93,8 @@ degrees [] d = tt
 degrees (Mapped z ∷ es) d = ((wholeText z, alone (wholeText z), P.Degree.degree z (whole-number z (omega (arith, mag-i16 z (d .0))))), degrees es (d .1))
 degrees (Unmapped ∷ es) d = ((120 ∷ [], alone (120 ∷ []), P.Degree.cross refl), degrees es (d .1))
 
--- what a mapping says in the published format
-abbrev pub publishedOf : Kbm → List Entry → P.Mapping
-publishedOf kbm es =
-    record {
-      size = kbm .count;
-      first = kbm .start .0;
-      last = lastOf kbm;
-      middle = middleOf kbm;
-      reference = kbm .root .reference .0;
-      hertz = scaledOf 3 (kbm .root .pitch .0);
-      places = 3;
-      octave = kbm .octave;
-      given = es;
-    }
-
 -- the bytes that the export writes are a text of the published format, with that mapping as its meaning
-pub export-published : (kbm : Kbm) (es : List Entry) → Typed kbm es → P.PublishedText (exportText kbm es) (publishedOf kbm es)
+pub export-published : (kbm : Kbm) (es : List Entry) → Typed kbm es → P.PublishedText (exportText kbm es) (P.publishedOf kbm es)
 export-published kbm es y =
     record {
       l1 = wholeText (pos (kbm .count));
@@ -136,7 +121,7 @@ export-published kbm es y =
 
 -- document 01's degree, with the distance counted from the middle key, is the one that a key sounds as published. (01 counts from the
 -- reference key: the two agree where the root's offset is 0.)
-pub sounds : (kbm : Kbm) (es : List Entry) → length es ≡ kbm .count → (key degree : ℤ) → degreeAt (key -ℤ middleOf kbm) (kbm .octave) es ≡ gives degree → P.Sounds (publishedOf kbm es) key degree
+pub sounds : (kbm : Kbm) (es : List Entry) → length es ≡ kbm .count → (key degree : ℤ) → degreeAt (key -ℤ middleOf kbm) (kbm .octave) es ≡ gives degree → P.Sounds (P.publishedOf kbm es) key degree
 unfolding degreeAt
 sounds kbm [] n key degree e = P.Sounds.linear (sym n) (sym (same-value (key -ℤ middleOf kbm) degree e))
 sounds kbm (a ∷ es) n key degree e = go (getD (a ∷ es) r Unmapped) refl e
@@ -147,6 +132,6 @@ sounds kbm (a ∷ es) n key degree e = go (getD (a ∷ es) r Unmapped) refl e
     r : ℕ
     r = floorMod d (length (a ∷ es))
 
-    go : (f : Entry) → getD (a ∷ es) r Unmapped ≡ f → degreeOfEntry f (floorDiv d (length (a ∷ es))) (kbm .octave) ≡ gives degree → P.Sounds (publishedOf kbm (a ∷ es)) key degree
+    go : (f : Entry) → getD (a ∷ es) r Unmapped ≡ f → degreeOfEntry f (floorDiv d (length (a ∷ es))) (kbm .octave) ≡ gives degree → P.Sounds (P.publishedOf kbm (a ∷ es)) key degree
     go Unmapped g h = let z : _≡_ {A = ℕ} 0 1 = cc in absurd (omega arith)
     go (Mapped z) g h = P.Sounds.pattern (floorDiv d (length (a ∷ es))) r z (rw (← n) (floor-divides d (length (a ∷ es)) (omega arith))) g (held-is (z +ℤ floorDiv d (length (a ∷ es)) *ℤ kbm .octave) h)
