@@ -1,11 +1,11 @@
 -- A TEXT OF THE PUBLISHED FORMAT IS TAKEN exactly within document 01's limits, and its meaning is the published one. Assumes nothing.
-use mathlib.Core.Path.{_≡_, refl, sym, ap, _∙_, subst}
-use mathlib.Core.Bool.{Bool, true, false, _&&_}
+use mathlib.Core.Path.{_≡_, refl, sym, _∙_, subst}
+use mathlib.Core.Bool.{true, false, _&&_}
 use mathlib.Core.List.{List, [], _∷_, _++_}
-use mathlib.Core.Logic.{_⊎_, _↔_, inl, inr}
-use Prim.Native.Nat.{ℕ, zero, suc, _^_, _≤_, _<_}
+use mathlib.Core.Logic.{_↔_, inl, inr}
+use Prim.Native.Nat.{ℕ, zero, suc, _^_, _≤_}
 use native.Mathlib.Omega.{arith}
-use lib.Ieee.{Float, round, binary64}
+use lib.Ieee.{round, binary64}
 use lib.Ieee.Bits.{is-true}
 use lib.IntN.{ℤ, pos, negsuc}
 use lib.ListN.{length}
@@ -14,7 +14,7 @@ use borrow.Author.Tests.{leb-true}
 use Rattle.base.specs.Said.{gives}
 use Rattle.decimals.specs.DecimalText.{OptionalSign, Form, FloatText, Unsupported, DecimalText, fromNonzero}
 use Rattle.floats.proofs.Ranges.{and-true}
-use Rattle.integers.specs.IntegerText.{Digits, IntText}
+use Rattle.integers.specs.IntegerText.{IntText}
 use Rattle.kbm.specs.Table.{AreI16}
 use Rattle.kbm.specs.declared.Entry.{Entry}
 use Rattle.kbm.specs.declared.Kbm.{Kbm}
@@ -23,7 +23,6 @@ use Rattle.kbm_read.specs.Reader.{readOf, entriesIn}
 use Rattle.kbm_read.proofs.Ends.{length-added}
 use Rattle.kbm_read.proofs.Language.{accepts}
 use Rattle.kbm_write.specs.Published as P
-use Rattle.kbm_write.proofs.Plain.{Word}
 use Rattle.text.specs.Characters.{Utf8}
 use Rattle.text.specs.ReadLine.{strictly, meaningBy}
 use Rattle.text.specs.Reading.{strict, Meaning, invalid, dropped, content, Line, EachLine}

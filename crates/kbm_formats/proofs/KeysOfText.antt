@@ -7,9 +7,8 @@ use mathlib.Core.Logic.{_⊎_, _↔_, inl, inr}
 use Prim.Native.Nat.{ℕ, zero, suc, _-_, _^_, _≤_, _<_}
 use native.Mathlib.Omega.{arith}
 use lib.Dec.{lit<}
-use lib.IntN.{ℤ, pos, _+ℤ_, _*ℤ_, +ℤ-negℤ-cancel}
+use lib.IntN.{ℤ, pos, +ℤ-negℤ-cancel}
 use lib.ListN.{length, getD, List·getD-eq-default}
-use lib.Signed.{_≤ℤ_, _<ℤ_}
 use Rattle.base.specs.Integers.{Divides, inI32}
 use Rattle.base.specs.Numbers.{overflow, key-out-of-range, unmapped-key}
 use Rattle.base.specs.Said.{Said, gives, refuses}
@@ -24,13 +23,13 @@ use Rattle.kbm.specs.declared.Entry.the-variants.{Mapped, Unmapped}
 use Rattle.kbm.specs.declared.Kbm.{Kbm}
 use Rattle.kbm.proofs.Theorems.{key-has}
 use Rattle.kbm_read.specs.Language.{required, Values, EntryText, Entries, sizeOf, mappingFrom, blanks, added, MappingText}
-use Rattle.kbm_read.specs.Reader.{readOf, entriesIn, afterRead}
+use Rattle.kbm_read.specs.Reader.{afterRead}
 use Rattle.kbm_read.proofs.Ends.{length-added}
 use Rattle.kbm_read.proofs.Fields.{same-refuses, no-refusal}
 use Rattle.kbm_read.proofs.Language.{accepts}
 use Rattle.kbm_read.proofs.Tables.{leaves-table}
 use Rattle.key.specs.declared.PianoKey.{PianoKey}
-use Rattle.kbm_formats.specs.KeysOfText.{entryTokens, firstKey, lastKey, formalOctave, Inside, Outside, steps, Counts, NotMapped, MappedTo, Silent, TooFar, SaidOf}
+use Rattle.kbm_formats.specs.KeysOfText.{entryTokens, lastKey, Inside, Outside, steps, Counts, NotMapped, MappedTo, Silent, TooFar, SaidOf}
 use Rattle.kbm_write.specs.Export.{lastOf}
 use Rattle.text.proofs.Encodings.{split}
 use Rattle.kbm_formats.proofs.Values.{letter-integer}

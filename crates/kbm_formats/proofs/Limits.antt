@@ -1,6 +1,6 @@
 -- THE LIMITS ARE NEEDED: a published text that document 01 takes is within them. Assumes nothing.
 use mathlib.Core.Path.{_≡_, sym, _∙_, subst}
-use mathlib.Core.Bool.{true, false}
+use mathlib.Core.Bool.{false}
 use mathlib.Core.List.{List, [], _∷_, _++_}
 use mathlib.Core.Logic.{inl, inr}
 use Prim.Native.Nat.{ℕ, _-_, _^_, _≤_, _<_}
@@ -8,17 +8,15 @@ use native.Mathlib.Omega.{arith}
 use lib.Dec.{lit≤}
 use lib.IntN.{ℤ, pos}
 use lib.ListN.{length}
-use Rattle.base.specs.Integers.{inI32}
 use Rattle.decimals.specs.DecimalText.{Unsupported, DecimalText, fromNonzero}
-use Rattle.floats.specs.Ranges.{inPitch}
 use Rattle.integers.specs.IntegerText.{IntText}
-use Rattle.kbm.specs.Table.{inI16, AreI16}
+use Rattle.kbm.specs.Table.{AreI16}
 use Rattle.kbm.specs.declared.Entry.{Entry}
 use Rattle.kbm.specs.declared.Kbm.{Kbm}
 use Rattle.kbm_read.specs.Language.{required, Values, GiveAll, Tokens, MappingText}
 use Rattle.kbm_read.proofs.Tables.{typed-int, typed-all}
 use Rattle.kbm_write.specs.Published as P
-use Rattle.text.specs.Reading.{strict, Meaning, invalid, dropped, content, Line, EachLine}
+use Rattle.text.specs.Reading.{strict, Meaning, Line, EachLine}
 use Rattle.text.proofs.Encodings.{split}
 use Rattle.text.proofs.LinesLanguage.{one-lines}
 use Rattle.kbm_formats.specs.Limits.{AllUtf8, WithinLimits}

@@ -1,8 +1,8 @@
 -- THE DEGREES OF A MAPPING, HERE AND AS PUBLISHED: where middle and reference key are one, a key has the same degree by document 01 as
 -- Scala's pages give it, and else the two may part. Assumes nothing.
-use mathlib.Core.Path.{_≡_, refl, sym, ap, _∙_, subst}
+use mathlib.Core.Path.{_≡_, refl, sym, ap, _∙_}
 use mathlib.Core.Bool.{true}
-use mathlib.Core.List.{List, [], _∷_}
+use mathlib.Core.List.{List}
 use mathlib.Core.Logic.{_↔_}
 use Prim.Native.Nat.{ℕ, _-_, _≤_}
 use native.Mathlib.Omega.{arith}

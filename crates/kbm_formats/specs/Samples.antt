@@ -1,6 +1,6 @@
 -- Document 01's example for `kbmcopy`, with `x` written small as Scala's pages have it: a text of the published format, and its
 -- meaning. Assumes nothing.
-use mathlib.Core.List.{List, [], _∷_, _++_}
+use mathlib.Core.List.{List, [], _∷_}
 use Prim.Native.Nat.{ℕ}
 use lib.IntN.{pos}
 use Rattle.kbm.specs.declared.Entry.the-variants.{Mapped, Unmapped}

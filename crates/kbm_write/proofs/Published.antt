@@ -4,7 +4,7 @@ use mathlib.Core.Path.{_≡_, refl, sym, ap, _∙_}
 use mathlib.Core.Bool.{Bool, true, false}
 use mathlib.Core.List.{List, [], _∷_, _++_, append-nil}
 use mathlib.Core.Logic.{inl}
-use Prim.Native.Nat.{ℕ, suc, _+_, _<_}
+use Prim.Native.Nat.{ℕ, suc, _<_}
 use native.Mathlib.Omega.{arith}
 use lib.IntN.{ℤ, pos, negsuc, _+ℤ_, _-ℤ_, _*ℤ_}
 use lib.ListN.{length, getD}
@@ -18,7 +18,6 @@ use Rattle.base.proofs.Said.{same-value}
 use Rattle.floats.specs.Ranges.{inPitch}
 use Rattle.floats.specs.Units.{negative}
 use Rattle.floats.proofs.Ranges.{Within, within-fin, pitch-says}
-use Rattle.decimals.specs.DecimalText as Decimal
 use Rattle.printing.specs.PrintText.{scaledOf, textOf, wholeText, signText}
 use Rattle.printing.proofs.Form.{printed}
 use Rattle.kbm.specs.Degree.{degreeOfEntry, degreeAt}
