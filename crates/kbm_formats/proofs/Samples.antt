@@ -3,14 +3,16 @@
 use mathlib.Core.Path.{_≡_, refl, sym}
 use mathlib.Core.Bool.{Bool, true, _&&_}
 use mathlib.Core.List.{List, [], _∷_, append-nil}
-use mathlib.Core.Logic.{inl}
-use Prim.Native.Nat.{ℕ, _<_}
+use mathlib.Core.Logic.{inl, inr}
+use Prim.Native.Nat.{ℕ, _^_, _<_}
 use native.Mathlib.Omega.{arith}
 use lib.Dec.{lit<, lit≤}
-use lib.Ieee.{ofBits, round, le}
+use lib.Ieee.{Float, ofBits, round, le}
 use lib.IntN.{ℤ, pos}
 use lib.ListN.{length}
+use lib.Signed.{leZ-yes, ltZ-yes}
 use Rattle.integers.specs.Digits.{isDigit, AllDigits, decimal}
+use Rattle.integers.specs.IntegerText.{IntText}
 use Rattle.integers.proofs.Digits.{digit-is}
 use Rattle.kbm.proofs.Entries.{and-both}
 use Rattle.kbm_write.specs.Export.{linesText}
@@ -20,8 +22,9 @@ use Rattle.text.specs.Utf8Machine.{leadOf, stepOf}
 use Rattle.text.specs.Utf8Machine as utf8
 use Rattle.text.proofs.LinesLanguage.{the-lines}
 use Rattle.text.proofs.Utf8Language.{accepts}
+use Rattle.kbm_formats.specs.KeysOfText.{Silent, SaidOf}
 use Rattle.kbm_formats.specs.Limits.{WithinLimits}
-use Rattle.kbm_formats.specs.Samples.{exampleLines, exampleText, exampleMapping}
+use Rattle.kbm_formats.specs.Samples.{exampleLines, exampleText, exampleMapping, ExampleKeys}
 
 -- digits, by a test
 abbrev allDigits : List ℕ → Bool
@@ -146,3 +149,17 @@ example-within =
 
     not-largest : _≡_ {A = ℤ} (pos 127) (pos 2147483647) → ⊥
     not-largest e = let z : _≡_ {A = ℕ} 127 2147483647 = cc in omega arith
+
+pub example-keys : (hz : Float) → ExampleKeys hz
+example-keys hz =
+    record {
+      low = Silent.under (ltZ-yes tt);
+      high = Silent.over (ltZ-yes tt);
+      cross = Silent.gap refl (pos 0) 1 (record { whole = refl; rest = lit< tt }) (inl (inl refl));
+      left-out = Silent.gap refl (pos 0) 2 (record { whole = refl; rest = lit< tt }) (inr (lit≤ tt));
+      first = SaidOf.degree (leZ-yes tt, leZ-yes tt) refl (pos 0) 0 (pos 0) (record { whole = refl; rest = lit< tt }) (lit< tt, zero) refl refl;
+      next = SaidOf.degree (leZ-yes tt, leZ-yes tt) refl (pos 1) 0 (pos 0) (record { whole = refl; rest = lit< tt }) (lit< tt, zero) refl refl;
+    }
+  where
+    zero : IntText true (2 ^ 15) (48 ∷ []) (pos 0)
+    zero = IntText.plain 0 (record { some = lit< tt; each = digits (48 ∷ []) refl; writes = refl }) (lit< tt) refl
