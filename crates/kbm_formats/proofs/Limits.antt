@@ -65,15 +65,15 @@ module _ {s : List ℕ} {m : P.Mapping} (p : P.PublishedText s m) where
       let last-is = same-number (p .last) (g .1 .1 .0 .0) in
       record {
         utf8 = u;
-        size = rw count (small (g .0));
+        size = omega (arith, count, small (g .0));
         unsigned = λ t. no-minus (g .0);
         first = rw (same-number (p .first) (g .1 .0)) (typed-int (2 ^ 31) 2147483647 (lit≤ tt) (g .1 .0));
         last = rw last-is (typed-int (2 ^ 31) 2147483647 (lit≤ tt) (g .1 .1 .0 .0));
         before-end = λ e. g .1 .1 .0 .1 (sym last-is ∙ e);
         middle = rw (same-number (p .middle) (g .1 .1 .1 .0)) (typed-int (2 ^ 15) 32767 (lit≤ tt) (g .1 .1 .1 .0));
         reference = rw (same-number (p .reference) (g .1 .1 .1 .1 .0)) (typed-int (2 ^ 15) 32767 (lit≤ tt) (g .1 .1 .1 .1 .0));
-        digits = at-most (length (fromNonzero (x .whole ++ x .part))) 18 (λ h. supported (Unsupported.long h));
-        places = rw (x .places) (at-most (length (x .part)) 18 (λ h. supported (Unsupported.deep h)));
+        digits = omega (arith, at-most (length (fromNonzero (x .whole ++ x .part))) 18 (λ h. supported (Unsupported.long h)));
+        places = omega (arith, x .places, at-most (length (x .part)) 18 (λ h. supported (Unsupported.deep h)));
         pitch = rw hz-is at (g .1 .1 .1 .1 .1 .0 .1);
         octave = rw (same-number (p .octave) (g .1 .1 .1 .1 .1 .1 .0)) (typed-int (2 ^ 15) 32767 (lit≤ tt) (g .1 .1 .1 .1 .1 .1 .0));
         degrees = d;
