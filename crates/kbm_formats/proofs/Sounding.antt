@@ -7,7 +7,7 @@ use mathlib.Core.Logic.{_↔_}
 use Prim.Native.Nat.{ℕ, _-_, _≤_}
 use native.Mathlib.Omega.{arith}
 use lib.Dec.{lit<}
-use lib.IntN.{ℤ, pos, _+ℤ_, _-ℤ_, _*ℤ_, +ℤ-idr, +ℤ-negℤ-cancel}
+use lib.IntN.{ℤ, pos, _+ℤ_, _-ℤ_, _*ℤ_, +ℤ-idr, +ℤ-comm, +ℤ-negℤ-cancel, -ℤ-+ℤ-cancel}
 use lib.ListN.{length, getD}
 use Rattle.base.specs.Integers.{Divides, inI32, held}
 use Rattle.base.specs.Numbers.{unmapped-key}
@@ -32,7 +32,7 @@ use Rattle.key.specs.declared.PianoKey.{PianoKey}
 use Rattle.pitch.specs.declared.Pitch.{Pitch}
 use Rattle.kbm_formats.specs.Agree.{Agree}
 use Rattle.kbm_formats.specs.Limits.{WithinLimits}
-use Rattle.kbm_formats.specs.Sounding.{SoundsWithin, asPublished, Parting}
+use Rattle.kbm_formats.specs.Sounding.{SoundsWithin, atMiddle, asPublished, Parting}
 use Rattle.kbm_formats.proofs.Accepted.{published-read}
 use Rattle.kbm_formats.proofs.KeysOfText.{added-at}
 use Rattle.kbm_formats.proofs.Range.{inside, inside-back}
@@ -120,51 +120,73 @@ module _ {m : P.Mapping} {kbm : Kbm} {es : List Entry} (a : SameKeys m kbm es) (
   silent (Has.passed w n q z at h p) e d x = omega (arith, same-refuses (sym p ∙ e) .0)
   silent (Has.degree w n q z at h p) e d x = no-refusal (sym p ∙ e)
 
--- ---- THE SAME DEGREES for a mapping that is written: `publishedOf` is what its export says as published
-module _ (kbm : Kbm) (map : List ℤ) (t : isTable (kbm .count) map ≡ true) (o : kbm .root .offset ≡ pos 0) (key : PianoKey) where
+-- what is answered on a table of such entries
+module _ {m : P.Mapping} (kbm : Kbm) (map : List ℤ) (t : isTable (kbm .count) map ≡ true) (a : SameKeys m kbm (tableOf (kbm .count) map)) (key : PianoKey) where
+  answers : (d : ℤ) → (scaleDegreeOf kbm map key ≡ gives d) ↔ SoundsWithin m (key .0) d
+  answers d = (λ e. forth a key (key-has kbm map key t (gives d) .0 e) d refl, λ x. key-has kbm map key t (gives d) .1 (back a key d x))
+
+-- ---- A MAPPING THAT IS WRITTEN: `publishedOf` is what its export says as published
+module _ (kbm : Kbm) (map : List ℤ) (t : isTable (kbm .count) map ≡ true) where
   abbrev es : List Entry
   es = tableOf (kbm .count) map
 
   abbrev m : P.Mapping
   m = P.publishedOf kbm es
 
-  same : SameKeys m kbm es
-  same = record { first = refl; last = refl; middle = rw o (+ℤ-idr (kbm .root .reference .0)); octave = refl; size = table-length (kbm .count) map t; given = λ r. refl }
+  -- a key sounds a degree exactly when the mapping with its pattern at the middle key has it
+  pub sounds-moved : (key : PianoKey) (d : ℤ) → (scaleDegreeOf (atMiddle kbm) map key ≡ gives d) ↔ SoundsWithin m (key .0) d
+  sounds-moved key d = answers (atMiddle kbm) map t (record { first = refl; last = refl; middle = refl; octave = refl; size = table-length (kbm .count) map t; given = λ r. refl }) key d
 
-  -- a key has a degree exactly when it is retuned and sounds that degree
-  pub sounds-same : (d : ℤ) → (scaleDegreeOf kbm map key ≡ gives d) ↔ SoundsWithin m (key .0) d
-  sounds-same d = (λ e. forth same key (key-has kbm map key t (gives d) .0 e) d refl, λ s. key-has kbm map key t (gives d) .1 (back same key d s))
+  -- THE SAME DEGREES where middle and reference key are one
+  module _ (o : kbm .root .offset ≡ pos 0) where
+    same : SameKeys m kbm es
+    same = record { first = refl; last = refl; middle = rw o (+ℤ-idr (kbm .root .reference .0)); octave = refl; size = table-length (kbm .count) map t; given = λ r. refl }
 
-  -- and an unmapped one sounds none
-  pub gap-silent : scaleDegreeOf kbm map key ≡ refuses unmapped-key 0 → (d : ℤ) → P.Sounds m (key .0) d → ⊥
-  gap-silent e = silent same key (key-has kbm map key t (refuses unmapped-key 0) .0 e) refl
+    -- a key has a degree exactly when it is retuned and sounds that degree
+    pub sounds-same : (key : PianoKey) (d : ℤ) → (scaleDegreeOf kbm map key ≡ gives d) ↔ SoundsWithin m (key .0) d
+    sounds-same key d = answers kbm map t same key d
 
--- ---- THE SAME DEGREES for a published text that is read: m is what the text itself says
-module _ {s : List ℕ} {m : P.Mapping} (p : P.PublishedText s m) (w : WithinLimits p) (one : m .middle ≡ m .reference) (old : List ℤ) (room : m .size ≤ length old) where
-  agree-keys : {k : Kbm} {es : List Entry} → Agree m k es → SameKeys m k es
-  agree-keys {k} {es} a =
-      record {
-        first = a .first;
-        last = sym (+ℤ-negℤ-cancel (m .last) (pos 1)) ∙ ap (λ (z : ℤ). z -ℤ pos 1) (a .last);
-        middle = one ∙ a .reference;
-        octave = a .octave;
-        size = omega (arith, ap length (a .entries), length-added (m .size) (m .given), p .most);
-        given = λ r. rw (a .entries) (added-at (m .given) (m .size - length (m .given)) r);
-      }
+    -- and an unmapped one sounds none
+    pub gap-silent : (key : PianoKey) → scaleDegreeOf kbm map key ≡ refuses unmapped-key 0 → (d : ℤ) → P.Sounds m (key .0) d → ⊥
+    gap-silent key e = silent same key (key-has kbm map key t (refuses unmapped-key 0) .0 e) refl
 
-  -- each key has the degree that the text gives it as published
-  pub read-sounds : (k : Kbm) × (readOf (length old) s ≡ gives k) × ((key : PianoKey) (d : ℤ) → (scaleDegreeOf k (afterRead s old) key ≡ gives d) ↔ SoundsWithin m (key .0) d)
-  read-sounds =
-      let r = published-read p w (length old) room in
-      let l = leaves-table s old (r .1) in
-      let a : SameKeys m (r .0) (tableOf (r .0 .count) (afterRead s old)) = rw (l .1) (agree-keys (r .2)) in (
-        r .0,
-        r .1,
-        λ key d. (
-          (λ e. forth a key (key-has (r .0) (afterRead s old) key (l .0) (gives d) .0 e) d refl),
-          (λ x. key-has (r .0) (afterRead s old) key (l .0) (gives d) .1 (back a key d x)),
-        ),
-      )
+-- ---- A PUBLISHED TEXT THAT IS READ: m is what the text itself says
+-- the middle key of what is read
+middle-back : (x y : ℤ) → y +ℤ (x -ℤ y) ≡ x
+middle-back x y = +ℤ-comm y (x -ℤ y) ∙ -ℤ-+ℤ-cancel x y
+
+module _ {s : List ℕ} {m : P.Mapping} (p : P.PublishedText s m) where
+  module _ {k : Kbm} {es : List Entry} (a : Agree m k es) where
+    last-is : m .last ≡ lastOf k
+    last-is = sym (+ℤ-negℤ-cancel (m .last) (pos 1)) ∙ ap (λ (z : ℤ). z -ℤ pos 1) (a .last)
+
+    all : length es ≡ m .size
+    all = omega (arith, ap length (a .entries), length-added (m .size) (m .given), p .most)
+
+    given-is : (r : ℕ) → getD es r Unmapped ≡ getD (m .given) r Unmapped
+    given-is r = rw (a .entries) (added-at (m .given) (m .size - length (m .given)) r)
+
+    agree-moved : SameKeys m (atMiddle k) es
+    agree-moved = record { first = a .first; last = last-is; middle = rw (← a .reference, ← a .middle) (sym (middle-back (m .middle) (m .reference))); octave = a .octave; size = all; given = given-is }
+
+    agree-same : m .middle ≡ m .reference → SameKeys m k es
+    agree-same one = record { first = a .first; last = last-is; middle = one ∙ a .reference; octave = a .octave; size = all; given = given-is }
+
+  module _ (w : WithinLimits p) (old : List ℤ) (room : m .size ≤ length old) where
+    -- the text is read; each key of what is read, its pattern at the middle key, has the degree that the text gives it as published, and where
+    -- middle and reference key are one that is the degree by document 01
+    pub read-sounds : (k : Kbm) × (readOf (length old) s ≡ gives k)
+        × ((key : PianoKey) (d : ℤ) → (scaleDegreeOf (atMiddle k) (afterRead s old) key ≡ gives d) ↔ SoundsWithin m (key .0) d)
+        × (m .middle ≡ m .reference → (key : PianoKey) (d : ℤ) → (scaleDegreeOf k (afterRead s old) key ≡ gives d) ↔ SoundsWithin m (key .0) d)
+    read-sounds =
+        let r = published-read p w (length old) room in
+        let l = leaves-table s old (r .1) in
+        let a : Agree m (r .0) (tableOf (r .0 .count) (afterRead s old)) = rw (l .1) (r .2) in (
+          r .0,
+          r .1,
+          (λ key d. answers (atMiddle (r .0)) (afterRead s old) (l .0) (agree-moved a) key d),
+          (λ one key d. answers (r .0) (afterRead s old) (l .0) (agree-same a one) key d),
+        )
 
 -- ---- THE PARTING
 pub parting : (pitch : Pitch) → Parting pitch

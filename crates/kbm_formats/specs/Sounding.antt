@@ -9,7 +9,9 @@ use Rattle.base.specs.Said.{gives}
 use Rattle.kbm.specs.Degree.{scaleDegreeOf}
 use Rattle.kbm.specs.Samples.{sample, sampleTable}
 use Rattle.kbm.specs.declared.Entry.the-variants.{Mapped, Unmapped}
+use Rattle.kbm.specs.declared.Kbm.{Kbm}
 use Rattle.key.specs.Keys.{key}
+use Rattle.kbm_write.specs.Export.{middleOf}
 use Rattle.kbm_write.specs.Published as P
 use Rattle.pitch.specs.declared.Pitch.{Pitch}
 
@@ -20,6 +22,17 @@ pub record SoundsWithin (m : P.Mapping) (key d : ℤ) : Type 0 where
   pub near : inI32 (key -ℤ m .middle) ≡ true
   pub held : inI32 d ≡ true
   pub sounds : P.Sounds m key d
+
+-- the same mapping with its pattern at the middle key: the middle key becomes the reference key of its degrees
+abbrev pub atMiddle : Kbm → Kbm
+atMiddle kbm =
+    record {
+      root = record { reference = key (middleOf kbm); pitch = kbm .root .pitch; offset = pos 0 };
+      start = kbm .start;
+      end = kbm .end;
+      octave = kbm .octave;
+      count = kbm .count;
+    }
 
 -- THE PARTING: the mapping of 01's samples (entries 0, x, 2, octave 5, keys 0 to 127, reference 60) with middle key 62
 abbrev pub asPublished : Pitch → P.Mapping
