@@ -45,7 +45,8 @@ Outside vs key = (key <ℤ firstKey vs) ⊎ (lastKey vs <ℤ key)
 abbrev pub steps : Values required → ℤ → ℤ
 steps vs key = key -ℤ referenceKey vs
 
--- "d = q*size + r, 0 <= r < size": counting d keys round the map from the reference key comes to its place r, q times round
+-- "d = q*size + r, 0 <= r < size": counting d keys round the map from the reference key comes to its place r, q times
+-- round. A map without entries has no place to come to
 abbrev pub Counts : Values required → ℤ → ℤ → ℕ → Type 0
 Counts vs key q r = Divides (steps vs key) (sizeOf vs) q r
 

@@ -1,5 +1,6 @@
 -- THE LIMITS OF DOCUMENT 01 on Scala's published format: what a published text must be besides, so that 01 takes it, each with the
--- sentence of 01 that it comes from. Assumes nothing.
+-- sentence of 01 that it comes from and the number that it draws. There are no others (`published-exactly`): comments, and blanks before
+-- and anything after a value, are taken as published. Assumes nothing.
 use mathlib.Core.Path.{_≡_}
 use mathlib.Core.Bool.{true, false}
 use mathlib.Core.List.{List, [], _∷_, _++_}
@@ -19,6 +20,7 @@ abbrev pub AllUtf8 : List (List ℕ) → Type 0
 AllUtf8 [] = Unit {0}
 AllUtf8 (l ∷ ls) = Utf8 l × AllUtf8 ls
 
+-- the text p, whose meaning is m, is within them
 pub record WithinLimits {s : List ℕ} {m : P.Mapping} (p : P.PublishedText s m) : Type 0 where
   -- "Each line, comment or not, must be UTF-8": 1
   pub utf8 : AllUtf8 (p .parts)
