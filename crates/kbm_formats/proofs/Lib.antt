@@ -1,4 +1,12 @@
 pub mod Walk
 pub mod RoundTrip
 pub mod Standing
+pub mod Values
 pub mod Agree
+pub mod Limits
+pub mod Accepted
+pub mod OneMeaning
+pub mod Sounding
+pub mod Samples
+pub mod Range
+pub mod KeysOfText

@@ -69,7 +69,7 @@ low-head w b v u h e = go (split w 0x80) (split w 0x800) (split w 0x10000)
 white-head : (w c : ℕ) (v u : List ℕ) → WhiteSpace w → 33 ≤ c → c < 127 → encode w ++ v ≡ c ∷ u → ⊥
 white-head w c v u x l h e = let y = low-head w c v u (omega arith) e .0 in not-white c l h (subst WhiteSpace y x)
 
-no-cons : {A : Type 0} {b : ℕ} {l : List ℕ} → [] ≡ b ∷ l → A
+pub no-cons : {A : Type 0} {b : ℕ} {l : List ℕ} → [] ≡ b ∷ l → A
 no-cons e = let z : _≡_ {A = ℕ} 0 1 = cc in absurd (omega arith)
 
 all-white : (vs bs : List ℕ) (c : ℕ) (u : List ℕ) → Each WhiteSpace vs → Each P.Blank bs → Plain c → inBytes encode vs ≡ bs ++ (c ∷ u) → ⊥

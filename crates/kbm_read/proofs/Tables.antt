@@ -1,13 +1,14 @@
 -- WHAT AN ACCEPTED READ LEAVES in the table passes every later call's test of it, and is read back as the mapping's entries.
 -- Assumes nothing.
-use mathlib.Core.Path.{_≡_, refl, sym, _∙_, ap}
-use mathlib.Core.Bool.{true}
+use mathlib.Core.Path.{_≡_, sym, _∙_, ap}
+use mathlib.Core.Bool.{true, _&&_}
 use mathlib.Core.List.{List, [], _∷_, _++_}
-use Prim.Native.Nat.{ℕ, zero, suc, _-_, _^_, _≤_, _<_}
+use Prim.Native.Nat.{ℕ, zero, suc, _-_, _^_, _≤_}
 use native.Mathlib.Omega.{arith}
-use lib.Dec.{leb}
-use lib.IntN.{ℤ, pos, negℤ}
+use lib.Dec.{leb, lit≤}
+use lib.IntN.{ℤ, pos, negsuc}
 use lib.ListN.{length, take, drop, length-append}
+use lib.Signed.{leZ}
 use lib.Seq.{take-append-le, take-length}
 use borrow.Author.Tests.{le-leb}
 use Rattle.base.specs.Said.{gives}
@@ -15,7 +16,6 @@ use Rattle.base.specs.Tables.{over}
 use Rattle.kbm.proofs.Table.{length-numbers, numbers-usable, numbers-back}
 use Rattle.kbm.specs.Table.{numbersOf, IsI16, AreI16, isTable, tableOf}
 use Rattle.kbm.specs.declared.Entry.{Entry}
-use Rattle.kbm.specs.declared.Entry.the-variants.{Mapped}
 use Rattle.kbm.specs.declared.Kbm.{Kbm}
 use Rattle.integers.specs.IntegerText.{IntText}
 use Rattle.kbm_read.specs.Language.{EntryText, Entries, blanks, sizeOf, MappingText}
@@ -23,22 +23,20 @@ use Rattle.kbm_read.specs.Reader.{readOf, entriesIn, afterRead}
 use Rattle.kbm_read.proofs.Ends.{length-added}
 use Rattle.kbm_read.proofs.Language.{accepted}
 
--- a degree that is read is of 16 bits
-typed-neg : (n : ℕ) → n ≤ 2 ^ 15 → IsI16 (Mapped (negℤ (pos n)))
-typed-neg zero h = refl
-typed-neg (suc n) h = rw (le-leb n 32767 (omega arith))
+-- an integer that is read is within its type
+pub typed-int : (top most : ℕ) {t : List ℕ} {z : ℤ} → top ≤ suc most → IntText true top t z → leZ (negsuc most) z && leZ z (pos most) ≡ true
+typed-int top most l (IntText.plain n d h e) = rw (e, le-leb n most (omega arith))
+typed-int top most l (IntText.plus u n p d h e) = rw (e, le-leb n most (omega arith))
+typed-int top most l (IntText.minus u zero g p d h e) = rw (e, le-leb 0 most (omega arith))
+typed-int top most l (IntText.minus u (suc n) g p d h e) = rw (e, le-leb n most (omega arith))
 
-typed-int : (t : List ℕ) (z : ℤ) → IntText true (2 ^ 15) t z → IsI16 (Mapped z)
-typed-int t z (IntText.plain n d h e) = rw e (le-leb n 32767 (omega arith))
-typed-int t z (IntText.plus s n p d h e) = rw e (le-leb n 32767 (omega arith))
-typed-int t z (IntText.minus s n g p d h e) = rw e (typed-neg n h)
-
+-- so a degree is of 16 bits
 typed-text : (t : List ℕ) (e : Entry) → EntryText t e → IsI16 e
 typed-text t e (EntryText.small p) = tt
 typed-text t e (EntryText.large p) = tt
-typed-text t e (EntryText.degree z i) = typed-int t z i
+typed-text t e (EntryText.degree z i) = typed-int (2 ^ 15) 32767 (lit≤ tt) i
 
-typed-all : (ts : List (List ℕ)) (es : List Entry) → Entries ts es → AreI16 es
+pub typed-all : (ts : List (List ℕ)) (es : List Entry) → Entries ts es → AreI16 es
 typed-all [] [] x = tt
 typed-all [] (e ∷ es) x = absurd x
 typed-all (t ∷ ts) [] x = absurd x

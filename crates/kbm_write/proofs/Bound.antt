@@ -25,12 +25,12 @@ use Rattle.kbm.specs.declared.Entry.{Entry}
 use Rattle.kbm.specs.declared.Entry.the-variants.{Mapped, Unmapped}
 use Rattle.kbm.specs.declared.Kbm.{Kbm}
 use Rattle.kbm.proofs.Entries.{mag-i16}
-use Rattle.kbm_write.specs.Export.{line, linesText, lastOf, middleOf, entryText, entryTexts, exportText, fitted, exportOf}
+use Rattle.kbm_write.specs.Export.{line, linesText, lastOf, middleOf, entryText, entryTexts, exportText, fitted, exportOf, Writable}
 use Rattle.kbm_write.specs.Typed.{Typed}
 use Rattle.kbm_write.proofs.Lines.{length-line, lines-cons, five-length}
 use Rattle.kbm_write.proofs.Printed.{pitch-few}
 use Rattle.kbm_write.proofs.Room.{four-length}
-use Rattle.kbm_write.proofs.Theorems.{Writable, writable}
+use Rattle.kbm_write.proofs.Theorems.{writable}
 use Rattle.kbm_write.proofs.Typed.{typed}
 
 -- a number below 10^g has at most g digits

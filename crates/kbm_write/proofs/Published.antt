@@ -4,24 +4,17 @@ use mathlib.Core.Path.{_≡_, refl, sym, ap, _∙_}
 use mathlib.Core.Bool.{Bool, true, false}
 use mathlib.Core.List.{List, [], _∷_, _++_, append-nil}
 use mathlib.Core.Logic.{inl}
-use Prim.Native.Nat.{ℕ, suc, _+_, _<_}
+use Prim.Native.Nat.{ℕ, suc, _<_}
 use native.Mathlib.Omega.{arith}
-use lib.IntN.{ℤ, pos, negsuc, _+ℤ_, _-ℤ_, _*ℤ_}
-use lib.ListN.{length, getD}
+use lib.IntN.{ℤ, pos, negsuc}
 use lib.Ieee.{Float}
 use lib.Signed.{mag}
-use Rattle.base.specs.Integers.{floorDiv, floorMod}
-use Rattle.base.specs.Said.{gives}
-use Rattle.base.proofs.Division.{floor-divides}
 use Rattle.base.proofs.Integers.{mag-in}
-use Rattle.base.proofs.Said.{same-value}
 use Rattle.floats.specs.Ranges.{inPitch}
 use Rattle.floats.specs.Units.{negative}
 use Rattle.floats.proofs.Ranges.{Within, within-fin, pitch-says}
-use Rattle.decimals.specs.DecimalText as Decimal
 use Rattle.printing.specs.PrintText.{scaledOf, textOf, wholeText, signText}
 use Rattle.printing.proofs.Form.{printed}
-use Rattle.kbm.specs.Degree.{degreeOfEntry, degreeAt}
 use Rattle.kbm.specs.Table.{AreI16}
 use Rattle.kbm.specs.declared.Entry.{Entry}
 use Rattle.kbm.specs.declared.Entry.the-variants.{Mapped, Unmapped}
@@ -33,7 +26,6 @@ use Rattle.kbm_write.specs.Typed.{Typed}
 use Rattle.kbm_write.proofs.ExportLines.{exportTexts, export-lines, export-words}
 use Rattle.kbm_write.proofs.Lines.{pitch-limited}
 use Rattle.kbm_write.proofs.Plain.{Word, Words}
-use Rattle.kbm_write.proofs.Room.{held-is}
 use Rattle.kbm_write.proofs.Printed.{integer-form, digits-of}
 
 -- no word is a comment
@@ -93,23 +85,8 @@ degrees [] d = tt
 degrees (Mapped z ∷ es) d = ((wholeText z, alone (wholeText z), P.Degree.degree z (whole-number z (omega (arith, mag-i16 z (d .0))))), degrees es (d .1))
 degrees (Unmapped ∷ es) d = ((120 ∷ [], alone (120 ∷ []), P.Degree.cross refl), degrees es (d .1))
 
--- what a mapping says in the published format
-abbrev pub publishedOf : Kbm → List Entry → P.Mapping
-publishedOf kbm es =
-    record {
-      size = kbm .count;
-      first = kbm .start .0;
-      last = lastOf kbm;
-      middle = middleOf kbm;
-      reference = kbm .root .reference .0;
-      hertz = scaledOf 3 (kbm .root .pitch .0);
-      places = 3;
-      octave = kbm .octave;
-      given = es;
-    }
-
 -- the bytes that the export writes are a text of the published format, with that mapping as its meaning
-pub export-published : (kbm : Kbm) (es : List Entry) → Typed kbm es → P.PublishedText (exportText kbm es) (publishedOf kbm es)
+pub export-published : (kbm : Kbm) (es : List Entry) → Typed kbm es → P.PublishedText (exportText kbm es) (P.publishedOf kbm es)
 export-published kbm es y =
     record {
       l1 = wholeText (pos (kbm .count));
@@ -133,20 +110,3 @@ export-published kbm es y =
       degrees = degrees es (y .degrees);
       most = omega (arith, y .counted);
     }
-
--- document 01's degree, with the distance counted from the middle key, is the one that a key sounds as published. (01 counts from the
--- reference key: the two agree where the root's offset is 0.)
-pub sounds : (kbm : Kbm) (es : List Entry) → length es ≡ kbm .count → (key degree : ℤ) → degreeAt (key -ℤ middleOf kbm) (kbm .octave) es ≡ gives degree → P.Sounds (publishedOf kbm es) key degree
-unfolding degreeAt
-sounds kbm [] n key degree e = P.Sounds.linear (sym n) (sym (same-value (key -ℤ middleOf kbm) degree e))
-sounds kbm (a ∷ es) n key degree e = go (getD (a ∷ es) r Unmapped) refl e
-  where
-    d : ℤ
-    d = key -ℤ middleOf kbm
-
-    r : ℕ
-    r = floorMod d (length (a ∷ es))
-
-    go : (f : Entry) → getD (a ∷ es) r Unmapped ≡ f → degreeOfEntry f (floorDiv d (length (a ∷ es))) (kbm .octave) ≡ gives degree → P.Sounds (publishedOf kbm (a ∷ es)) key degree
-    go Unmapped g h = let z : _≡_ {A = ℕ} 0 1 = cc in absurd (omega arith)
-    go (Mapped z) g h = P.Sounds.pattern (floorDiv d (length (a ∷ es))) r z (rw (← n) (floor-divides d (length (a ∷ es)) (omega arith))) g (held-is (z +ℤ floorDiv d (length (a ∷ es)) *ℤ kbm .octave) h)

@@ -10,16 +10,15 @@ use lib.Dec.{leb}
 use lib.IntN.{ℤ}
 use lib.ListN.{length, drop}
 use borrow.Author.Tests.{le-leb, lt-leb, leb-false}
-use Rattle.base.specs.Integers.{inI32, held}
+use Rattle.base.specs.Integers.{held}
 use Rattle.base.specs.Numbers.{no-room}
 use Rattle.base.specs.Said.{Said, gives, refuses, pick}
 use Rattle.base.specs.Tables.{after}
 use Rattle.base.proofs.Said.{One, Split, one-plain, one-result}
-use Rattle.floats.specs.Ranges.{inPitch}
-use Rattle.kbm.specs.Table.{isTable, tableOf}
+use Rattle.kbm.specs.Table.{tableOf}
 use Rattle.kbm.specs.declared.Kbm.{Kbm}
 use Rattle.kbm_write.specs.Answers.{saysSize}
-use Rattle.kbm_write.specs.Export.{lastOf, middleOf, exportText, fitted, exportOf, textLength}
+use Rattle.kbm_write.specs.Export.{exportText, fitted, exportOf, textLength, Writable}
 use Rattle.kbm_write.specs.declared.SizeAnswer.the-variants as OfSize
 
 size-split : Split OfSize.Is OfSize.Refused
@@ -38,14 +37,7 @@ module _ (kbm : Kbm) (map : List ℤ) (out : List ℕ) where
   pub export-kbm-bytes : One (λ l. l) (after (exportOf kbm map (length out)) (λ t. t) out)
   export-kbm-bytes = one-result (after (exportOf kbm map (length out)) (λ t. t) out)
 
--- a mapping that can be written: "10 and 11 come before 12"
-pub record Writable (kbm : Kbm) (map : List ℤ) : Type 0 where
-  pub table : isTable (kbm .count) map ≡ true
-  pub pitch : inPitch (kbm .root .pitch .0) ≡ true
-  pub last : inI32 (lastOf kbm) ≡ true
-  pub middle : inI32 (middleOf kbm) ≡ true
-
--- such a mapping is written as its text, by its room
+-- a mapping that can be written is written as its text, by its room
 module _ (kbm : Kbm) (map : List ℤ) (w : Writable kbm map) where
   abbrev text : List ℕ
   text = exportText kbm (tableOf (kbm .count) map)

@@ -13,9 +13,9 @@ use Rattle.floats.proofs.Ranges.{and-true}
 use Rattle.kbm.specs.Table.{inI16, areEntries, tableOf}
 use Rattle.kbm.specs.declared.Kbm.{Kbm}
 use Rattle.kbm.proofs.Table.{length-entries, entries-typed}
+use Rattle.kbm_write.specs.Export.{Writable}
 use Rattle.kbm_write.specs.Typed.{Typed}
 use Rattle.kbm_write.proofs.Room.{table-fits}
-use Rattle.kbm_write.proofs.Theorems.{Writable}
 
 -- what a writable mapping of the program's types is
 pub typed : (kbm : Kbm) (map : List ℤ) → Writable kbm map → inI32 (kbm .start .0) ≡ true → inI32 (kbm .end .0) ≡ true → inI32 (kbm .root .reference .0) ≡ true

@@ -1,13 +1,14 @@
 -- Document 01, "Writing": the bytes that a mapping is written as, "the seven lines (last = end - 1; middle = reference +
 -- offset; 11 if either is outside i32), then entries. .. Every line ends in LF". Assumes nothing.
-use mathlib.Core.Bool.{false, _&&_}
+use mathlib.Core.Path.{_≡_}
+use mathlib.Core.Bool.{true, false, _&&_}
 use mathlib.Core.List.{List, [], _∷_, _++_}
 use Prim.Native.Nat.{ℕ}
 use lib.Dec.{leb}
 use lib.IntN.{ℤ, pos, _+ℤ_, _-ℤ_}
 use lib.ListN.{length}
 use lib.Ieee.{Float}
-use Rattle.base.specs.Integers.{held}
+use Rattle.base.specs.Integers.{inI32, held}
 use Rattle.base.specs.Numbers.{unusable, no-room}
 use Rattle.base.specs.Said.{Said, gives, refuses, pick, andThen}
 use Rattle.floats.specs.Ranges.{inPitch}
@@ -83,3 +84,10 @@ exportOf kbm map room =
 -- the number of bytes written
 abbrev pub textLength : Said (List ℕ) → Said ℕ
 textLength said = andThen said (λ t. gives (length t))
+
+-- a mapping that can be written: "10 and 11 come before 12"
+pub record Writable (kbm : Kbm) (map : List ℤ) : Type 0 where
+  pub table : isTable (kbm .count) map ≡ true
+  pub pitch : inPitch (kbm .root .pitch .0) ≡ true
+  pub last : inI32 (lastOf kbm) ≡ true
+  pub middle : inI32 (middleOf kbm) ≡ true

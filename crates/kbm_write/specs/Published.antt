@@ -6,6 +6,7 @@ use mathlib.Core.Logic.{_⊎_}
 use Prim.Native.Nat.{ℕ, _≤_}
 use lib.IntN.{ℤ, pos, negℤ, _+ℤ_, _-ℤ_, _*ℤ_}
 use lib.ListN.{length, getD}
+use lib.Signed.{_≤ℤ_}
 use Rattle.base.specs.Integers.{Divides}
 use Rattle.text.specs.Characters.{Each}
 use Rattle.text.specs.Lines.{Lines}
@@ -14,6 +15,9 @@ use Rattle.integers.specs.Digits.{decimal}
 use Rattle.integers.specs.IntegerText.{Digits}
 use Rattle.kbm.specs.declared.Entry.{Entry}
 use Rattle.kbm.specs.declared.Entry.the-variants.{Mapped, Unmapped}
+use Rattle.kbm.specs.declared.Kbm.{Kbm}
+use Rattle.printing.specs.PrintText.{scaledOf}
+use Rattle.kbm_write.specs.Export.{lastOf, middleOf}
 
 -- "A line whose first character (first position) is `!` is a comment"
 abbrev pub Comment : List ℕ → Type 0
@@ -120,3 +124,22 @@ pub record PublishedText (s : List ℕ) (m : Mapping) : Type 0 where
 pub data Sounds (m : Mapping) (key degree : ℤ) : Type 0 where
   linear : m .size ≡ 0 → degree ≡ key -ℤ m .middle → Sounds m key degree
   pattern : (q : ℤ) (r : ℕ) (z : ℤ) → Divides (key -ℤ m .middle) (m .size) q r → getD (m .given) r Unmapped ≡ Mapped z → degree ≡ z +ℤ q *ℤ m .octave → Sounds m key degree
+
+-- "first MIDI note to retune; last MIDI note to retune"
+abbrev pub Retuned : Mapping → ℤ → Type 0
+Retuned m key = (m .first ≤ℤ key) × (key ≤ℤ m .last)
+
+-- what a mapping of the library says in the published format: the frequency with three decimals
+abbrev pub publishedOf : Kbm → List Entry → Mapping
+publishedOf kbm es =
+    record {
+      size = kbm .count;
+      first = kbm .start .0;
+      last = lastOf kbm;
+      middle = middleOf kbm;
+      reference = kbm .root .reference .0;
+      hertz = scaledOf 3 (kbm .root .pitch .0);
+      places = 3;
+      octave = kbm .octave;
+      given = es;
+    }

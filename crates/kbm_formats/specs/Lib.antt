@@ -1,0 +1,5 @@
+pub mod Agree
+pub mod KeysOfText
+pub mod Limits
+pub mod Samples
+pub mod Sounding

@@ -1,0 +1,49 @@
+-- DEGREES HERE AND AS PUBLISHED: the degree that Scala's pages give a key, within document 01's numbers; and where the two part: 01
+-- counts round from the reference key, the pages from the middle key. Assumes nothing.
+use mathlib.Core.Path.{_≡_}
+use mathlib.Core.Bool.{true}
+use mathlib.Core.List.{[], _∷_}
+use lib.IntN.{ℤ, pos, _-ℤ_}
+use Rattle.base.specs.Integers.{inI32}
+use Rattle.base.specs.Said.{gives}
+use Rattle.kbm.specs.Degree.{scaleDegreeOf}
+use Rattle.kbm.specs.Samples.{sample, sampleTable}
+use Rattle.kbm.specs.declared.Entry.the-variants.{Mapped, Unmapped}
+use Rattle.kbm.specs.declared.Kbm.{Kbm}
+use Rattle.key.specs.Keys.{key}
+use Rattle.kbm_write.specs.Export.{middleOf}
+use Rattle.kbm_write.specs.Published as P
+use Rattle.pitch.specs.declared.Pitch.{Pitch}
+
+-- the key is retuned and sounds the degree d as published; its distance from the middle key and d are numbers of 32 bits ("let d = key -
+-- reference key; outside i32 gives 11", "11 exactly when that exact value leaves i32")
+pub record SoundsWithin (m : P.Mapping) (key d : ℤ) : Type 0 where
+  pub retuned : P.Retuned m key
+  pub near : inI32 (key -ℤ m .middle) ≡ true
+  pub held : inI32 d ≡ true
+  pub sounds : P.Sounds m key d
+
+-- the same mapping with its pattern at the middle key: the middle key becomes the reference key of its degrees
+abbrev pub atMiddle : Kbm → Kbm
+atMiddle kbm =
+    record {
+      root = record { reference = key (middleOf kbm); pitch = kbm .root .pitch; offset = pos 0 };
+      start = kbm .start;
+      end = kbm .end;
+      octave = kbm .octave;
+      count = kbm .count;
+    }
+
+-- THE PARTING: the mapping of 01's samples (entries 0, x, 2, octave 5, keys 0 to 127, reference 60) with middle key 62
+abbrev pub asPublished : Pitch → P.Mapping
+asPublished pitch = P.publishedOf (sample pitch (pos 2)) (Mapped (pos 0) ∷ Unmapped ∷ Mapped (pos 2) ∷ [])
+
+pub record Parting (pitch : Pitch) : Type 0 where
+  pub middle : asPublished pitch .middle ≡ pos 62
+  -- key 60 has degree 0 by 01, and none as published
+  pub here60 : scaleDegreeOf (sample pitch (pos 2)) sampleTable (key (pos 60)) ≡ gives (pos 0)
+  pub there60 : (d : ℤ) → P.Sounds (asPublished pitch) (pos 60) d → ⊥
+  -- key 62 has degree 2 by 01, and 0, no other, as published
+  pub here62 : scaleDegreeOf (sample pitch (pos 2)) sampleTable (key (pos 62)) ≡ gives (pos 2)
+  pub there62 : P.Sounds (asPublished pitch) (pos 62) (pos 0)
+  pub only62 : (d : ℤ) → P.Sounds (asPublished pitch) (pos 62) d → d ≡ pos 0
