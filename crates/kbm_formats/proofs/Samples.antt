@@ -18,7 +18,7 @@ use Rattle.kbm.proofs.Entries.{and-both}
 use Rattle.kbm_write.specs.Export.{linesText}
 use Rattle.kbm_write.specs.Published as P
 use Rattle.text.specs.Cut.{lines}
-use Rattle.text.specs.Utf8Machine.{leadOf, stepOf}
+use Rattle.text.specs.Utf8Machine.{leadOf, utf8Step}
 use Rattle.text.specs.Utf8Machine as utf8
 use Rattle.text.proofs.LinesLanguage.{the-lines}
 use Rattle.text.proofs.Utf8Language.{accepts}
@@ -108,7 +108,7 @@ example-published =
         (P.Kept.kept (no-mark 53 [] (lit< tt)) (P.Kept.kept (no-mark 48 [] (lit< tt)) (P.Kept.kept (no-mark 120 [] (lit< tt)) P.Kept.none))))))))
 
 pub example-within : WithinLimits example-published
-unfolding example-published number leadOf stepOf utf8.runOf round ofBits le
+unfolding example-published number leadOf utf8Step utf8.utf8From round ofBits le
 example-within =
     record {
       utf8 = (

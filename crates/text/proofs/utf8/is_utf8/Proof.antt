@@ -55,8 +55,8 @@ loop-again c =
     let l = c .before .before .before .before .before .before .before .before in (
       passed-end (c .pass2 .ensures) (omega arith),
       l .before .loop .inv .1
-      ∙ run-turn _ _ _ (l .loop-test .taken) (c .before .before .before .before .before .before .advance .ensures) (c .before .before .before .before .t .given .1)
-      ∙ run-pass (c .before .before .before .before .t .given .0 .0) (c .before .if1 .taken) (c .pass2 .ensures),
+          ∙ run-turn _ _ _ (l .loop-test .taken) (c .before .before .before .before .before .before .advance .ensures) (c .before .before .before .before .t .given .1)
+          ∙ run-pass (c .before .before .before .before .t .given .0 .0) (c .before .if1 .taken) (c .pass2 .ensures),
     )
 
 loop-less-2 : tie.Need-loop-less-2 Inv-loop μ-loop
