@@ -25,9 +25,9 @@ use Rattle.kbm.specs.declared.Entry.{Entry}
 use Rattle.kbm.specs.declared.Entry.the-variants.{Mapped, Unmapped}
 use Rattle.kbm.proofs.Entries.{mag-i16}
 use Rattle.kbm_read.specs.Reader.{isCross, entryIn, takeToken, finished, walk, unread, mappingOf, givenFrom}
-use Rattle.kbm_read.specs.declared.Due.the-variants as due
-use Rattle.kbm_read.specs.declared.EntryRead.the-variants as entry
-use Rattle.kbm_read.specs.declared.Head.{Head}
+use Rattle.kbm_read.specs.declared.line.Due.the-variants as due
+use Rattle.kbm_read.specs.declared.line.EntryRead.the-variants as entry
+use Rattle.kbm_read.specs.declared.line.Head.{Head}
 use Rattle.kbm_write.specs.Export.{entryTexts}
 use Rattle.kbm_write.proofs.Plain.{selves}
 use Rattle.kbm_write.proofs.Printed.{signed-reads}

@@ -19,7 +19,7 @@ use Rattle.integers.specs.IntegerText.{IntText}
 use Rattle.text.specs.Reading.{Meaning, invalid, dropped, content}
 use Rattle.kbm_read.specs.Language.{Required, Values, GiveAll, Entries, Tokens, Begins, required, sizeOf, blanks, added, WrongEnd}
 use Rattle.kbm_read.specs.Reader.{givenFrom, mappingOf}
-use Rattle.kbm_read.specs.declared.Head.{Head}
+use Rattle.kbm_read.specs.declared.line.Head.{Head}
 use Rattle.kbm_read.proofs.Fields.{same-refuses, no-refusal}
 use Rattle.kbm_read.proofs.Leads.{text-entry}
 use Rattle.kbm_read.proofs.Places.{endOn}

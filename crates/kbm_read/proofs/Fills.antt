@@ -16,8 +16,8 @@ use Rattle.kbm.specs.declared.Entry.{Entry}
 use Rattle.text.specs.Reading.{Meaning, invalid, dropped, content}
 use Rattle.kbm_read.specs.Language.{blanks}
 use Rattle.kbm_read.specs.Reader.{entryIn, foundEntry, withFound, foundIn, givenFrom, padded}
-use Rattle.kbm_read.specs.declared.EntryRead.{EntryRead}
-use Rattle.kbm_read.specs.declared.EntryRead.the-variants as entry
+use Rattle.kbm_read.specs.declared.line.EntryRead.{EntryRead}
+use Rattle.kbm_read.specs.declared.line.EntryRead.the-variants as entry
 use Rattle.kbm_read.specs.declared.Found.{Found}
 use Rattle.kbm_read.specs.declared.Found.the-variants as found
 

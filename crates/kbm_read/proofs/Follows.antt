@@ -12,7 +12,7 @@ use Rattle.kbm.specs.declared.Entry.{Entry}
 use Rattle.kbm.specs.declared.Kbm.{Kbm}
 use Rattle.text.specs.Reading.{Meaning, invalid, dropped, content}
 use Rattle.kbm_read.specs.Language.{Required, Values, GiveAll, Entries, Tokens}
-use Rattle.kbm_read.specs.declared.Head.{Head}
+use Rattle.kbm_read.specs.declared.line.Head.{Head}
 use Rattle.kbm_read.proofs.Fields.{gives-read}
 use Rattle.kbm_read.proofs.Leads.{headFrom, Leads, lead-none, lead-step, text-entry}
 use Rattle.kbm_read.proofs.Places.{Place, withField, stepOn, endOn, walkOn}

@@ -18,9 +18,9 @@ use Rattle.text.proofs.LineLanguage.{strict-text, one-strict-text}
 use Rattle.text.specs.Reading.{Meaning, invalid, dropped, content}
 use Rattle.kbm_read.specs.Language.{Required, required, Value, Values, Begins, sizeOf, mappingFrom, MappingText, WrongLine, WrongEntry, WrongEnd, Fault, FaultText}
 use Rattle.kbm_read.specs.Reader.{entryIn, mappingOf, unread, saidIn, readOf, givenFrom, givenIn, entriesIn}
-use Rattle.kbm_read.specs.declared.EntryRead.{EntryRead}
-use Rattle.kbm_read.specs.declared.EntryRead.the-variants as entry
-use Rattle.kbm_read.specs.declared.Head.{Head}
+use Rattle.kbm_read.specs.declared.line.EntryRead.{EntryRead}
+use Rattle.kbm_read.specs.declared.line.EntryRead.the-variants as entry
+use Rattle.kbm_read.specs.declared.line.Head.{Head}
 use Rattle.kbm_read.proofs.Ends.{length-added, small-size, given-entries, end-gives, gives-end, end-wrong, wrong-end}
 use Rattle.kbm_read.proofs.Fields.{same-refuses, no-refusal, read-wrong, wrong-read, readAs}
 use Rattle.kbm_read.proofs.Follows.{follow, Outcome, outcome}

@@ -21,9 +21,9 @@ use Rattle.integers.specs.IntegerText.{IntText}
 use Rattle.text.specs.Reading.{Meaning, invalid, dropped, content}
 use Rattle.kbm_read.specs.Language.{Required, Value, Values, Gives, GiveAll, EntryText, Entries, Tokens}
 use Rattle.kbm_read.specs.Reader.{isCross, degreeIn, entryIn}
-use Rattle.kbm_read.specs.declared.EntryRead.{EntryRead}
-use Rattle.kbm_read.specs.declared.EntryRead.the-variants as entry
-use Rattle.kbm_read.specs.declared.Head.{Head}
+use Rattle.kbm_read.specs.declared.line.EntryRead.{EntryRead}
+use Rattle.kbm_read.specs.declared.line.EntryRead.the-variants as entry
+use Rattle.kbm_read.specs.declared.line.Head.{Head}
 use Rattle.kbm_read.proofs.Fields.{readAs, read-gives}
 use Rattle.kbm_read.proofs.Places.{Place, withField, entryOn, tokenOn, stepOn}
 use Rattle.kbm_read.proofs.Walks.{no-value}

@@ -20,12 +20,12 @@ use Rattle.decimals.specs.declared.DecimalAnswer.the-variants as decimal
 use Rattle.text.specs.Reading.{Meaning, invalid, dropped, content}
 use Rattle.kbm_read.specs.Language.{Required, Value, required}
 use Rattle.kbm_read.specs.Reader.{intAt, goesOn, placed, entryIn, takeDue, takeToken, takeMeaning, whichOf, mappingOf, finished, unread, walk}
-use Rattle.kbm_read.specs.declared.Due.{Due}
-use Rattle.kbm_read.specs.declared.Due.the-variants as due
-use Rattle.kbm_read.specs.declared.EntryRead.{EntryRead}
-use Rattle.kbm_read.specs.declared.EntryRead.the-variants as entry
-use Rattle.kbm_read.specs.declared.Head.{Head}
-use Rattle.kbm_read.specs.declared.State.{State}
+use Rattle.kbm_read.specs.declared.line.Due.{Due}
+use Rattle.kbm_read.specs.declared.line.Due.the-variants as due
+use Rattle.kbm_read.specs.declared.line.EntryRead.{EntryRead}
+use Rattle.kbm_read.specs.declared.line.EntryRead.the-variants as entry
+use Rattle.kbm_read.specs.declared.line.Head.{Head}
+use Rattle.kbm_read.specs.declared.line.State.{State}
 use Rattle.kbm_read.proofs.Fields.{readAs, lastOf, pitchOf}
 use Rattle.kbm_read.proofs.Walks.{Early, meaning-early}
 

@@ -33,13 +33,13 @@ use Rattle.text.specs.declared.line.LineSays.the-variants.{Content}
 use Rattle.kbm.specs.declared.Entry.{Entry}
 use Rattle.kbm.specs.declared.Entry.the-variants.{Unmapped}
 use Rattle.kbm_read.specs.Reader.{intAt, goesOn, takeLast, decimalRefused, pitchSaid, takePitch, takeEntry, takeDue, takeToken, takeMeaning, whichOf, mappingOf, finished, isCross, degreeIn, entryIn, foundEntry, foundIn}
-use Rattle.kbm_read.specs.declared.Due.{Due}
-use Rattle.kbm_read.specs.declared.Due.the-variants as due
+use Rattle.kbm_read.specs.declared.line.Due.{Due}
+use Rattle.kbm_read.specs.declared.line.Due.the-variants as due
 use Rattle.kbm_read.specs.declared.Found.the-variants as found
-use Rattle.kbm_read.specs.declared.Head.{Head}
-use Rattle.kbm_read.specs.declared.EntryRead.{EntryRead}
-use Rattle.kbm_read.specs.declared.EntryRead.the-variants as entry
-use Rattle.kbm_read.specs.declared.State.{State}
+use Rattle.kbm_read.specs.declared.line.Head.{Head}
+use Rattle.kbm_read.specs.declared.line.EntryRead.{EntryRead}
+use Rattle.kbm_read.specs.declared.line.EntryRead.the-variants as entry
+use Rattle.kbm_read.specs.declared.line.State.{State}
 
 -- THE LAW OF A REQUIRED LINE: r is what an integer's reader answered, r′ what a match made of it
 pub int-step : {X : Type 0} (of : X → Int) (k : ℕ) (f : ℤ → Said State) {r r′ : X} {i : Int} → of r ≡ i → r ≡ r′ → andThen (intAt k (of r′)) f ≡ andThen (intAt k i) f

@@ -20,13 +20,13 @@ use Rattle.text.specs.Cut.{lines}
 use Rattle.text.specs.ReadLine.{meanings}
 use Rattle.text.specs.Reading.{Meaning, invalid, dropped, content}
 use Rattle.kbm_read.specs.Reader.{saysStep, intAt, goesOn, pitchSaid, placed, entryIn, takeDue, takeToken, takeMeaning, finished, walk, saidIn}
-use Rattle.kbm_read.specs.declared.Due.{Due}
-use Rattle.kbm_read.specs.declared.Due.the-variants as due
-use Rattle.kbm_read.specs.declared.EntryRead.{EntryRead}
-use Rattle.kbm_read.specs.declared.EntryRead.the-variants as entry
-use Rattle.kbm_read.specs.declared.Head.{Head}
-use Rattle.kbm_read.specs.declared.State.{State}
-use Rattle.kbm_read.specs.declared.Step.{Step}
+use Rattle.kbm_read.specs.declared.line.Due.{Due}
+use Rattle.kbm_read.specs.declared.line.Due.the-variants as due
+use Rattle.kbm_read.specs.declared.line.EntryRead.{EntryRead}
+use Rattle.kbm_read.specs.declared.line.EntryRead.the-variants as entry
+use Rattle.kbm_read.specs.declared.line.Head.{Head}
+use Rattle.kbm_read.specs.declared.line.State.{State}
+use Rattle.kbm_read.specs.declared.line.Step.{Step}
 
 -- nothing is said past the end of the text
 pub said-end : (text : List ℕ) (at : ℕ) → length text ≤ at → saidIn (drop at text) ≡ []

@@ -26,16 +26,16 @@ use Rattle.text.specs.Cut.{lines}
 use Rattle.text.specs.ReadLine.{meanings, strictly}
 use Rattle.text.specs.Reading.{Meaning, invalid, dropped, content}
 use Rattle.kbm_read.specs.Language.{added}
-use Rattle.kbm_read.specs.declared.Due.{Due}
-use Rattle.kbm_read.specs.declared.Due.the-variants as due
-use Rattle.kbm_read.specs.declared.EntryRead.{EntryRead}
-use Rattle.kbm_read.specs.declared.EntryRead.the-variants as entry
+use Rattle.kbm_read.specs.declared.line.Due.{Due}
+use Rattle.kbm_read.specs.declared.line.Due.the-variants as due
+use Rattle.kbm_read.specs.declared.line.EntryRead.{EntryRead}
+use Rattle.kbm_read.specs.declared.line.EntryRead.the-variants as entry
 use Rattle.kbm_read.specs.declared.Found.{Found}
 use Rattle.kbm_read.specs.declared.Found.the-variants as found
-use Rattle.kbm_read.specs.declared.Head.{Head}
-use Rattle.kbm_read.specs.declared.State.{State}
-use Rattle.kbm_read.specs.declared.Step.{Step}
-use Rattle.kbm_read.specs.declared.Step.the-variants as step
+use Rattle.kbm_read.specs.declared.line.Head.{Head}
+use Rattle.kbm_read.specs.declared.line.State.{State}
+use Rattle.kbm_read.specs.declared.line.Step.{Step}
+use Rattle.kbm_read.specs.declared.line.Step.the-variants as step
 
 -- what a step says
 abbrev pub saysStep : Step → Said State

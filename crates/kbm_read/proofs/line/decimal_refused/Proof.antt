@@ -3,8 +3,8 @@
 use borrow.Author.Needs.{needs}
 use mathlib.Core.Path.{sym, ap, _∙_}
 use Rattle.kbm_read.specs.Reader.{decimalRefused}
-use Rattle.kbm_read.proofs.decimal_refused.Statement.{statement}
-use Rattle.kbm_read.proofs.decimal_refused.Tie as tie
+use Rattle.kbm_read.proofs.line.decimal_refused.Statement.{statement}
+use Rattle.kbm_read.proofs.line.decimal_refused.Tie as tie
 
 enum-told : tie.Need-enum-told
 enum-told c = search needs

@@ -9,8 +9,8 @@ use mir.Syntax.{w16, w32}
 use mir.Val.{SFits}
 use Rattle.integers.specs.Integer.{u16Of, i16Of, i32Of}
 use Rattle.kbm_read.proofs.Takes.{int-step, next-fits, last-over, last-is, pitch-refused, pitch-is, pitch-out, due-step}
-use Rattle.kbm_read.proofs.take_token.Statement.{statement}
-use Rattle.kbm_read.proofs.take_token.Tie as tie
+use Rattle.kbm_read.proofs.line.take_token.Statement.{statement}
+use Rattle.kbm_read.proofs.line.take_token.Tie as tie
 
 enum-told : tie.Need-enum-told
 enum-told c = search needs

@@ -3,8 +3,8 @@
 use borrow.Author.Needs.{needs}
 use mathlib.Core.Path.{_∙_}
 use Rattle.kbm_read.proofs.Takes.{token-within, meaning-step}
-use Rattle.kbm_read.proofs.take_line.Statement.{statement}
-use Rattle.kbm_read.proofs.take_line.Tie as tie
+use Rattle.kbm_read.proofs.line.take_line.Statement.{statement}
+use Rattle.kbm_read.proofs.line.take_line.Tie as tie
 
 enum-told : tie.Need-enum-told
 enum-told c = search needs

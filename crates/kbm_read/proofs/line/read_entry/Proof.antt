@@ -10,8 +10,8 @@ use mir.Facts.{toZ-ofZ}
 use mir.Syntax.{w16}
 use Rattle.kbm_read.specs.Reader.{isCross}
 use Rattle.kbm_read.proofs.Takes.{small-cross, large-cross, no-cross, other-byte, degree-is}
-use Rattle.kbm_read.proofs.read_entry.Statement.{statement}
-use Rattle.kbm_read.proofs.read_entry.Tie as tie
+use Rattle.kbm_read.proofs.line.read_entry.Statement.{statement}
+use Rattle.kbm_read.proofs.line.read_entry.Tie as tie
 
 shared-slice-read-if2 : tie.Need-shared-slice-read-if2
 shared-slice-read-if2 c = search needs

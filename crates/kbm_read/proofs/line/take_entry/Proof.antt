@@ -3,8 +3,8 @@
 use borrow.Author.Needs.{needs}
 use mathlib.Core.Path.{_∙_}
 use Rattle.kbm_read.proofs.Takes.{entry-none, entry-full, entry-more}
-use Rattle.kbm_read.proofs.take_entry.Statement.{statement}
-use Rattle.kbm_read.proofs.take_entry.Tie as tie
+use Rattle.kbm_read.proofs.line.take_entry.Statement.{statement}
+use Rattle.kbm_read.proofs.line.take_entry.Tie as tie
 
 read-entry-requires : tie.Need-read-entry-requires
 read-entry-requires c κs = search needs
