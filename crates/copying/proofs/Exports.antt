@@ -23,8 +23,9 @@ use Rattle.kbm_read.proofs.Ends.{small-size}
 use Rattle.kbm_read.proofs.Language.{accepted}
 use Rattle.kbm_read.proofs.Tables.{leaves-table}
 use Rattle.kbm_write.specs.Export.{lastOf, middleOf, exportText, exportOf}
-use Rattle.kbm_write.proofs.Bound.{OfTypes, never-no-room}
+use Rattle.kbm_write.proofs.Bound.{never-no-room}
 use Rattle.kbm_write.proofs.Room.{Fitting, export-fitting}
+use Rattle.kbm_write.specs.Typed.{OfTypes}
 
 -- a number that was read is within a type that holds its own
 within-type : (top most : ℕ) {t : List ℕ} {z : ℤ} → top ≤ suc most → IntText true top t z → leZ (negsuc most) z && leZ z (pos most) ≡ true

@@ -134,7 +134,7 @@ numeralOf negative whole part =
     record { negative = negative; n = grownAll 0 (whole ++ part); significant = countedAll 0 0 (whole ++ part); places = length part; plain = true }
 
 -- the number from `from` on is these digits, and r follows
-pub record Numbered (s : List ℕ) (negative : Bool) (from : ℕ) (whole part r : List ℕ) : Type 0 where
+pub record ScannedAs (s : List ℕ) (negative : Bool) (from : ℕ) (whole part r : List ℕ) : Type 0 where
   pub end : ℕ
   pub place : At s end r
   pub is : numberAt s negative from ≡ endedAt s (length whole + length part) (numeralOf negative whole part) end
@@ -150,7 +150,7 @@ no-dot {s} (b ∷ r) at g n = rw (lt-ltb at (length s) (at-more g), at-byte g, n
 
 module _ {s : List ℕ} (negative : Bool) {from : ℕ} where
   numbered : (whole rest part r : List ℕ) (dot : ℕ) → At s from (whole ++ rest) → AllDigits whole → Stops rest →
-      afterDot s (from + length whole) ≡ dot → At s dot (part ++ r) → AllDigits part → Stops r → Numbered s negative from whole part r
+      afterDot s (from + length whole) ≡ dot → At s dot (part ++ r) → AllDigits part → Stops r → ScannedAs s negative from whole part r
   numbered whole rest part r dot h dw sr d g dp sp =
       let w = run-there 0 0 whole rest h dw sr in
       let p = run-there (grownAll 0 whole) (countedAll 0 0 whole) part r g dp sp in
@@ -168,14 +168,14 @@ module _ {s : List ℕ} (negative : Bool) {from : ℕ} where
       }
 
   -- with a dot
-  pub numbered-dot : (whole part r : List ℕ) → At s from (whole ++ (46 ∷ (part ++ r))) → AllDigits whole → AllDigits part → Stops r → Numbered s negative from whole part r
+  pub numbered-dot : (whole part r : List ℕ) → At s from (whole ++ (46 ∷ (part ++ r))) → AllDigits whole → AllDigits part → Stops r → ScannedAs s negative from whole part r
   numbered-dot whole part r h dw dp sp =
       let g = at-over whole (46 ∷ (part ++ r)) h in
       numbered whole (46 ∷ (part ++ r)) part r (from + length whole + 1) h dw refl
       (rw (lt-ltb (from + length whole) (length s) (at-more g), at-byte g)) (at-next g) dp sp
 
   -- without one
-  pub numbered-plain : (whole r : List ℕ) → At s from (whole ++ r) → AllDigits whole → Stops r → NoDot r → Numbered s negative from whole [] r
+  pub numbered-plain : (whole r : List ℕ) → At s from (whole ++ r) → AllDigits whole → Stops r → NoDot r → ScannedAs s negative from whole [] r
   numbered-plain whole r h dw sr n =
       let g = at-over whole r h in
       numbered whole r [] r (from + length whole) h dw sr (no-dot r (from + length whole) g n) g tt sr

@@ -16,7 +16,7 @@ use Rattle.decimals.specs.declared.Scanned.the-variants as scanned
 use Rattle.decimals.proofs.Values.{Stops, split, counted-is, value-is}
 use Rattle.decimals.proofs.Places.{At, at-start, after-signed, signed-minus, Unsigned, unsigned}
 use Rattle.decimals.proofs.Words.{Opens, opens-sign, opens-word, word-sound, word-complete, word-sign}
-use Rattle.decimals.proofs.Numbers.{Numbered, numbered-dot, numbered-plain, NoDot, numeralOf, Ended, ended-plain, ended-scaled, ended-sound, digits-open, exponent-stops}
+use Rattle.decimals.proofs.Numbers.{ScannedAs, numbered-dot, numbered-plain, NoDot, numeralOf, Ended, ended-plain, ended-scaled, ended-sound, digits-open, exponent-stops}
 
 -- what a numeral has of the digits it was scanned from
 pub record SeenPlain (negative : Bool) (whole part : List ℕ) (x : Numeral) : Type 0 where
@@ -47,10 +47,10 @@ pub record Scan (s : List ℕ) (f : Form) : Type 0 where
   pub seen : Seen f numeral
 
 -- digits with a dot, where a text goes on with r
-number-of : {s : List ℕ} (negative : Bool) {from : ℕ} {whole part : List ℕ} (m r : List ℕ) → At s from (m ++ r) → DottedDigits m whole part → Stops r → NoDot r → Numbered s negative from whole part r
+number-of : {s : List ℕ} (negative : Bool) {from : ℕ} {whole part : List ℕ} (m r : List ℕ) → At s from (m ++ r) → DottedDigits m whole part → Stops r → NoDot r → ScannedAs s negative from whole part r
 number-of {s} negative {from} {whole} {part} m r h d a b = go part (d .second) (d .writes)
   where
-    go : (p : List ℕ) → AllDigits p → (m ≡ whole ++ (46 ∷ p)) ⊎ ((m ≡ whole) × (p ≡ [])) → Numbered s negative from whole p r
+    go : (p : List ℕ) → AllDigits p → (m ≡ whole ++ (46 ∷ p)) ⊎ ((m ≡ whole) × (p ≡ [])) → ScannedAs s negative from whole p r
     go p q (inl e) =
         let z : m ++ r ≡ whole ++ (46 ∷ (p ++ r)) = ap (λ (l : List ℕ). l ++ r) e ∙ append-assoc whole (46 ∷ p) r in
         numbered-dot negative whole p r (rw z at h) (d .first) q a
@@ -95,7 +95,7 @@ pub record Found (s : List ℕ) (x : Numeral) : Type 0 where
 
 module _ (s : List ℕ) (x : Numeral) (u : Unsigned s s 0) where
   finish : (m whole part r : List ℕ) → u .body ≡ m ++ r → AllDigits whole → AllDigits part → (m ≡ whole ++ (46 ∷ part)) ⊎ ((m ≡ whole) × (part ≡ [])) →
-      Numbered s (minusFirst s) (afterSign s 0) whole part r → numberAt s (minusFirst s) (afterSign s 0) ≡ scanned.Is x → Found s x
+      ScannedAs s (minusFirst s) (afterSign s 0) whole part r → numberAt s (minusFirst s) (afterSign s 0) ≡ scanned.Is x → Found s x
   finish m whole part r e a b w N h =
       let k = ended-sound r (length whole + length part) (numeralOf (minusFirst s) whole part) x (N .place) (sym (N .is) ∙ h) in
       let d : DottedDigits m whole part = record { first = a; second = b; some = k .0; writes = w } in

@@ -1,14 +1,14 @@
 -- A number in a range between two powers of two is finite and above zero, and lies between them as a fraction. Assumes nothing.
-use mathlib.Core.Path.{_≡_, sym, ap, subst}
+use mathlib.Core.Path.{_≡_, refl, sym, ap, subst}
 use mathlib.Core.Bool.{Bool, true, false, not, _&&_}
 use Prim.Native.Nat.{ℕ, suc, _*_, _^_, _≤_, _<_}
 use native.Mathlib.Nat.{mul-one, one-mul, le-trans, le-of-eq}
 use lib.IntN.{ℤ, pos, negsuc}
 use lib.Dec.{T, ltb→lt}
-use lib.Ieee.{Float, nan, inf, fin, up, down, le, isNan}
+use lib.Ieee.{Float, nan, inf, fin, up, down, le, lt, eq, isNan}
 use lib.Ieee.Scale.{finite}
 use lib.Ieee.Positive.{num, den, positive, le→cross, between}
-use Rattle.floats.specs.Ranges.{inReach, inSearch, inGenerator, inPitch}
+use Rattle.floats.specs.Ranges.{within, inReach, inSearch, inGenerator, inPitch}
 
 -- both tests hold
 pub and-true : (a b : Bool) → a && b ≡ true → T a × T b
@@ -56,3 +56,10 @@ generator-says x = within-says 31 32 x
 
 pub pitch-says : (x : Float) → inPitch x ≡ true → Within 10 20 x
 pitch-says x = within-says 9 20 x
+
+-- "a NaN lies in no range"
+pub nan-in-no-range : (low high : Float) → within low high nan ≡ false
+unfolding le lt eq
+nan-in-no-range nan high = refl
+nan-in-no-range (inf s) high = refl
+nan-in-no-range (fin s m e) high = refl

@@ -57,6 +57,6 @@ leastI32 = fin true 1 (pos 31)
 abbrev pub pastI32 : Float
 pastI32 = twoTo (pos 31)
 
--- the whole part of q as an i32; 18 outside, a NaN included
+-- a whole q as an i32: 18 outside -2 ^ 31..2 ^ 31, the end left out, and for a NaN
 abbrev pub count : Float → Said ℤ
 count q = pick (le leastI32 q && lt q pastI32) (gives (toSigned 31 q)) (refuses beyond-reach 0)

@@ -103,7 +103,7 @@ pub fn div_euclid(a: f64, b: f64) -> f64
     }
 }
 
-// The whole part of q as an i32: 18 where it leaves i32.
+// A whole q as an i32: 18 outside -2^31..2^31, the end left out, and for a NaN.
 pub fn count_of(q: f64) -> integer_math::I32Answer
     ensures { λ r. ⌜ saysI32 r ≡ count q ⌝ }
 {

@@ -1,5 +1,5 @@
 -- Document 01, "Lines", integers: what the readers compute, once over width and sign (the numbers below top and, if signed,
--- down to -top). `IntegerText` says what an integer is, `proofs/IntegerLanguage` that the two agree. Assumes nothing.
+-- down to -top). `IntegerText` says what an integer is, `proofs/Language` that the two agree. Assumes nothing.
 use mathlib.Core.List.{List, [], _∷_}
 use mathlib.Core.Bool.{Bool, false}
 use Prim.Native.Nat.{ℕ, _+_, _-_, _*_}

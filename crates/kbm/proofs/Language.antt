@@ -15,7 +15,7 @@ use Rattle.base.proofs.Division.{floor-divides}
 use Rattle.base.proofs.Integers.{bool-cases}
 use Rattle.key.specs.declared.PianoKey.{PianoKey}
 use Rattle.kbm.specs.Degree.{degreeOfEntry, degreeAt, degreeOf}
-use Rattle.kbm.specs.Keys.{within, distance, Reaches, Has, Lacks, Gap, Passes}
+use Rattle.kbm.specs.Keys.{inKeys, distance, Reaches, Has, Lacks, Gap, Passes}
 use Rattle.kbm.specs.declared.Entry.{Entry}
 use Rattle.kbm.specs.declared.Entry.the-variants.{Mapped, Unmapped}
 use Rattle.kbm.specs.declared.Kbm.{Kbm}
@@ -34,7 +34,7 @@ module _ (kbm : Kbm) (es : List Entry) (key : PianoKey) where
   d = distance kbm key
 
   -- ---- the answer is one of the cases
-  module _ (w : within kbm key ≡ true) (n : inI32 d ≡ true) where
+  module _ (w : inKeys kbm key ≡ true) (n : inI32 d ≡ true) where
     has-entry : (q : ℤ) (e : Entry) → Reaches es d q e → Has kbm es key (degreeOfEntry e q (kbm .octave))
     has-entry q Unmapped at = Has.none w n q at refl
     has-entry q (Mapped e) at = go (inI32 (e +ℤ q *ℤ kbm .octave)) refl
@@ -43,25 +43,25 @@ module _ (kbm : Kbm) (es : List Entry) (key : PianoKey) where
         go true h = rw (held-yes _ h) (Has.degree w n q e at h refl)
         go false h = rw (held-no _ h) (Has.passed w n q e at h refl)
 
-  has-near : (l : ℕ) → length es ≡ l → within kbm key ≡ true → inI32 d ≡ true → Has kbm es key (degreeAt d (kbm .octave) es)
+  has-near : (l : ℕ) → length es ≡ l → inKeys kbm key ≡ true → inI32 d ≡ true → Has kbm es key (degreeAt d (kbm .octave) es)
   has-near zero l w n = rw (degree-none d (kbm .octave) es l) (Has.plain w n l refl)
   has-near (suc k) l w n =
       let by = floor-divides d (length es) (omega (arith, l)) in
       rw (degree-by (kbm .octave) es by) (has-entry w n (floorDiv d (length es)) _ (record { place = floorMod d (length es); counted = by; found = refl }))
 
   pub has : Has kbm es key (degreeOf kbm es key)
-  has = go (within kbm key) refl
+  has = go (inKeys kbm key) refl
     where
-      near : (t : Bool) → inI32 d ≡ t → within kbm key ≡ true → Has kbm es key (andThen (held d) (λ z. degreeAt z (kbm .octave) es))
+      near : (t : Bool) → inI32 d ≡ t → inKeys kbm key ≡ true → Has kbm es key (andThen (held d) (λ z. degreeAt z (kbm .octave) es))
       near true n w = rw (held-yes d n) (has-near (length es) refl w n)
       near false n w = rw (held-no d n) (Has.far w n refl)
 
-      go : (t : Bool) → within kbm key ≡ t → Has kbm es key (pick t (andThen (held d) (λ z. degreeAt z (kbm .octave) es)) (refuses key-out-of-range 0))
+      go : (t : Bool) → inKeys kbm key ≡ t → Has kbm es key (pick t (andThen (held d) (λ z. degreeAt z (kbm .octave) es)) (refuses key-out-of-range 0))
       go true w = near (inI32 d) refl w
       go false w = Has.outside w refl
 
   -- ---- and there is no other answer
-  reached : {s : Said ℤ} (q : ℤ) (e : Entry) → within kbm key ≡ true → inI32 d ≡ true → Reaches es d q e → s ≡ degreeOfEntry e q (kbm .octave) → s ≡ degreeOf kbm es key
+  reached : {s : Said ℤ} (q : ℤ) (e : Entry) → inKeys kbm key ≡ true → inI32 d ≡ true → Reaches es d q e → s ≡ degreeOfEntry e q (kbm .octave) → s ≡ degreeOf kbm es key
   reached q e w n at p = rw (w, held-yes d n, degree-by (kbm .octave) es (at .counted), at .found) p
 
   pub has-one : {s : Said ℤ} → Has kbm es key s → s ≡ degreeOf kbm es key
@@ -89,7 +89,7 @@ passed-lacks p (inl e) = omega (arith, same-number p e)
 passed-lacks p (inr e) = omega (arith, same-number p e)
 
 module _ (kbm : Kbm) (es : List Entry) (key : PianoKey) where
-  lacks-there : {s : Said ℤ} → Has kbm es key s → Lacks s → (within kbm key ≡ false) ⊎ Gap kbm es key
+  lacks-there : {s : Said ℤ} → Has kbm es key s → Lacks s → (inKeys kbm key ≡ false) ⊎ Gap kbm es key
   lacks-there (Has.outside w p) l = inl w
   lacks-there (Has.far w n p) l = absurd (passed-lacks p l)
   lacks-there (Has.plain w n e p) l = absurd (given-lacks p l)
@@ -97,15 +97,15 @@ module _ (kbm : Kbm) (es : List Entry) (key : PianoKey) where
   lacks-there (Has.passed w n q e at h p) l = absurd (passed-lacks p l)
   lacks-there (Has.degree w n q e at h p) l = absurd (given-lacks p l)
 
-  lacks-back : (within kbm key ≡ false) ⊎ Gap kbm es key → Lacks (degreeOf kbm es key)
+  lacks-back : (inKeys kbm key ≡ false) ⊎ Gap kbm es key → Lacks (degreeOf kbm es key)
   lacks-back (inl w) = inl (sym (has-one kbm es key (Has.outside w refl)))
   lacks-back (inr g) = inr (sym (has-one kbm es key (Has.none (g .inside) (g .near) (g .quotient) (g .reached) refl)))
 
   -- a key lacks a degree exactly when it is outside the range, or the entry reached by counting round is unmapped
-  pub lacks : Lacks (degreeOf kbm es key) ↔ ((within kbm key ≡ false) ⊎ Gap kbm es key)
+  pub lacks : Lacks (degreeOf kbm es key) ↔ ((inKeys kbm key ≡ false) ⊎ Gap kbm es key)
   lacks = (lacks-there (has kbm es key), lacks-back)
 
-  module _ (w : within kbm key ≡ true) where
+  module _ (w : inKeys kbm key ≡ true) where
     overflow-there : {s : Said ℤ} → Has kbm es key s → s ≡ refuses overflow 0 → (inI32 (distance kbm key) ≡ false) ⊎ Passes kbm es key
     overflow-there (Has.outside o p) e = absurd (omega (arith, same-number p e))
     overflow-there (Has.far v n p) e = inl n

@@ -10,7 +10,7 @@ use lib.ListN.{length}
 use borrow.Author.Tests.{le-leb}
 use Rattle.base.specs.Said.{gives}
 use Rattle.key.specs.Keys.{key}
-use Rattle.kbm.specs.Builder.{builderOf, withOctave, fitsTable, Built, pushedAll, Appended, built, mapping}
+use Rattle.kbm.specs.Builder.{builderOf, withOctave, fitsTable, Built, pushedAll, Appended, built, mapping, empty}
 use Rattle.kbm.specs.Root.{isRoot}
 use Rattle.kbm.specs.Table.{AreI16, areEntries, entriesOf, isTable, tableOf}
 use Rattle.kbm.specs.declared.Entry.{Entry}
@@ -19,10 +19,6 @@ use Rattle.kbm.specs.declared.builder.KbmBuilder.{KbmBuilder}
 use Rattle.kbm.specs.declared.builder.Octave.the-variants.{Given, Missing}
 use Rattle.kbm.proofs.Appends.{run-appends}
 use Rattle.kbm.proofs.Pushes.{fitting}
-
--- a builder with nothing pushed
-abbrev pub empty : KbmRoot → List ℤ → KbmBuilder
-empty root map = record { root = root; start = key (pos 0); end = key (pos 128); octave = Missing; room = length map; count = 0 }
 
 module _ (root : KbmRoot) (map : List ℤ) where
   pub new-is-empty : isRoot root ≡ true → builderOf root map ≡ gives (empty root map)

@@ -18,7 +18,7 @@ use Rattle.pitch.specs.declared.Pitch.{Pitch}
 use Rattle.kbm.specs.Answers.{saysRoot, saysDegree, saysKbm, saysBuilder}
 use Rattle.kbm.specs.Builder.{builderOf, withRange, withOctave, fitsTable, pushed, afterPush, isReady, kbmWith, kbmOf, built, OctaveIs, mapping, Leaves}
 use Rattle.kbm.specs.Degree.{degreeOf, scaleDegreeOf}
-use Rattle.kbm.specs.Keys.{within, distance, Has, Lacks, Gap, Passes}
+use Rattle.kbm.specs.Keys.{inKeys, distance, Has, Lacks, Gap, Passes}
 use Rattle.kbm.specs.Root.{rootOf, isRoot}
 use Rattle.kbm.specs.Table.{numberOf, isTable, tableOf}
 use Rattle.kbm.specs.declared.DegreeAnswer.the-variants as OfDegree
@@ -56,11 +56,11 @@ module _ (kbm : Kbm) (map : List ℤ) (key : PianoKey) where
 
     -- a key lacks a degree exactly when it is outside the range, or the table has entries and the one reached by counting round from
     -- the reference key is unmapped
-    pub key-lacks : Lacks (scaleDegreeOf kbm map key) ↔ ((within kbm key ≡ false) ⊎ Gap kbm (tableOf (kbm .count) map) key)
+    pub key-lacks : Lacks (scaleDegreeOf kbm map key) ↔ ((inKeys kbm key ≡ false) ⊎ Gap kbm (tableOf (kbm .count) map) key)
     key-lacks = rw table-used (lacks kbm (tableOf (kbm .count) map) key)
 
     -- in the range, 11 exactly when the distance or the degree passes 32 bits
-    pub key-overflows : within kbm key ≡ true → (scaleDegreeOf kbm map key ≡ refuses overflow 0) ↔ ((inI32 (distance kbm key) ≡ false) ⊎ Passes kbm (tableOf (kbm .count) map) key)
+    pub key-overflows : inKeys kbm key ≡ true → (scaleDegreeOf kbm map key ≡ refuses overflow 0) ↔ ((inI32 (distance kbm key) ≡ false) ⊎ Passes kbm (tableOf (kbm .count) map) key)
     key-overflows w = rw table-used (overflows kbm (tableOf (kbm .count) map) key w)
 
 -- ---- what a build leaves

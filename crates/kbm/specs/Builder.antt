@@ -23,11 +23,12 @@ use Rattle.kbm.specs.declared.builder.Octave.{Octave}
 use Rattle.kbm.specs.declared.builder.Octave.the-variants.{Given, Missing}
 
 -- a builder with nothing pushed: keys 0..127, no formal octave, and the table's room
+abbrev pub empty : KbmRoot → List ℤ → KbmBuilder
+empty root map = record { root = root; start = key (pos 0); end = key (pos 128); octave = Missing; room = length map; count = 0 }
+
+-- "A root gives 10 by the pitch limits"
 abbrev pub builderOf : KbmRoot → List ℤ → Said KbmBuilder
-builderOf root map =
-    pick (isRoot root)
-    (gives (record { root = root; start = key (pos 0); end = key (pos 128); octave = Missing; room = length map; count = 0 }))
-    (refuses unusable 0)
+builderOf root map = pick (isRoot root) (gives (empty root map)) (refuses unusable 0)
 
 -- the same builder for keys from start up to, not including, end
 abbrev pub withRange : KbmBuilder → PianoKey → PianoKey → KbmBuilder

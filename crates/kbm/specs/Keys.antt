@@ -17,8 +17,8 @@ use Rattle.kbm.specs.declared.Entry.the-variants.{Mapped, Unmapped}
 use Rattle.kbm.specs.declared.Kbm.{Kbm}
 
 -- the key is in first..last
-abbrev pub within : Kbm → PianoKey → Bool
-within kbm key = inRange (kbm .start) (kbm .end) key
+abbrev pub inKeys : Kbm → PianoKey → Bool
+inKeys kbm key = inRange (kbm .start) (kbm .end) key
 
 -- d: the keys from the reference key up to this one
 abbrev pub distance : Kbm → PianoKey → ℤ
@@ -32,13 +32,13 @@ pub record Reaches (es : List Entry) (d : ℤ) (q : ℤ) (e : Entry) : Type 0 wh
 
 -- what is said of a key, case by case in 01's order
 pub data Has (kbm : Kbm) (es : List Entry) (key : PianoKey) (s : Said ℤ) : Type 0 where
-  outside : within kbm key ≡ false → s ≡ refuses key-out-of-range 0 → Has kbm es key s
-  far : within kbm key ≡ true → inI32 (distance kbm key) ≡ false → s ≡ refuses overflow 0 → Has kbm es key s
-  plain : within kbm key ≡ true → inI32 (distance kbm key) ≡ true → length es ≡ 0 → s ≡ gives (distance kbm key) → Has kbm es key s
-  none : within kbm key ≡ true → inI32 (distance kbm key) ≡ true → (q : ℤ) → Reaches es (distance kbm key) q Unmapped → s ≡ refuses unmapped-key 0 → Has kbm es key s
-  passed : within kbm key ≡ true → inI32 (distance kbm key) ≡ true → (q e : ℤ) → Reaches es (distance kbm key) q (Mapped e) →
+  outside : inKeys kbm key ≡ false → s ≡ refuses key-out-of-range 0 → Has kbm es key s
+  far : inKeys kbm key ≡ true → inI32 (distance kbm key) ≡ false → s ≡ refuses overflow 0 → Has kbm es key s
+  plain : inKeys kbm key ≡ true → inI32 (distance kbm key) ≡ true → length es ≡ 0 → s ≡ gives (distance kbm key) → Has kbm es key s
+  none : inKeys kbm key ≡ true → inI32 (distance kbm key) ≡ true → (q : ℤ) → Reaches es (distance kbm key) q Unmapped → s ≡ refuses unmapped-key 0 → Has kbm es key s
+  passed : inKeys kbm key ≡ true → inI32 (distance kbm key) ≡ true → (q e : ℤ) → Reaches es (distance kbm key) q (Mapped e) →
       inI32 (e +ℤ q *ℤ kbm .octave) ≡ false → s ≡ refuses overflow 0 → Has kbm es key s
-  degree : within kbm key ≡ true → inI32 (distance kbm key) ≡ true → (q e : ℤ) → Reaches es (distance kbm key) q (Mapped e) →
+  degree : inKeys kbm key ≡ true → inI32 (distance kbm key) ≡ true → (q e : ℤ) → Reaches es (distance kbm key) q (Mapped e) →
       inI32 (e +ℤ q *ℤ kbm .octave) ≡ true → s ≡ gives (e +ℤ q *ℤ kbm .octave) → Has kbm es key s
 
 -- no degree: 16 or 17
@@ -47,7 +47,7 @@ Lacks s = (s ≡ refuses key-out-of-range 0) ⊎ (s ≡ refuses unmapped-key 0)
 
 -- the key is inside, its distance is a number of 32 bits, and the entry that counting round reaches is unmapped
 pub record Gap (kbm : Kbm) (es : List Entry) (key : PianoKey) : Type 0 where
-  pub inside : within kbm key ≡ true
+  pub inside : inKeys kbm key ≡ true
   pub near : inI32 (distance kbm key) ≡ true
   pub quotient : ℤ
   pub reached : Reaches es (distance kbm key) quotient Unmapped

@@ -29,18 +29,18 @@ steep pitch = record {
 }
 
 -- the Rust's own example: entries 0, 4, x, 4, octave 17, keys 10 to 99, reference 62
-abbrev pub shown : Pitch → Kbm
-shown pitch = record { root = record { reference = key (pos 62); pitch = pitch; offset = pos 0 }; start = key (pos 10); end = key (pos 100); octave = pos 17; count = 4 }
+abbrev pub rustExample : Pitch → Kbm
+rustExample pitch = record { root = record { reference = key (pos 62); pitch = pitch; offset = pos 0 }; start = key (pos 10); end = key (pos 100); octave = pos 17; count = 4 }
 
-abbrev pub shownTable : List ℤ
-shownTable = pos 0 ∷ pos 4 ∷ unmapped ∷ pos 4 ∷ []
+abbrev pub rustTable : List ℤ
+rustTable = pos 0 ∷ pos 4 ∷ unmapped ∷ pos 4 ∷ []
 
 pub record Shown (pitch : Pitch) : Type 0 where
-  pub at9 : scaleDegreeOf (shown pitch) shownTable (key (pos 9)) ≡ refuses 16 0
-  pub at10 : scaleDegreeOf (shown pitch) shownTable (key (pos 10)) ≡ gives (negℤ (pos 221))
-  pub at60 : scaleDegreeOf (shown pitch) shownTable (key (pos 60)) ≡ refuses 17 0
-  pub at61 : scaleDegreeOf (shown pitch) shownTable (key (pos 61)) ≡ gives (negℤ (pos 13))
-  pub at62 : scaleDegreeOf (shown pitch) shownTable (key (pos 62)) ≡ gives (pos 0)
-  pub at67 : scaleDegreeOf (shown pitch) shownTable (key (pos 67)) ≡ gives (pos 21)
-  pub at99 : scaleDegreeOf (shown pitch) shownTable (key (pos 99)) ≡ gives (pos 157)
-  pub at100 : scaleDegreeOf (shown pitch) shownTable (key (pos 100)) ≡ refuses 16 0
+  pub at9 : scaleDegreeOf (rustExample pitch) rustTable (key (pos 9)) ≡ refuses 16 0
+  pub at10 : scaleDegreeOf (rustExample pitch) rustTable (key (pos 10)) ≡ gives (negℤ (pos 221))
+  pub at60 : scaleDegreeOf (rustExample pitch) rustTable (key (pos 60)) ≡ refuses 17 0
+  pub at61 : scaleDegreeOf (rustExample pitch) rustTable (key (pos 61)) ≡ gives (negℤ (pos 13))
+  pub at62 : scaleDegreeOf (rustExample pitch) rustTable (key (pos 62)) ≡ gives (pos 0)
+  pub at67 : scaleDegreeOf (rustExample pitch) rustTable (key (pos 67)) ≡ gives (pos 21)
+  pub at99 : scaleDegreeOf (rustExample pitch) rustTable (key (pos 99)) ≡ gives (pos 157)
+  pub at100 : scaleDegreeOf (rustExample pitch) rustTable (key (pos 100)) ≡ refuses 16 0

@@ -16,7 +16,7 @@ use Rattle.base.proofs.Integers.{bool-cases}
 use Rattle.integers.specs.IntegerText.{IntText}
 use Rattle.integers.proofs.Theorems.{one-value}
 use Rattle.kbm.specs.Degree.{scaleDegreeOf}
-use Rattle.kbm.specs.Keys.{within, distance, Reaches, Has, Lacks}
+use Rattle.kbm.specs.Keys.{inKeys, distance, Reaches, Has, Lacks}
 use Rattle.kbm.specs.Table.{isTable, tableOf}
 use Rattle.kbm.specs.declared.Entry.{Entry}
 use Rattle.kbm.specs.declared.Entry.the-variants.{Mapped, Unmapped}

@@ -15,7 +15,7 @@ use Rattle.base.specs.Said.{Said, gives, refuses}
 use Rattle.base.proofs.Division.{divides-one}
 use Rattle.base.proofs.Said.{same-value}
 use Rattle.kbm.specs.Degree.{degreeAt, scaleDegreeOf}
-use Rattle.kbm.specs.Keys.{within, distance, Has}
+use Rattle.kbm.specs.Keys.{inKeys, distance, Has}
 use Rattle.kbm.specs.Table.{areEntries, entriesOf, isTable, tableOf}
 use Rattle.kbm.specs.declared.Entry.{Entry}
 use Rattle.kbm.specs.declared.Entry.the-variants.{Mapped, Unmapped}
@@ -63,10 +63,10 @@ module _ {m : P.Mapping} {kbm : Kbm} {es : List Entry} (a : SameKeys m kbm es) (
   from-middle : key .0 -ℤ m .middle ≡ distance kbm key
   from-middle = ap (λ (z : ℤ). key .0 -ℤ z) (a .middle)
 
-  retuned : within kbm key ≡ true → P.Retuned m (key .0)
+  retuned : inKeys kbm key ≡ true → P.Retuned m (key .0)
   retuned w = rw (a .first, a .last) (inside kbm key w)
 
-  retuned-back : P.Retuned m (key .0) → within kbm key ≡ true
+  retuned-back : P.Retuned m (key .0) → inKeys kbm key ≡ true
   retuned-back r = let q = rw (a .first, a .last) at r in inside-back kbm key (q .0) (q .1)
 
   forth : {s : Said ℤ} → Has kbm es key s → (d : ℤ) → s ≡ gives d → SoundsWithin m (key .0) d
@@ -90,7 +90,7 @@ module _ {m : P.Mapping} {kbm : Kbm} {es : List Entry} (a : SameKeys m kbm es) (
   back : (d : ℤ) → SoundsWithin m (key .0) d → Has kbm es key (gives d)
   back d x = go (x .sounds)
     where
-      w : within kbm key ≡ true
+      w : inKeys kbm key ≡ true
       w = retuned-back (x .retuned)
 
       n : inI32 (distance kbm key) ≡ true

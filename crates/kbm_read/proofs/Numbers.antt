@@ -17,7 +17,7 @@ use Rattle.decimals.specs.declared.DecimalAnswer.the-variants as decimal
 use Rattle.integers.specs.Integer.{Int, value, none, readInt}
 use Rattle.text.specs.Reading.{Meaning, invalid, dropped, content}
 use Rattle.kbm.specs.declared.Kbm.{Kbm}
-use Rattle.kbm_read.specs.Reader.{intAt, goesOn, placed, entryIn, takeDue, takeToken, takeMeaning, whichOf, mappingOf, finished, walk, unread, saidIn, readOf}
+use Rattle.kbm_read.specs.Reader.{intAt, goesOn, entryPlaced, entryIn, takeDue, takeToken, takeMeaning, whichOf, mappingOf, finished, walk, unread, saidIn, readOf}
 use Rattle.kbm_read.specs.declared.line.Due.{Due}
 use Rattle.kbm_read.specs.declared.line.Due.the-variants as due
 use Rattle.kbm_read.specs.declared.line.EntryRead.{EntryRead}
@@ -33,7 +33,7 @@ decimal-numbered k (decimal.Is v) = Numbered.value v
 decimal-numbered k decimal.Unsupported = Numbered.number {n = 9} (omega arith) (omega arith)
 decimal-numbered k decimal.Bad = Numbered.number {n = 7} (omega arith) (omega arith)
 
-placed-numbered : (room k : ℕ) (s : State) (e : EntryRead) → Numbered (placed room k s e)
+placed-numbered : (room k : ℕ) (s : State) (e : EntryRead) → Numbered (entryPlaced room k s e)
 placed-numbered room k s (entry.Is e) = numbered-pick (leb room (s .count)) (Numbered.number (omega arith) (omega arith)) (Numbered.value _)
 placed-numbered room k s entry.IsNot = Numbered.number {n = 8} (omega arith) (omega arith)
 

@@ -19,7 +19,7 @@ use Rattle.decimals.specs.declared.DecimalAnswer.{DecimalAnswer}
 use Rattle.decimals.specs.declared.DecimalAnswer.the-variants as decimal
 use Rattle.text.specs.Reading.{Meaning, invalid, dropped, content}
 use Rattle.kbm_read.specs.Language.{Required, Value, required}
-use Rattle.kbm_read.specs.Reader.{intAt, goesOn, placed, entryIn, takeDue, takeToken, takeMeaning, whichOf, mappingOf, finished, unread, walk}
+use Rattle.kbm_read.specs.Reader.{intAt, goesOn, entryPlaced, entryIn, takeDue, takeToken, takeMeaning, whichOf, mappingOf, finished, unread, walk}
 use Rattle.kbm_read.specs.declared.line.Due.{Due}
 use Rattle.kbm_read.specs.declared.line.Due.the-variants as due
 use Rattle.kbm_read.specs.declared.line.EntryRead.{EntryRead}
@@ -120,7 +120,7 @@ module _ (k : ℕ) {n : ℕ} (z : n ≡ 0) where
   pitch-place decimal.Unsupported w d = refl
   pitch-place decimal.Bad w d = refl
 
-entry-place : (room k : ℕ) (s : State) (r : EntryRead) → entryOn room k (s .head) (s .count) r ≡ placesOf (placed room k s r)
+entry-place : (room k : ℕ) (s : State) (r : EntryRead) → entryOn room k (s .head) (s .count) r ≡ placesOf (entryPlaced room k s r)
 entry-place room k s (entry.Is e) = go (leb room (s .count))
   where
     go : (b : Bool) → pick b (refuses no-room k) (gives (record { fields = []; head = s .head; count = s .count + 1 })) ≡

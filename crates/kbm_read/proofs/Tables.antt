@@ -21,7 +21,7 @@ use Rattle.integers.specs.IntegerText.{IntText}
 use Rattle.kbm_read.specs.Language.{EntryText, Entries, blanks, sizeOf, MappingText}
 use Rattle.kbm_read.specs.Reader.{readOf, entriesIn, afterRead}
 use Rattle.kbm_read.proofs.Ends.{length-added}
-use Rattle.kbm_read.proofs.Language.{accepted}
+use Rattle.kbm_read.proofs.Language.{accepted, accepts}
 
 -- an integer that is read is within its type
 pub typed-int : (top most : ℕ) {t : List ℕ} {z : ℤ} → top ≤ suc most → IntText true top t z → leZ (negsuc most) z && leZ z (pos most) ≡ true
@@ -76,3 +76,11 @@ module _ (text : List ℕ) (old : List ℤ) {x : Kbm} (e : readOf (length old) t
       let n : length es ≡ x .count = omega (arith, ap length (t .entries), length-added (sizeOf (t .values)) (t .given), t .consistent) in
       let r = over-table old es (text-typed t) (omega (arith, a .1)) in
       rw e (rw n at r)
+
+-- the same by the language: what is left are the entries that the text says
+pub leaves-meaning : (text : List ℕ) (old : List ℤ) (x : Kbm) (es : List Entry) → MappingText text x es → length es ≤ length old →
+    (isTable (x .count) (afterRead text old) ≡ true) × (tableOf (x .count) (afterRead text old) ≡ es)
+leaves-meaning text old x es t h =
+    let a = accepts (length old) text x es .1 (t, h) in
+    let l = leaves-table text old (a .0) in
+    (l .0, l .1 ∙ a .1)

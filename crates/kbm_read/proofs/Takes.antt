@@ -26,8 +26,7 @@ use Rattle.integers.specs.declared.I16.{I16}
 use Rattle.integers.specs.declared.I32.{I32}
 use Rattle.integers.specs.declared.I32.the-variants as i32
 use Rattle.decimals.proofs.DecimalAnswer.{the-type}
-use Rattle.text.proofs.Shown.{Within}
-use Rattle.text.specs.ReadLine.{part, shown}
+use Rattle.text.specs.ReadLine.{part, shown, InText}
 use Rattle.text.specs.declared.line.LineSays.{LineSays}
 use Rattle.text.specs.declared.line.LineSays.the-variants.{Content}
 use Rattle.kbm.specs.declared.Entry.{Entry}
@@ -157,7 +156,7 @@ unfolding entryIn
 degree-is t n e q = rw (n, ← e, q)
 
 -- the token of a line lies in the text
-pub token-within : (text : List ℕ) {x : LineSays} {a e t : ℕ} → Within text x → x ≡ Content a e t → (a ≤ t) × (t ≤ length text)
+pub token-within : (text : List ℕ) {x : LineSays} {a e t : ℕ} → InText text x → x ≡ Content a e t → (a ≤ t) × (t ≤ length text)
 token-within text h q = let w = rw q at h in (w .0, omega (arith, w .1, w .2))
 
 -- what a line gives the table, as a match told it

@@ -19,7 +19,7 @@ use Rattle.decimals.specs.declared.DecimalAnswer.the-variants as decimal
 use Rattle.text.specs.Cut.{lines}
 use Rattle.text.specs.ReadLine.{meanings}
 use Rattle.text.specs.Reading.{Meaning, invalid, dropped, content}
-use Rattle.kbm_read.specs.Reader.{saysStep, intAt, goesOn, pitchSaid, placed, entryIn, takeDue, takeToken, takeMeaning, finished, walk, saidIn}
+use Rattle.kbm_read.specs.Reader.{saysStep, intAt, goesOn, pitchSaid, entryPlaced, entryIn, takeDue, takeToken, takeMeaning, finished, walk, saidIn}
 use Rattle.kbm_read.specs.declared.line.Due.{Due}
 use Rattle.kbm_read.specs.declared.line.Due.the-variants as due
 use Rattle.kbm_read.specs.declared.line.EntryRead.{EntryRead}
@@ -92,7 +92,7 @@ module _ (s s′ : State) where
   required-early : {d : Due} → Next d s′ → Early d 0 → Early (s′ .due) (s′ .count)
   required-early n e = rw (n .0, n .1) e
 
-  entry-early : (room k : ℕ) (r : EntryRead) → placed room k s r ≡ gives s′ → Early (s′ .due) (s′ .count)
+  entry-early : (room k : ℕ) (r : EntryRead) → entryPlaced room k s r ≡ gives s′ → Early (s′ .due) (s′ .count)
   entry-early room k (entry.Is e) q = go (leb room (s .count)) q
     where
       go : (b : Bool) → pick b (refuses no-room k) (gives (record { due = due.Entries; head = s .head; count = s .count + 1 })) ≡ gives s′ → Early (s′ .due) (s′ .count)

@@ -115,12 +115,12 @@ unfoldable pub entryIn : List ℕ → EntryRead
 entryIn t = pick (isCross t) (entry.Is Unmapped) (degreeIn (readInt true (2 ^ 15) t))
 
 -- an entry takes a place: 8, and 12 where there is none
-abbrev pub placed : ℕ → ℕ → State → EntryRead → Said State
-placed room k s (entry.Is e) = pick (leb room (s .count)) (refuses no-room k) (gives (record { due = due.Entries; head = s .head; count = s .count + 1 }))
-placed room k s entry.IsNot = refuses keyboard-mapping k
+abbrev pub entryPlaced : ℕ → ℕ → State → EntryRead → Said State
+entryPlaced room k s (entry.Is e) = pick (leb room (s .count)) (refuses no-room k) (gives (record { due = due.Entries; head = s .head; count = s .count + 1 }))
+entryPlaced room k s entry.IsNot = refuses keyboard-mapping k
 
 abbrev pub takeEntry : ℕ → ℕ → List ℕ → State → Said State
-takeEntry room k t s = placed room k s (entryIn t)
+takeEntry room k t s = entryPlaced room k s (entryIn t)
 
 -- the token of the line that is due
 abbrev pub takeDue : ℕ → ℕ → List ℕ → State → Due → Said State

@@ -26,8 +26,7 @@ ghost use lib.ListN.{length};
 ghost use Rattle.base.specs.Tables.{over};
 ghost use Rattle.kbm.specs.Answers.{saysKbm};
 ghost use Rattle.kbm.specs.Table.{numbersOf};
-ghost use Rattle.text.specs.ReadLine.{shown};
-ghost use Rattle.text.proofs.Shown.{Within};
+ghost use Rattle.text.specs.ReadLine.{shown, InText};
 ghost use Rattle.kbm_read.specs.Reader.{unread, whichOf, mappingOf, finished, readOf, foundIn, givenIn, afterRead, padded};
 
 // What a line gives the table: an entry, nothing, or nothing since it is a required line.
@@ -155,7 +154,7 @@ fn check(text: &[u8], room: usize) -> KbmAnswer
 
 // What a line gives the table, where so many of the seven required lines are still to come.
 fn found_in(text: &[u8], says: LineSays, required: usize) -> Found
-    requires { ⌜ Within (now text) says ⌝ }
+    requires { ⌜ InText (now text) says ⌝ }
     ensures { λ r. ⌜ r ≡ foundIn required (shown (now (text .entry)) says) ⌝ }
 {
     match says {

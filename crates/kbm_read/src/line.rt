@@ -12,8 +12,7 @@ use kbm::Entry;
 use text::line::LineSays;
 ghost use mathlib.Core.Path.{_≡_};
 ghost use Rattle.base.specs.Said.{refuses};
-ghost use Rattle.text.specs.ReadLine.{shown};
-ghost use Rattle.text.proofs.Shown.{Within};
+ghost use Rattle.text.specs.ReadLine.{shown, InText};
 ghost use Rattle.kbm_read.specs.Reader.{saysStep, goesOn, decimalRefused, takeEntry, entryIn, takeToken, takeMeaning};
 
 // What the next line with content is: one of the seven required ones, or an entry.
@@ -200,7 +199,7 @@ fn take_token(token: &[u8], line: usize, room: usize, state: State) -> Step
 
 // A line of the text: 1 where it is not UTF-8, and nothing new where it drops out.
 pub fn take_line(text: &[u8], says: LineSays, line: usize, room: usize, state: State) -> Step
-    requires { ⌜ Within (now text) says ⌝ }
+    requires { ⌜ InText (now text) says ⌝ }
     ensures { λ r. ⌜ saysStep r ≡ takeMeaning room line (shown (now (text .entry)) says) state ⌝ }
 {
     match says {

@@ -26,7 +26,7 @@ use Rattle.kbm.specs.declared.Entry.the-variants.{Mapped, Unmapped}
 use Rattle.kbm.specs.declared.Kbm.{Kbm}
 use Rattle.kbm.proofs.Entries.{mag-i16}
 use Rattle.kbm_write.specs.Export.{line, linesText, lastOf, middleOf, entryText, entryTexts, exportText, fitted, exportOf, Writable}
-use Rattle.kbm_write.specs.Typed.{Typed}
+use Rattle.kbm_write.specs.Typed.{Typed, OfTypes}
 use Rattle.kbm_write.proofs.Lines.{length-line, lines-cons, five-length}
 use Rattle.kbm_write.proofs.Printed.{pitch-few}
 use Rattle.kbm_write.proofs.Room.{four-length}
@@ -121,14 +121,6 @@ module _ (kbm : Kbm) (map : List ℤ) where
       go true true false d f h i j k q = let z : _≡_ {A = ℕ} 0 1 = cc in absurd (omega arith)
       go true false c d f h i j k q = let z : _≡_ {A = ℕ} 0 1 = cc in absurd (omega arith)
       go false b c d f h i j k q = let z : _≡_ {A = ℕ} 0 1 = cc in absurd (omega arith)
-
--- the numbers of a mapping are of their types, as those of every `Kbm` of the program are
-pub record OfTypes (kbm : Kbm) : Type 0 where
-  pub start : inI32 (kbm .start .0) ≡ true
-  pub end : inI32 (kbm .end .0) ≡ true
-  pub reference : inI32 (kbm .root .reference .0) ≡ true
-  pub octave : inI16 (kbm .octave) ≡ true
-  pub count : kbm .count ≤ 65535
 
 module _ (kbm : Kbm) (map : List ℤ) (y : OfTypes kbm) where
   text-short : Writable kbm map → length (exportText kbm (tableOf (kbm .count) map)) ≤ 73 + 7 * kbm .count

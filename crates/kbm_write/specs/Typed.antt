@@ -24,3 +24,11 @@ pub record Typed (kbm : Kbm) (es : List Entry) : Type 0 where
   pub middle : inI32 (middleOf kbm) ≡ true
   pub degrees : AreI16 es
   pub counted : length es ≡ kbm .count
+
+-- the numbers of a mapping are of their types, as those of every `Kbm` of the program are
+pub record OfTypes (kbm : Kbm) : Type 0 where
+  pub start : inI32 (kbm .start .0) ≡ true
+  pub end : inI32 (kbm .end .0) ≡ true
+  pub reference : inI32 (kbm .root .reference .0) ≡ true
+  pub octave : inI16 (kbm .octave) ≡ true
+  pub count : kbm .count ≤ 65535

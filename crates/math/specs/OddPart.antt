@@ -9,7 +9,7 @@ pub data OddPart (n m : ℕ) : Type 0 where
   none : n ≡ 0 → m ≡ 0 → OddPart n m
   odd : (k : ℕ) → n ≡ m * 2 ^ k → m % 2 ≡ 1 → OddPart n m
 
--- n halvedWhileEven while it is even, at most so many times
+-- n halved while it is even, at most so many times
 unfoldable pub halvedWhileEven : ℕ → ℕ → ℕ
 halvedWhileEven zero n = n
 halvedWhileEven (suc k) n = pick (eqb (n % 2) 0) (halvedWhileEven k (n / 2)) n

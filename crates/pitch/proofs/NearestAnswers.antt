@@ -24,13 +24,13 @@ use Rattle.math.specs.OddPart.{halvedWhileEven}
 use Rattle.explog.specs.Rules.{E, L, logOf, powerOf, floorOf}
 use Rattle.explog.proofs.Reach.{log-sized, exp-within, sized-powers}
 use Rattle.pitch.specs.Given.{computed}
-use Rattle.pitch.specs.NearestFraction.{fraction, walkOf, widest, turns, walked, endOf, floatOf, bothOver, bothWithin, improved, passed, turnAt, turnOf, bestFor, nearestFraction}
+use Rattle.pitch.specs.NearestFraction.{fraction, walkOf, widest, turns, walked, endOf, floatOf, bothOver, bothWithin, improved, passed, turnAt, turnOf, bestFor, nearestFraction, Proper}
 use Rattle.pitch.specs.Ratios.{fromOctaves, upward}
 use Rattle.pitch.specs.declared.nearest.Fraction.{Fraction}
 use Rattle.pitch.specs.declared.nearest.Step.{Step}
 use Rattle.pitch.specs.declared.nearest.Step.the-variants.{On, Done}
 use Rattle.pitch.specs.declared.nearest.Walk.{Walk}
-use Rattle.pitch.proofs.States.{Proper, State, Any, Counted, after, past, state-rest}
+use Rattle.pitch.proofs.States.{State, Any, Counted, after, past, state-rest}
 
 reach-of : {a b : ℕ} {x : Float} → a ≤ 900 → b ≤ 900 → Within a b x → inReach x ≡ true
 reach-of h k w = within-reach (within-more h k w)

@@ -13,12 +13,12 @@ use Rattle.floats.proofs.Between.{within-more, within-reach}
 use Rattle.floats.proofs.Ranges.{Within}
 use Rattle.explog.specs.Rules.{L}
 use Rattle.math.specs.OddPart.{halvedWhileEven}
-use Rattle.pitch.specs.NearestFraction.{fraction, widest, turns, walked, floatOf, bothOver, bothWithin, turnAt, turnOf, bestFor, nearestFraction}
+use Rattle.pitch.specs.NearestFraction.{fraction, widest, turns, walked, floatOf, bothOver, bothWithin, turnAt, turnOf, bestFor, nearestFraction, noFraction, InLimit, Proper}
 use Rattle.pitch.specs.Ratios.{upward}
 use Rattle.pitch.specs.declared.nearest.NearestFraction.{NearestFraction}
 use Rattle.pitch.specs.declared.nearest.Walk.{Walk}
 use Rattle.pitch.proofs.NearestAnswers.{Reduced, reduced, deviation-reach, middle-proper, counted}
-use Rattle.pitch.proofs.States.{Proper, Counted, state-walked}
+use Rattle.pitch.proofs.States.{Counted, state-walked}
 use Rattle.pitch.proofs.WalkEnds.{walked-end}
 
 -- "gives 10 for a ratio outside 2^-64..2^64"
@@ -29,11 +29,6 @@ nearest-refuses r limit h = rw h
 -- "and else follows its loop": it answers, and nothing on the way gives 18
 pub nearest-answers : (r : Float) (limit : ℕ) → fits binary64 r ≡ true → inSearch r ≡ true → (q : NearestFraction) × (nearestFraction r limit ≡ gives q)
 nearest-answers r limit f s = let d = reduced r f s in (bestFor (div binary64 r (d .power)) (d .whole) limit, d .nearest-is limit)
-
--- ---- "odd limit 0 answers 0/0 with infinite deviation"
--- 0/0 with infinite deviation, and the octaves that were taken off
-abbrev pub noFraction : ℤ → NearestFraction
-noFraction octaves = record { numer = 0; denom = 0; deviation = record { 0 = inf false }; «num_octaves» = octaves }
 
 -- the walk ends where it starts
 pub walk-limit-zero : (target : Float) → walked turns widest target 0 ≡ widest
@@ -70,20 +65,14 @@ walk-in-reach {r} d limit k n m p q h g =
     let target = div binary64 r (d .power) in
     deviation-reach target (fraction n m) (d .target-within) (middle-proper (state-walked target limit k) n m p q h g)
 
--- what is answered with any other limit: a fraction within it, with a deviation in the range
-pub record Answers (limit : ℕ) (q : NearestFraction) : Type 0 where
-  pub proper : Proper (fraction (q .numer) (q .denom))
-  pub within : bothWithin (fraction (q .numer) (q .denom)) limit ≡ true
-  pub deviation : inReach (q .deviation .0) ≡ true
-
-answers-best : (target : Float) (octaves : ℤ) (limit : ℕ) → 1 ≤ limit → Within 128 128 target → Answers limit (bestFor target octaves limit)
+answers-best : (target : Float) (octaves : ℤ) (limit : ℕ) → 1 ≤ limit → Within 128 128 target → InLimit limit (bestFor target octaves limit)
 unfolding bestFor
 answers-best target octaves limit l t = go (walked turns widest target limit) (counted target limit l t .best)
   where
-    go : (w : Walk) → Counted target limit (w .best) (w .deviation) → Answers limit (record { numer = w .best .numer; denom = w .best .denom; deviation = record { 0 = w .deviation }; «num_octaves» = octaves })
+    go : (w : Walk) → Counted target limit (w .best) (w .deviation) → InLimit limit (record { numer = w .best .numer; denom = w .best .denom; deviation = record { 0 = w .deviation }; «num_octaves» = octaves })
     go w c = record { proper = c .proper; within = c .within; deviation = ap inReach (c .deviation) ∙ deviation-reach target (w .best) t (c .proper) .0 }
 
-pub nearest-within : (r : Float) (limit : ℕ) (q : NearestFraction) → fits binary64 r ≡ true → inSearch r ≡ true → 1 ≤ limit → nearestFraction r limit ≡ gives q → Answers limit q
+pub nearest-within : (r : Float) (limit : ℕ) (q : NearestFraction) → fits binary64 r ≡ true → inSearch r ≡ true → 1 ≤ limit → nearestFraction r limit ≡ gives q → InLimit limit q
 nearest-within r limit q f s l h =
     let d = reduced r f s in
-    subst (Answers limit) (same-value _ _ (sym (d .nearest-is limit) ∙ h)) (answers-best (div binary64 r (d .power)) (d .whole) limit l (d .target-within))
+    subst (InLimit limit) (same-value _ _ (sym (d .nearest-is limit) ∙ h)) (answers-best (div binary64 r (d .power)) (d .whole) limit l (d .target-within))

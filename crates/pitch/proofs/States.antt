@@ -8,19 +8,12 @@ use lib.Dec.{ltb}
 use lib.Ieee.{Float, binary64, div, lt}
 use borrow.Author.Tests.{ltb-false}
 use Rattle.base.specs.Said.{pick}
-use Rattle.pitch.specs.NearestFraction.{fraction, walkOf, widest, floatOf, bothOver, bothWithin, improved, passed, turnAt, turnOf, endOf, walked}
+use Rattle.pitch.specs.NearestFraction.{fraction, walkOf, widest, floatOf, bothOver, bothWithin, improved, passed, turnAt, turnOf, endOf, walked, Proper}
 use Rattle.pitch.specs.Ratios.{upward}
 use Rattle.pitch.specs.declared.nearest.Fraction.{Fraction}
 use Rattle.pitch.specs.declared.nearest.Step.{Step}
 use Rattle.pitch.specs.declared.nearest.Step.the-variants.{On, Done}
 use Rattle.pitch.specs.declared.nearest.Walk.{Walk}
-
--- a fraction of 16 bits, above zero and not infinite
-pub record Proper (f : Fraction) : Type 0 where
-  pub numer-some : 1 ≤ f .numer
-  pub denom-some : 1 ≤ f .denom
-  pub numer-held : f .numer ≤ 65535
-  pub denom-held : f .denom ≤ 65535
 
 -- neither fraction is 0/0
 pub record Between (w : Walk) : Type 0 where

@@ -1,14 +1,15 @@
 -- The walk of `nearest_fraction`: document 01, "Scales and searches": it "follows its loop: odd limit 0 answers 0/0 with
 -- infinite deviation", and 10 outside 2^-64..2^64. The Rust's `NearestFraction::for_ratio`, step by step. Assumes nothing.
+use mathlib.Core.Path.{_≡_}
 use mathlib.Core.Bool.{Bool, false, _&&_}
-use Prim.Native.Nat.{ℕ, zero, suc, _+_}
+use Prim.Native.Nat.{ℕ, zero, suc, _+_, _≤_}
 use lib.Dec.{ltb, leb}
 use lib.IntN.{ℤ, pos}
 use lib.Ieee.{Float, inf, binary64, div, lt, ofInt}
 use Rattle.base.specs.Numbers.{unusable}
 use Rattle.base.specs.Said.{Said, gives, refuses, pick, andThen}
 use Rattle.floats.specs.Floats.{floor, count}
-use Rattle.floats.specs.Ranges.{inSearch}
+use Rattle.floats.specs.Ranges.{inReach, inSearch}
 use Rattle.explog.specs.Rules.{L}
 use Rattle.math.specs.OddPart.{oddPart}
 use Rattle.pitch.specs.Given.{computed}
@@ -102,3 +103,20 @@ reducedNearest r limit = andThen (L r) (withoutWhole r limit)
 -- "10 for a ratio outside 2^-64..2^64 and else follows its loop"
 unfoldable pub nearestFraction : Float → ℕ → Said NearestFraction
 nearestFraction r limit = pick (inSearch r) (reducedNearest r limit) (refuses unusable 0)
+
+-- 0/0 with infinite deviation, and the octaves that were taken off
+abbrev pub noFraction : ℤ → NearestFraction
+noFraction octaves = record { numer = 0; denom = 0; deviation = record { 0 = inf false }; «num_octaves» = octaves }
+
+-- a fraction of 16 bits, above zero and not infinite
+pub record Proper (f : Fraction) : Type 0 where
+  pub numer-some : 1 ≤ f .numer
+  pub denom-some : 1 ≤ f .denom
+  pub numer-held : f .numer ≤ 65535
+  pub denom-held : f .denom ≤ 65535
+
+-- what is answered with any other limit: a fraction within it, with a deviation in the range
+pub record InLimit (limit : ℕ) (q : NearestFraction) : Type 0 where
+  pub proper : Proper (fraction (q .numer) (q .denom))
+  pub within : bothWithin (fraction (q .numer) (q .denom)) limit ≡ true
+  pub deviation : inReach (q .deviation .0) ≡ true

@@ -1,4 +1,4 @@
--- Ratios of two frequencies: the Rust's `Ratio`, "each f64 step in its order, once rounded each", with document 01's E and
+-- Ratios of two frequencies: the Rust's `Ratio`, its f64 steps in its order, once rounded each, with document 01's E and
 -- L for exp2 and log2. A ratio stands for its number. Assumes nothing.
 use mathlib.Core.Bool.{Bool, _&&_}
 use lib.IntN.{pos}

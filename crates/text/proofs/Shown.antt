@@ -11,7 +11,7 @@ use lib.Seq.{drop-drop, drop-append-le, take-append-le, take-length}
 use Rattle.base.specs.Said.{pick}
 use Rattle.text.specs.Cut.{lines, cut}
 use Rattle.text.specs.Reading.{invalid, dropped, content}
-use Rattle.text.specs.ReadLine.{tokenLength, Way, part, partMeaning, partAt, meaningBy, meanings, lineBy, lineOf, shown}
+use Rattle.text.specs.ReadLine.{tokenLength, Way, part, partMeaning, partAt, meaningBy, meanings, lineBy, lineOf, shown, InText}
 use Rattle.text.specs.Trim.{run, trimBy}
 use Rattle.text.specs.declared.line.LineSays.{LineSays}
 use Rattle.text.specs.declared.line.LineSays.the-variants.{NotUtf8, Dropped, Content}
@@ -69,24 +69,18 @@ shown-line w text a e = go (w .valid (part text a e))
     go true = shown-part w text (middle w text a e) (begins w text a e) (middle-stands w text a e)
     go false = refl
 
--- the parts that an answer gives lie in the text, so that they can be handed on
-abbrev pub Within : List ℕ → LineSays → Type 0
-Within text NotUtf8 = Unit {0}
-Within text Dropped = Unit {0}
-Within text (Content a e t) = (a ≤ t) × (t ≤ e) × (e ≤ length text)
-
-part-within : (w : Way) (text m : List ℕ) (k : ℕ) → k ≤ length text → StandsAt text k m → Within text (partAt w k m)
+part-within : (w : Way) (text m : List ℕ) (k : ℕ) → k ≤ length text → StandsAt text k m → InText text (partAt w k m)
 part-within w text m k h s = go (w .drops m)
   where
-    go : (x : Bool) → Within text (pick x Dropped (Content k (k + length m) (k + tokenLength m)))
+    go : (x : Bool) → InText text (pick x Dropped (Content k (k + length m) (k + tokenLength m)))
     go true = tt
     go false = (omega arith, omega (arith, token-le m), stands-end text m k h s)
 
-pub within : (w : Way) (text : List ℕ) (a e : ℕ) → a ≤ length text → Within text (lineOf w text a e)
+pub within : (w : Way) (text : List ℕ) (a e : ℕ) → a ≤ length text → InText text (lineOf w text a e)
 unfolding lineBy
 within w text a e h = go (w .valid (part text a e))
   where
-    go : (x : Bool) → Within text (pick x (partAt w (begins w text a e) (middle w text a e)) NotUtf8)
+    go : (x : Bool) → InText text (pick x (partAt w (begins w text a e) (middle w text a e)) NotUtf8)
     go false = tt
     go true =
         let l = part text a e in
@@ -98,7 +92,7 @@ within w text a e h = go (w .valid (part text a e))
 -- THE LAW OF A READER'S TURN, at a place in the text: what the line there says, and what the lines after it say
 pub record LineTurn (w : Way) (text : List ℕ) (at : ℕ) (l : Ends) (r : LineSays) : Type 0 where
   pub first : meanings w (lines (drop at text)) ≡ shown text r ∷ meanings w (lines (drop (l .next) text))
-  pub parts : Within text r
+  pub parts : InText text r
   pub moves : at < l .next
   pub stays : l .next ≤ length text
 

@@ -2,7 +2,7 @@
 -- `Reading` says what a line says, `proofs/LineLanguage` that the two agree. Assumes nothing.
 use mathlib.Core.List.{List, [], _∷_}
 use mathlib.Core.Bool.{Bool, true}
-use Prim.Native.Nat.{ℕ, suc, _+_, _-_}
+use Prim.Native.Nat.{ℕ, suc, _+_, _-_, _≤_}
 use lib.Dec.{eqb}
 use lib.ListN.{length, take, drop}
 use Rattle.base.specs.Said.{pick}
@@ -72,3 +72,9 @@ abbrev pub shown : List ℕ → LineSays → Meaning
 shown text NotUtf8 = invalid
 shown text Dropped = dropped
 shown text (Content a e t) = content (part text a e) (part text a t)
+
+-- the parts that an answer gives lie in the text, so that they can be handed on
+abbrev pub InText : List ℕ → LineSays → Type 0
+InText text NotUtf8 = Unit {0}
+InText text Dropped = Unit {0}
+InText text (Content a e t) = (a ≤ t) × (t ≤ e) × (e ≤ length text)
