@@ -1,7 +1,7 @@
 -- The walk of `nearest_fraction`: document 01, "Scales and searches": it "follows its loop: odd limit 0 answers 0/0 with
 -- infinite deviation", and 10 outside 2^-64..2^64. The Rust's `NearestFraction::for_ratio`, step by step. Assumes nothing.
 use mathlib.Core.Path.{_≡_}
-use mathlib.Core.Bool.{Bool, false, _&&_}
+use mathlib.Core.Bool.{Bool, true, false, _&&_}
 use Prim.Native.Nat.{ℕ, zero, suc, _+_, _≤_}
 use lib.Dec.{ltb, leb}
 use lib.IntN.{ℤ, pos}
