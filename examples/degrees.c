@@ -34,6 +34,15 @@ static bool read_file(const char *name, size_t *length) {
     return good && whole;
 }
 
+/* Where a refusal's detail is a line, it says so: for number 2 it is which required line is missing, and it may be 0. */
+static void report(uint32_t number, uint64_t detail) {
+    const char *what = number == TELBIJAN_LINE_MISSING ? "required line" : "line";
+    if (detail == 0)
+        printf("refused: number %" PRIu32 "\n", number);
+    else
+        printf("refused: number %" PRIu32 ", %s %" PRIu64 "\n", number, what, detail);
+}
+
 int main(int argc, char **argv) {
     if (argc != 2) {
         fprintf(stderr, "usage: degrees FILE.kbm\n");
@@ -49,7 +58,7 @@ int main(int argc, char **argv) {
     int16_t octave;
     uint64_t result = telbijan_read_kbm((const uint8_t *)text, length, map, PLACES, &count, &start, &end, &reference, &hz, &offset, &octave);
     if (result != TELBIJAN_ACCEPTED) {
-        printf("refused: number %" PRIu32 ", line %" PRIu64 "\n", TELBIJAN_NUMBER(result), TELBIJAN_DETAIL(result));
+        report(TELBIJAN_NUMBER(result), TELBIJAN_DETAIL(result));
         return 1;
     }
     for (int32_t key = 60; key <= 72; key++) {

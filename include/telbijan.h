@@ -130,10 +130,10 @@ uint64_t telbijan_ratio_as_semitones(double value, double *semitones);
 /* The cents of a ratio; 10. */
 uint64_t telbijan_ratio_as_cents(double value, double *cents);
 
-/* The interval turned over; 10, 18. */
+/* The interval turned over; 10. */
 uint64_t telbijan_ratio_inv(double value, double *ratio);
 
-/* The interval upwards; 10, 18. */
+/* The interval upwards; 10. */
 uint64_t telbijan_ratio_abs(double value, double *ratio);
 
 /* The pitch of a number in Hz; 10 outside 2^-900..2^900. */
@@ -157,12 +157,13 @@ uint64_t telbijan_ratio_nearest_fraction(double value, uint16_t limit, uint16_t 
 
 /* ---- Keyboard mappings for C: a lent table of entries, and beside it the mapping's numbers. An entry is a degree from -32768 to 32767, or -2147483648 for none. */
 
-/* The degree of a key, stored: 10 for a table that cannot be used, 16 outside start..end (end is outside), 17 unmapped, 11
-   where a number passes 32 bits. */
+/* The degree of a key, stored: 10 for a table that cannot be used, 16 outside start..end (end is outside), 11 where the distance
+   from the reference key passes 32 bits, 17 unmapped, 11 where the degree does. The pitch plays no part: any `hz` will do. */
 uint64_t telbijan_scale_degree_of(const int32_t *map, size_t map_length, uint16_t count, int32_t start, int32_t end, int32_t reference, double hz, int32_t offset, int16_t octave, int32_t number, int32_t *degree);
 
-/* The text of a mapping, written into the lent bytes; the number of bytes is stored. 10 for a table or pitch that cannot be
-   used, 11 where the last or the middle key passes 32 bits, 12 where the text is longer than the bytes. */
+/* The text of a mapping, written into the lent bytes; the number of bytes is stored, and bytes behind it keep their values. 10 for
+   a table or pitch that cannot be used, 11 where the last or the middle key passes 32 bits, 12 where the text is longer than
+   the bytes. */
 uint64_t telbijan_export_kbm(const int32_t *map, size_t map_length, uint16_t count, int32_t start, int32_t end, int32_t reference, double hz, int32_t offset, int16_t octave, uint8_t *out, size_t out_length, size_t *written);
 
 /* Whether a mapping's root can be used: 10 for a pitch outside 2^-10..2^20. */
@@ -175,12 +176,14 @@ uint64_t telbijan_push_mapped_key(int32_t *map, size_t map_length, size_t room, 
 /* One unmapped entry more, in the same way. */
 uint64_t telbijan_push_unmapped_key(int32_t *map, size_t map_length, size_t room, size_t count, size_t *after);
 
-/* The mapping of the entries that were pushed: its count and its formal octave are stored. 10 for a state, table or pitch
-   that cannot be used, 15 for entries and no formal octave, 13 over 65,535 entries. */
+/* The mapping of the entries that were pushed: its count and its formal octave are stored. `given` says whether there is a formal
+   octave, `octave`; with none and no entries 0 is stored. 10 for a state, table or pitch that cannot be used, 15 for entries
+   and no formal octave, 13 over 65,535 entries. */
 uint64_t telbijan_build_kbm(const int32_t *map, size_t map_length, size_t room, size_t count, int32_t start, int32_t end, int32_t reference, double hz, int32_t offset, bool given, int16_t octave, uint16_t *entries, int16_t *formal);
 
-/* A mapping file, read: its entries go to the first places of the table, and its numbers are stored. The refusals are 1, 2,
-   3, 7, 8, 9, 10, 11 and 12 with their line, 12 and 13 and 14 at the end. */
+/* A mapping file, read: its entries go to the first places of the table, the places behind them keep their values, and its numbers
+   are stored. The refusals are 1, 3, 7, 8, 9, 10, 11 and 12 with their line; 2 with which required line is missing (1 size, 2
+   first key, 3 last key, 4 middle key, 5 reference key, 6 pitch, 7 formal octave); 12, 13 and 14 with 0, after the last line. */
 uint64_t telbijan_read_kbm(const uint8_t *text, size_t text_length, int32_t *map, size_t map_length, uint16_t *count, int32_t *start, int32_t *end, int32_t *reference, double *hz, int32_t *offset, int16_t *octave);
 
 #ifdef __cplusplus

@@ -115,20 +115,20 @@ module _ (vs : Values required) (key : PianoKey) where
   last-is : lastOf (mappingFrom vs) ≡ lastKey vs
   last-is = +ℤ-negℤ-cancel (lastKey vs) (pos 1)
 
-  is-inside : within (mappingFrom vs) key ≡ true → Inside vs (key .0)
+  is-inside : inKeys (mappingFrom vs) key ≡ true → Inside vs (key .0)
   is-inside w = rw last-is at (inside (mappingFrom vs) key w)
 
-  inside-is : Inside vs (key .0) → within (mappingFrom vs) key ≡ true
+  inside-is : Inside vs (key .0) → inKeys (mappingFrom vs) key ≡ true
   inside-is i = inside-back (mappingFrom vs) key (i .0) (rw last-is (i .1))
 
-  is-outside : within (mappingFrom vs) key ≡ false → Outside vs (key .0)
+  is-outside : inKeys (mappingFrom vs) key ≡ false → Outside vs (key .0)
   is-outside w = rw last-is at (outside (mappingFrom vs) key w)
 
-  outside-is : Outside vs (key .0) → within (mappingFrom vs) key ≡ false
+  outside-is : Outside vs (key .0) → inKeys (mappingFrom vs) key ≡ false
   outside-is o = outside-back (mappingFrom vs) key (rw last-is o)
 
   either : Inside vs (key .0) ⊎ Outside vs (key .0)
-  either = elim (bool-cases (within (mappingFrom vs) key)) [
+  either = elim (bool-cases (inKeys (mappingFrom vs) key)) [
     | inl w ↦ inl (is-inside w)
     | inr w ↦ inr (is-outside w)
   ]

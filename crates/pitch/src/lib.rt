@@ -320,7 +320,7 @@ impl Ratio {
         }
     }
 
-    // The interval turned over; 10, 18.
+    // The interval turned over; 10.
     pub fn inv(self) -> RatioAnswer
         ensures { λ r. ⌜ saysRatio r ≡ inverse (self .0) ⌝ }
     {
@@ -332,7 +332,7 @@ impl Ratio {
         }
     }
 
-    // The interval upwards; 10, 18.
+    // The interval upwards; 10.
     pub fn abs(self) -> RatioAnswer
         ensures { λ r. ⌜ saysRatio r ≡ absolute (self .0) ⌝ }
     {

@@ -136,7 +136,7 @@ pub extern "C" fn telbijan_ratio_as_cents(value: f64, cents: &mut f64) -> u64
     telbijan_answers::store_float(Ratio(value).as_cents(), cents)
 }
 
-// The interval turned over; 10, 18.
+// The interval turned over; 10.
 #[no_mangle]
 pub extern "C" fn telbijan_ratio_inv(value: f64, ratio: &mut f64) -> u64
     ensures { λ r. ⌜ r ≡ result (inverse value) ⌝ }
@@ -145,7 +145,7 @@ pub extern "C" fn telbijan_ratio_inv(value: f64, ratio: &mut f64) -> u64
     telbijan_answers::store_ratio(Ratio(value).inv(), ratio)
 }
 
-// The interval upwards; 10, 18.
+// The interval upwards; 10.
 #[no_mangle]
 pub extern "C" fn telbijan_ratio_abs(value: f64, ratio: &mut f64) -> u64
     ensures { λ r. ⌜ r ≡ result (absolute value) ⌝ }
