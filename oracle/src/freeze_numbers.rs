@@ -69,6 +69,12 @@ pub fn pitches(list: &mut List) {
             list.push(&format!("{name} {} {}", float(x), float(y)), theirs(x, y), written);
         }
     }
+    // results inside the range and outside
+    for Two(name, _, theirs, _) in &TWOS[..5] {
+        for (x, y) in [(2f64.powi(900), 2.0), (2f64.powi(900), 0.5), (2f64.powi(-900), 2.0)] {
+            list.push(&format!("{name} {} {}", float(x), float(y)), theirs(x, y), written);
+        }
+    }
     for (x, y) in [(2.0, 1.0), (0.5, 1.0), (1.0, 1.0)] {
         list.push(&format!("num_equal_steps_of_size {} {}", float(x), float(y)), TWOS[7].2(x, y), written);
     }
