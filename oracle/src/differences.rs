@@ -22,6 +22,9 @@ pub struct Row {
     pub here_says: &'static str,
 }
 
+/// What a row says where the Rust cannot be asked.
+pub const CANNOT_BE: &str = "cannot be";
+
 /// What the Rust answers, or `panics`.
 pub fn rust<T: Debug>(call: impl FnOnce() -> T) -> String {
     use_untouched(true);
@@ -163,7 +166,9 @@ fn rows() -> Vec<Row> {
 pub fn compare(all: &mut Report) {
     all.function("rows of DIFFERENCES.md", &[], |tally| {
         for row in rows() {
-            tally.same((row.call, row.input, "the Rust"), (Code::ACCEPTED, (row.rust)()), Said::gives(Who::Rust, row.rust_says.to_string()));
+            // of what the Rust's types leave no room for, nothing is asked of it
+            let who = if row.rust_says == CANNOT_BE { Who::Rules } else { Who::Rust };
+            tally.same((row.call, row.input, "the Rust"), (Code::ACCEPTED, (row.rust)()), Said::gives(who, row.rust_says.to_string()));
             tally.same((row.call, row.input, "here"), (Code::ACCEPTED, (row.here)()), Said::gives(Who::Rules, row.here_says.to_string()));
         }
     });

@@ -1,6 +1,6 @@
 //! The rows of docs/DIFFERENCES.md on numerals and mappings, Scala's among them.
 
-use crate::differences::{Row, here, refused, rust};
+use crate::differences::{CANNOT_BE, Row, here, refused, rust};
 use crate::ffi_kbm::{self, Mapping};
 use crate::kbm_use::{SAMPLE, WIDE};
 use crate::lent::Float;
@@ -157,8 +157,8 @@ fn tables() -> Vec<Row> {
         row("`scale_degree_of`", "one entry -1, formal octave -32768, reference 0: key -65536", || degree(WIDE, &[-1], -65_536), "panics", || our_degree(WIDE, &[-1], -65_536), "2147483647"),
         row("`scale_degree_of`", "the same: key 65536", || degree(WIDE, &[-1], 65_536), "panics", || our_degree(WIDE, &[-1], 65_536), "11"),
         row("`scale_degree_of`", "reference -2: key 2147483646", || degree(Mapping { count: 0, reference: -2, ..WIDE }, &[], 2_147_483_646), "panics", || our_degree(Mapping { count: 0, reference: -2, ..WIDE }, &[], 2_147_483_646), "11"),
-        row("`scale_degree_of`", "a table with 40000 in it", || "cannot be".to_string(), "cannot be", || our_degree(WIDE, &[40_000], 0), "10"),
-        row("`scale_degree_of`", "a count of 3, a table of one place", || "cannot be".to_string(), "cannot be", || our_degree(SAMPLE, &[0], 60), "10"),
+        row("`scale_degree_of`", "a table with 40000 in it", || CANNOT_BE.to_string(), CANNOT_BE, || our_degree(WIDE, &[40_000], 0), "10"),
+        row("`scale_degree_of`", "a count of 3, a table of one place", || CANNOT_BE.to_string(), CANNOT_BE, || our_degree(SAMPLE, &[0], 60), "10"),
         row("`Kbm::export`", "end -2147483648", || export(Mapping { end: i32::MIN, ..FREE }, &[]), "panics", || our_export(Mapping { end: i32::MIN, ..FREE }, &[], 99), "11"),
         row("`Kbm::export`", "reference 2147483647, offset 1", || export(Mapping { reference: i32::MAX, offset: 1, ..FREE }, &[]), "panics", || our_export(Mapping { reference: i32::MAX, offset: 1, ..FREE }, &[], 99), "11"),
         row("`Kbm::export`", "pitch 0.0: bytes written", || export(Mapping { hz: Float::Is(0), ..FREE }, &[]), "22", || our_export(Mapping { hz: Float::Is(0), ..FREE }, &[], 99), "10"),
@@ -166,8 +166,8 @@ fn tables() -> Vec<Row> {
         row("`KbmRoot`", "pitch 0.0", || rust(|| rust_kbm::of(Mapping { hz: Float::Is(0), ..FREE }, &[]).root.ref_pitch.as_hz()), "0.0", || refused(ffi_kbm::kbm_root(60, 0.0, 0)), "10"),
         row("`push_mapped_key`", "a table of one place, the second push: entries", || rust(|| rust_kbm::pushes(FREE, [Some(0), Some(1)]).formal_octave(1).build().unwrap().table.num_items()), "2", || here(ffi_kbm::push_key(&mut [0], 1, 1, Some(1))), "12"),
         row("`push_unmapped_key`", "the same: entries", || rust(|| rust_kbm::pushes(FREE, [Some(0), None]).formal_octave(1).build().unwrap().table.num_items()), "2", || here(ffi_kbm::push_key(&mut [0], 1, 1, None)), "12"),
-        row("`push_mapped_key`", "a state of another table", || "cannot be".to_string(), "cannot be", || here(ffi_kbm::push_key(&mut [0], 2, 0, Some(1))), "10"),
-        row("`push_unmapped_key`", "a state of another table", || "cannot be".to_string(), "cannot be", || here(ffi_kbm::push_key(&mut [0], 2, 0, None)), "10"),
+        row("`push_mapped_key`", "a state of another table", || CANNOT_BE.to_string(), CANNOT_BE, || here(ffi_kbm::push_key(&mut [0], 2, 0, Some(1))), "10"),
+        row("`push_unmapped_key`", "a state of another table", || CANNOT_BE.to_string(), CANNOT_BE, || here(ffi_kbm::push_key(&mut [0], 2, 0, None)), "10"),
         row("`KbmBuilder::build`", "pitch 0.0: is it built", || rust(|| rust_kbm::pushes(Mapping { hz: Float::Is(0), ..FREE }, []).build().is_ok()), "true", || here(ffi_kbm::build_kbm(&[], 0, 0, Mapping { hz: Float::Is(0), ..FREE }, None)), "10"),
         row("`KbmBuilder::build`", "one entry, no formal octave", || rust(|| rust_kbm::pushes(FREE, [Some(0)]).build().unwrap_err()), "FormalOctaveMissing", || here(ffi_kbm::build_kbm(&[0], 1, 1, FREE, None)), "15"),
         row("`KbmBuilder::build`", "65,536 entries", || rust(|| rust_kbm::pushes(FREE, vec![None; 65_536]).formal_octave(1).build().unwrap_err()), "MappingTooLarge", || here(ffi_kbm::build_kbm(&vec![UNMAPPED; 65_536], 65_536, 65_536, FREE, Some(1))), "13"),

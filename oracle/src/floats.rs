@@ -1,4 +1,4 @@
-//! The float steps of Rust's std that are written anew: every limit with every limit, and random bits.
+//! The float steps of Rust's std that are written anew, and the ranges of document 01: every limit with every limit, and random bits.
 
 use crate::inputs::{Random, f64_limits};
 use crate::lent::Float;
@@ -51,10 +51,10 @@ pub fn compare(all: &mut Report) {
     two(all, "f64 rem_euclid", probe_rem_euclid, f64::rem_euclid);
     two(all, "f64 div_euclid", probe_div_euclid, f64::div_euclid);
     let range = |all: &mut Report, name: &str, ours: extern "C" fn(f64) -> bool, low: i32, high: i32| {
-        all.function(name, &[], |tally| {
+        all.range(name, |tally| {
             for x in singles() {
                 let inside = (2f64.powi(low)..=2f64.powi(high)).contains(&x);
-                tally.same(x, (Code::ACCEPTED, ours(x)), Said::gives(Who::Rust, inside));
+                tally.same(x, (Code::ACCEPTED, ours(x)), Said::gives(Who::Rules, inside));
             }
         });
     };

@@ -11,6 +11,9 @@ use std::io::{Error, Result};
 /// What one run of a program reads at most.
 const MOST: usize = 65_536;
 
+/// Refusals that the rules alone number: there the Rust goes on or panics, and a line that holds one is the rules'.
+const ONLY_RULES: [&str; 4] = ["!9", "!10", "!11", "!12"];
+
 /// A list under way.
 pub struct List {
     lines: Vec<String>,
@@ -28,8 +31,9 @@ impl List {
             Code::ACCEPTED => shown(said.value),
             code => refusal(code),
         };
-        let line = format!("{} {call} {answer} {more}", who(said.who));
-        self.lines.push(line.trim_end().to_string());
+        let line = format!("{call} {answer} {more}");
+        let whose = if line.split(' ').any(|field| ONLY_RULES.contains(&field)) { Who::Rules } else { said.who };
+        self.lines.push(format!("{} {line}", who(whose)).trim_end().to_string());
     }
 }
 

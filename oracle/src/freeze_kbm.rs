@@ -44,6 +44,10 @@ fn reads(list: &mut List) {
             one(list, changed.join("\n").as_bytes(), 4);
         }
     }
+    // more entries than the size, with room for them
+    for size in ["0\n", "1\n"] {
+        one(list, kbm_read::EXAMPLE.replacen("3\n", size, 1).as_bytes(), 4);
+    }
 }
 
 fn degrees(list: &mut List) {
@@ -86,6 +90,9 @@ fn exports(list: &mut List) {
         };
         one(list, m, &entries, [size, size + 2, size - 1][k % 3]);
     }
+    for map in [[0, 40_000, 2], [0, 1, -32_769]] {
+        one(list, SAMPLE, &map, 99);
+    }
     one(list, Mapping { end: i32::MIN, count: 0, ..SAMPLE }, &[], 9);
     one(list, Mapping { reference: i32::MAX, offset: 1, count: 0, ..SAMPLE }, &[], 9);
     one(list, Mapping { hz: Float::of(0.0), count: 0, end: i32::MIN, ..SAMPLE }, &[], 9);
@@ -126,10 +133,29 @@ fn builds(list: &mut List) {
     }
 }
 
+/// No builder of a root that cannot be used, and builds of states: usable ones, and a table, a state or an entry that is not.
+fn finishes(list: &mut List) {
+    for hz in [0.0, 2f64.powi(20).next_up(), f64::NAN] {
+        let (m, after) = (Mapping { hz: Float::of(hz), ..SAMPLE }, table(&[PATTERN; 3]));
+        let call = format!("build 3 {} {} {} {} {} 5", m.reference, float(hz), m.offset, m.start, m.end);
+        list.push_with(&call, kbm_build::root(m.reference, hz, m.offset), |()| unreachable!(), &after);
+    }
+    let root = Mapping { reference: 0, octave: 1, ..SAMPLE };
+    for (map, room, count) in [(vec![0, UNMAPPED, 2], 3, 3), (vec![-32_768, 32_767], 2, 1), (vec![0], 2, 1), (vec![0], 1, 2), (vec![40_000], 1, 1), (vec![UNMAPPED + 1], 1, 1), (vec![], 1, 0)] {
+        let said = if room != map.len() || count > room || map[..count].iter().any(|&entry| kbm_use::is_wrong(entry)) {
+            Said::refused(Who::Rules, 10, 0, root)
+        } else {
+            Said::gives(Who::Rust, rust_kbm::parts(&rust_kbm::of(root, &map[..count])).0)
+        };
+        list.push_with(&format!("finish {} {room} {count}", table(&map)), said, fields, &table(&map));
+    }
+}
+
 pub fn mappings(list: &mut List) {
     reads(list);
     degrees(list);
     exports(list);
     pushes(list);
     builds(list);
+    finishes(list);
 }

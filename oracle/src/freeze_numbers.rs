@@ -5,7 +5,9 @@ use crate::inputs::{Random, f64_limits, i32_limits, u32_limits};
 use crate::pitch::{ONES, One, TWOS, Two};
 use crate::tally::{Said, Who};
 use crate::{key, math, pitch, powers};
+use tune::key::PianoKey;
 use tune::math::odd_factors_u16;
+use tune::pitch::Ratio;
 
 pub fn integers(list: &mut List) {
     let mut random = Random::new(100);
@@ -22,6 +24,12 @@ pub fn integers(list: &mut List) {
             list.push(&format!("plus_steps {numer} {other}"), key::plus(numer, other), |z| z.to_string());
         }
         list.push(&format!("checked_midi_number {numer}"), key::checked(numer), |n| n.to_string());
+        if k % 5 == 0 {
+            // a key of this number, and the number of this key
+            let number = PianoKey::from_midi_number(numer).midi_number();
+            list.push(&format!("from_midi_number {numer}"), Said::gives(Who::Rust, number), |z| z.to_string());
+            list.push(&format!("midi_number {numer}"), Said::gives(Who::Rust, number), |z| z.to_string());
+        }
     }
     for n in [0, 1, 2, 3, 65_534, 65_535].into_iter().chain((0..60).map(|_| random.next() as u16)) {
         list.push(&format!("odd_factors_u16 {n}"), Said::gives(Who::Rust, odd_factors_u16(n)), |odd| odd.to_string());
@@ -42,6 +50,8 @@ fn some(random: &mut Random, k: usize) -> f64 {
 
 pub fn pitches(list: &mut List) {
     let mut random = Random::new(101);
+    list.push("octave", Said::gives(Who::Rust, Ratio::octave().as_float()), float);
+    list.push("unison", Said::gives(Who::Rust, Ratio::default().as_float()), float);
     for k in 0..60 {
         let x = some(&mut random, k);
         list.push(&format!("exp2 {}", float(x)), powers::said(tune::powers::e(x)), written);
@@ -56,6 +66,12 @@ pub fn pitches(list: &mut List) {
     for Two(name, _, theirs, _) in &TWOS {
         for k in 0..40 {
             let (x, y) = (some(&mut random, k), some(&mut random, k / 5));
+            list.push(&format!("{name} {} {}", float(x), float(y)), theirs(x, y), written);
+        }
+    }
+    // results inside the range and outside
+    for Two(name, _, theirs, _) in &TWOS[..5] {
+        for (x, y) in [(2f64.powi(900), 2.0), (2f64.powi(900), 0.5), (2f64.powi(-900), 2.0)] {
             list.push(&format!("{name} {} {}", float(x), float(y)), theirs(x, y), written);
         }
     }

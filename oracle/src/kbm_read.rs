@@ -22,10 +22,20 @@ pub fn said(text: &[u8], room: usize) -> Said<(Mapping, Vec<i32>)> {
         (Ok((mapping, entries)), Some(Ok(same))) if (mapping, &entries) == (same.0, &same.1) => gives(Who::Rust, Code::ACCEPTED, mapping, &entries),
         (Err((1, line)), Some(Err((1, 0)))) => gives(Who::Rust, Code::refusal(1, line), OLD_MAPPING, &[]),
         (Err((11, line)), None) => gives(Who::Rust, Code::refusal(11, line), OLD_MAPPING, &[]),
-        (Err((number @ (9 | 10 | 12), detail)), Some(_)) => gives(Who::Rules, Code::refusal(number, detail), OLD_MAPPING, &[]),
+        (Err((number @ (9 | 10 | 12), detail)), Some(rust)) if may_go_on(number, detail, &rust) => gives(Who::Rules, Code::refusal(number, detail), OLD_MAPPING, &[]),
         // no room at a line before the one at which the Rust panics cannot be: entries come after the keys
         (Err((number, detail)), Some(Err(same))) if (number, detail) == same => gives(Who::Rust, Code::refusal(number, detail), OLD_MAPPING, &[]),
         _ => Said::fault((OLD_MAPPING, table)),
+    }
+}
+
+/// Whether the Rust may say this of a text that is 9, 10 or 12 by the rules, at a line or at the end: it reads the text, or finds a
+/// fault after that line. Its refusals 1, 13 and 14 have no line.
+fn may_go_on(number: u64, detail: u64, rust: &Result<(Mapping, Vec<i32>), rules::Refused>) -> bool {
+    match *rust {
+        Ok(_) | Err((1 | 13 | 14, 0)) => true,
+        Err((2, which)) => detail != 0 && number != 12 && which == 7,
+        Err((_, line)) => detail != 0 && line > detail,
     }
 }
 

@@ -67,11 +67,17 @@ fn degrees(all: &mut Report) {
 
 pub const BYTE: u8 = 0xEE;
 
+/// Whether an entry of a table is none that can be: a degree of 16 bits, or unmapped.
+pub fn is_wrong(entry: i32) -> bool {
+    entry != UNMAPPED && i16::try_from(entry).is_err()
+}
+
 /// The export in so many bytes: the Rust's text, which panics exactly where the last or the middle key leaves 32 bits. How much was
 /// written, and every byte.
 pub fn export(m: Mapping, map: &[i32], room: usize) -> Said<(usize, Vec<u8>)> {
     let mut out = vec![BYTE; room];
-    if !(2f64.powi(-10)..=2f64.powi(20)).contains(&m.pitch()) || map.len() < m.count.into() {
+    let wrong = map.get(..m.count.into()).is_none_or(|entries| entries.iter().any(|&entry| is_wrong(entry)));
+    if wrong || !(2f64.powi(-10)..=2f64.powi(20)).contains(&m.pitch()) {
         return Said::refused(Who::Rules, 10, 0, (usize::MAX, out));
     }
     let text = Said::unless_panic(caught(|| rust_kbm::of(m, map).export().to_string()), rules::export_overflows(m), 11, String::new());
@@ -108,6 +114,9 @@ fn exports(all: &mut Report) {
             one(tally, Mapping { count: 0, start: 0, end: i32::MIN, reference: 0, hz: Float::of(hz), offset: 0, octave: 0 }, &[], 0);
         }
         one(tally, SAMPLE, &[0], 40);
+        for entry in [40_000, 32_768, -32_769, UNMAPPED + 1] {
+            one(tally, SAMPLE, &[0, entry, 2], 99);
+        }
     });
 }
 

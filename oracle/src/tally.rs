@@ -91,6 +91,24 @@ impl Report {
     /// Compares one function: `cases` calls the tally once for each input. The refusals met must be exactly `numbers`, and the Rust or
     /// the second E and L must have answered some.
     pub fn function(&mut self, name: &str, numbers: &[u64], cases: impl FnOnce(&mut Tally)) {
+        let by = self.tried(name, numbers, cases);
+        if by[0] + by[1] == 0 {
+            println!("{name}: the Rust answered no case");
+            self.failed = true;
+        }
+    }
+
+    /// Compares a range of document 01's, which the Rust does not have: every case is by the rules, and there is one.
+    pub fn range(&mut self, name: &str, cases: impl FnOnce(&mut Tally)) {
+        let by = self.tried(name, &[], cases);
+        if by[2] == 0 {
+            println!("{name}: no case");
+            self.failed = true;
+        }
+    }
+
+    /// The line of a function: by whom its cases were.
+    fn tried(&mut self, name: &str, numbers: &[u64], cases: impl FnOnce(&mut Tally)) -> [u64; 3] {
         let mut tally = Tally { name: name.to_string(), by: [0; 3], differences: 0, met: BTreeMap::new() };
         cases(&mut tally);
         let met: Vec<String> = tally.met.iter().map(|(number, times)| format!("{number}:{times}")).collect();
@@ -100,11 +118,9 @@ impl Report {
         if unlike {
             println!("{name}: the refusals should be {numbers:?}");
         }
-        if tally.by[0] + tally.by[1] == 0 {
-            println!("{name}: the Rust answered no case");
-        }
-        self.failed |= tally.differences != 0 || unlike || tally.by[0] + tally.by[1] == 0;
+        self.failed |= tally.differences != 0 || unlike;
         self.lines += 1;
+        tally.by
     }
 
     pub fn verdict(self) -> ExitCode {

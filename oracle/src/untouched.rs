@@ -1,5 +1,5 @@
 //! The Rust with its own exp2 and log2, beside the same calls on E and L: how many answers differ, and how far. Nothing is left out
-//! but what E, L or the rules refuse; the inputs are those of the comparison.
+//! but what E, L or the rules refuse; the inputs are those of the comparison, but of the limits of nearest_fraction only eight.
 
 use crate::pitch::{self, ONES, One, TWOS, Two, ratio};
 use crate::tally::Code;

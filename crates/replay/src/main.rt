@@ -106,6 +106,14 @@ fn is_same(line: &[u8]) -> bool {
         return false;
     };
     let after = frozen::next(line, at);
+    if check::same(name, b"from_midi_number") {
+        let key = PianoKey::from_midi_number(a);
+        return frozen::is_last(frozen::is_i32(key.0, line, after), line, after);
+    }
+    if check::same(name, b"midi_number") {
+        let number = PianoKey(a).midi_number();
+        return frozen::is_last(frozen::is_i32(number, line, after), line, after);
+    }
     if check::same(name, b"checked_midi_number") {
         return is_midi(PianoKey(a).checked_midi_number(), line, after);
     }

@@ -2,14 +2,23 @@
 use frozen::Size;
 use integers::I16;
 use kbm::KbmAnswer;
+use kbm::KbmRoot;
 use kbm::builder::BuilderAnswer;
 use kbm::builder::KbmBuilder;
+use kbm::builder::Octave;
+use key::PianoKey;
+use pitch::Pitch;
 
-// One push of a field, `x` or a degree.
+// One push of a field, `x` or a degree. For another field the answer is one that no line has.
 pub fn pushed(builder: KbmBuilder, map: &mut [i32], field: &[u8]) -> BuilderAnswer {
     match integers::read_i16(field) {
         I16::Is(degree) => builder.push_mapped_key(map, degree),
-        I16::IsNot => builder.push_unmapped_key(map),
+        I16::IsNot => {
+            if check::same(field, b"x") {
+                return builder.push_unmapped_key(map);
+            }
+            BuilderAnswer::Refused(crate::first::NO_SUCH)
+        }
     }
 }
 
@@ -57,11 +66,41 @@ fn run(
     Done { builder, answer }
 }
 
-// A builder with the formal octave of a field; with none for `-`.
-pub fn with_octave(builder: KbmBuilder, field: &[u8]) -> KbmBuilder {
+// A builder with the formal octave of a field; with none for `-`. For another field the answer is one that no line has.
+fn with_octave(builder: KbmBuilder, field: &[u8]) -> BuilderAnswer {
     match integers::read_i16(field) {
-        I16::Is(octave) => builder.formal_octave(octave),
-        I16::IsNot => builder,
+        I16::Is(octave) => BuilderAnswer::Is(builder.formal_octave(octave)),
+        I16::IsNot => {
+            if check::same(field, b"-") {
+                return BuilderAnswer::Is(builder);
+            }
+            BuilderAnswer::Refused(crate::first::NO_SUCH)
+        }
+    }
+}
+
+// A new builder, if there is one, with its range and formal octave.
+pub fn started(new: BuilderAnswer, start: PianoKey, end: PianoKey, octave: &[u8]) -> BuilderAnswer {
+    match new {
+        BuilderAnswer::Is(builder) => with_octave(builder.range(start, end), octave),
+        BuilderAnswer::Refused(refusal) => BuilderAnswer::Refused(refusal),
+    }
+}
+
+// A state of so much room and so many pushes, which need not be a table's.
+pub fn state(room: usize, count: usize) -> KbmBuilder {
+    let root = KbmRoot {
+        reference: PianoKey(0),
+        pitch: Pitch(440.0),
+        offset: 0,
+    };
+    KbmBuilder {
+        root,
+        start: PianoKey(0),
+        end: PianoKey(128),
+        octave: Octave::Missing,
+        room,
+        count,
     }
 }
 

@@ -9,7 +9,7 @@ use kbm::builder::KbmBuilder;
 use kbm_write::SizeAnswer;
 use key::PianoKey;
 
-const NO_SUCH: Refusal = Refusal {
+pub const NO_SUCH: Refusal = Refusal {
     number: 255,
     detail: 0,
 };
@@ -62,6 +62,13 @@ pub fn pushed(builder: KbmBuilder, map: &mut [i32], places: usize, degree: &[u8]
         return BuilderAnswer::Refused(NO_SUCH);
     }
     crate::builders::pushed(builder, &mut map[..places], degree)
+}
+
+pub fn build(builder: KbmBuilder, map: &[i32], places: usize) -> KbmAnswer {
+    if map.len() < places {
+        return KbmAnswer::Refused(NO_SUCH);
+    }
+    builder.build(&map[..places])
 }
 
 pub fn after_build(

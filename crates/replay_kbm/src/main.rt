@@ -5,7 +5,6 @@
 // and each of them. An answer ends with what every lent place or byte is after the call.
 use frozen::Counts;
 use frozen::Size;
-use integers::I16;
 use integers::I32;
 use kbm::DegreeAnswer;
 use kbm::KbmAnswer;
@@ -13,12 +12,10 @@ use kbm::KbmRoot;
 use kbm::RootAnswer;
 use kbm::builder::BuilderAnswer;
 use kbm::builder::KbmBuilder;
-use kbm::builder::Octave;
 use kbm_write::SizeAnswer;
 use key::PianoKey;
 use libc::STDIN_FILENO;
 use libc::STDOUT_FILENO;
-use pitch::Pitch;
 
 mod builders;
 mod fields;
@@ -118,6 +115,7 @@ fn is_same_root(line: &[u8], at: usize) -> bool {
 }
 
 // `build ROOM REFERENCE PITCH OFFSET START END OCTAVE PUSHES ..`: the answer of each push, the mapping or a refusal, then the table.
+// Where no builder starts, its refusal and the table follow the octave.
 fn is_same_build(map: &mut [i32], line: &[u8], at: usize) -> bool {
     let Size::Is(room) = frozen::size_of(line, at) else {
         return false;
@@ -131,12 +129,20 @@ fn is_same_build(map: &mut [i32], line: &[u8], at: usize) -> bool {
     let I32::Is(end) = integers::read_i32(frozen::field(line, frozen::later(line, at, 5))) else {
         return false;
     };
-    let BuilderAnswer::Is(new) = first::new(root, map, room) else {
-        return false;
-    };
-    let ranged = new.range(PianoKey(start), PianoKey(end));
-    let builder = builders::with_octave(ranged, frozen::field(line, frozen::later(line, at, 6)));
-    let after = first::after_build(builder, map, room, line, frozen::later(line, at, 7));
+    let answer = frozen::later(line, at, 7);
+    let octave = frozen::field(line, frozen::later(line, at, 6));
+    let new = first::new(root, map, room);
+    match builders::started(new, PianoKey(start), PianoKey(end), octave) {
+        BuilderAnswer::Is(builder) => is_build(builder, map, room, line, answer),
+        BuilderAnswer::Refused(refusal) => {
+            let after = fields::after_refusal(refusal, line, answer);
+            fields::is_table(map, room, line, after)
+        }
+    }
+}
+
+fn is_build(builder: KbmBuilder, map: &mut [i32], room: usize, line: &[u8], at: usize) -> bool {
+    let after = first::after_build(builder, map, room, line, at);
     fields::is_table(map, room, line, after)
 }
 
@@ -156,21 +162,33 @@ fn is_push(map: &mut [i32], places: usize, line: &[u8], after: usize) -> bool {
         return false;
     };
     let degree = frozen::field(line, frozen::later(line, after, 2));
-    let root = KbmRoot {
-        reference: PianoKey(0),
-        pitch: Pitch(440.0),
-        offset: 0,
-    };
-    let builder = KbmBuilder {
-        root,
-        start: PianoKey(0),
-        end: PianoKey(128),
-        octave: Octave::Missing,
-        room,
-        count,
-    };
-    let said = first::pushed(builder, map, places, degree);
+    let said = first::pushed(builders::state(room, count), map, places, degree);
     let last = builders::after_push(said, line, frozen::later(line, after, 3));
+    fields::is_table(map, places, line, last)
+}
+
+// `finish TABLE ROOM COUNT`, the build of a state that need not be the table's, with formal octave 1: the mapping or a refusal, then
+// the table.
+fn is_same_finish(map: &mut [i32], line: &[u8], at: usize) -> bool {
+    match fields::read_table(line, at, map) {
+        Place::Is { places, after } => is_finish(map, places, line, after),
+        Place::IsNot => false,
+    }
+}
+
+fn is_finish(map: &[i32], places: usize, line: &[u8], after: usize) -> bool {
+    let Size::Is(room) = frozen::size_of(line, after) else {
+        return false;
+    };
+    let Size::Is(count) = frozen::size_of(line, frozen::later(line, after, 1)) else {
+        return false;
+    };
+    let state = builders::state(room, count);
+    let answer = frozen::later(line, after, 2);
+    let last = match first::build(state.formal_octave(1), map, places) {
+        KbmAnswer::Is(kbm) => fields::after_mapping(kbm, line, answer),
+        KbmAnswer::Refused(refusal) => fields::after_refusal(refusal, line, answer),
+    };
     fields::is_table(map, places, line, last)
 }
 
@@ -194,6 +212,9 @@ fn is_same(line: &[u8]) -> bool {
     }
     if check::same(name, b"push") {
         return is_same_push(&mut map, line, at);
+    }
+    if check::same(name, b"finish") {
+        return is_same_finish(&mut map, line, at);
     }
     if check::same(name, b"build") {
         return is_same_build(&mut map, line, at);

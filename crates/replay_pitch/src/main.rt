@@ -186,10 +186,20 @@ fn is_same_nearest(x: f64, line: &[u8], at: usize) -> bool {
     )
 }
 
+fn is_constant(ratio: Ratio, line: &[u8], at: usize) -> bool {
+    frozen::is_last(frozen::is_float(ratio.0, line, at), line, at)
+}
+
 // Whether a call gives the answer of its line.
 fn is_same(line: &[u8]) -> bool {
     let name = frozen::field(line, frozen::next(line, 0));
     let at = frozen::later(line, 0, 2);
+    if check::same(name, b"octave") {
+        return is_constant(Ratio::octave(), line, at);
+    }
+    if check::same(name, b"unison") {
+        return is_constant(Ratio::unison(), line, at);
+    }
     let Float::Is(x) = frozen::float_of(frozen::field(line, at)) else {
         return false;
     };
