@@ -4,3 +4,4 @@ pub mod Range
 pub mod Language
 pub mod Theorems
 pub mod Samples
+pub mod AtLine

@@ -14,7 +14,7 @@ use Rattle.text.specs.Characters.{Each, inBytes, Span, span, Among, Scalar, enc
 use Rattle.text.specs.Cut.{lines}
 use Rattle.text.specs.Lines.{NoLF, EndsCR, Lines}
 use Rattle.text.specs.ReadLine.{strictly, meanings}
-use Rattle.text.specs.Reading.{WhiteSpace, EmptyOrComment, strict, Trimmed, Splits, Token, Meaning, content, Line, EachLine, Says}
+use Rattle.text.specs.Reading.{WhiteSpace, Comment, strict, Trimmed, Splits, Token, Meaning, content, Line, EachLine, Says}
 use Rattle.text.proofs.Encodings.{enc1, enc2, enc3, enc4, split}
 use Rattle.text.proofs.LineLanguage.{one-strict-text}
 use Rattle.kbm_write.specs.Export.{linesText}
@@ -115,11 +115,13 @@ no-cr (b ∷ c ∷ t) p e = no-cr (c ∷ t) (p .1) e
 -- a word is a line that says itself
 pub word-line : (t : List ℕ) → Word t → Line strict t (content t t)
 word-line t w =
-    Line.says (record { codes = t; each = characters t (w .each); text = themselves t (w .each) }) t t (kept t (w .each)) (stays t w) (whole-token t (w .each)) refl
+    Line.says (record { codes = t; each = characters t (w .each); text = themselves t (w .each) }) t t (kept t (w .each)) (some t w) (stays t w) (whole-token t (w .each)) refl
   where
-    stays : (s : List ℕ) → Word s → EmptyOrComment s → ⊥
-    stays s v (EmptyOrComment.empty e) = omega (arith, v .some, ap length e)
-    stays s v (EmptyOrComment.comment u e) = let q = subst (Each Plain) e (v .each) in omega (arith, q .0)
+    some : (s : List ℕ) → Word s → s ≡ [] → ⊥
+    some s v e = omega (arith, v .some, ap length e)
+
+    stays : (s : List ℕ) → Word s → Comment s → ⊥
+    stays s v (u, e) = let q = subst (Each Plain) e (v .each) in omega (arith, q .0)
 
 -- each text is a word
 abbrev pub Words : List (List ℕ) → Type 0

@@ -1,4 +1,4 @@
--- The laws of a token's length along a slice, and of what drops out, as the code meets them. Assumes nothing.
+-- The laws of a token's length along a slice, as the code meets them. Assumes nothing.
 use mathlib.Core.Path.{_≡_, refl, ap}
 use mathlib.Core.List.{List, [], _∷_}
 use mathlib.Core.Bool.{Bool, true, false}
@@ -7,7 +7,7 @@ use native.Mathlib.Omega.{arith}
 use lib.Dec.{eqb}
 use lib.ListN.{length, getD, drop, drop-of-length-le}
 use Rattle.base.specs.Said.{pick}
-use Rattle.text.specs.ReadLine.{splits, tokenLength, emptyOrComment}
+use Rattle.text.specs.ReadLine.{splits, tokenLength}
 use Rattle.text.proofs.Cuts.{drop-next}
 
 -- the token is i bytes long and the token from there
@@ -41,12 +41,3 @@ token-le (b ∷ s) = go (splits b) (token-le s)
     go : (x : Bool) → tokenLength s ≤ length s → pick x 0 (suc (tokenLength s)) ≤ suc (length s)
     go true h = omega arith
     go false h = omega arith
-
--- an empty line drops out; another goes by its first byte
-pub drops-empty : (s : List ℕ) → length s ≡ 0 → true ≡ emptyOrComment s
-drops-empty [] e = refl
-drops-empty (b ∷ s) e = absurd (omega arith)
-
-pub drops-first : (s : List ℕ) → (length s ≡ 0 → ⊥) → eqb (getD s 0 0) 33 ≡ emptyOrComment s
-drops-first [] n = absurd (n refl)
-drops-first (b ∷ s) n = refl
