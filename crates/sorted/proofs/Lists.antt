@@ -7,41 +7,44 @@ use Prim.Native.Nat.{ℕ, zero, suc, _+_, _≤_, _<_, suc-le-suc}
 use native.Mathlib.Nat.{le-of-suc-le-suc, not-suc-le-zero}
 use native.Mathlib.Omega.{arith}
 use lib.Dec.{leb, ltb}
-use lib.IntN.{ℤ}
 use lib.ListN.{length, getD, take}
 use lib.Seq.{length-take-le}
-use lib.Ieee.{Float}
 use borrow.Author.Tests.{lt-ltb, le-ltb, ltb-true, leb-true, le-leb}
 use Rattle.sorting.specs.Entries.{Columns}
 use Rattle.sorting.proofs.Columns.{columns-zip}
-use Rattle.sorted.specs.Lent.{placesOf, ratiosOf, listOf, AllAtMost, Listed, usable, areWithin, isList}
+use Rattle.sorted.specs.Lent.{placesOf, ratiosOf, ListTable, listIn, AllAtMost, Listed, usable, areWithin, haveList, isList}
 use Rattle.sorted.proofs.Usable.{both, usable-is}
 
-module _ (count : ℕ) (ps : List ℕ) (rs : List Float) (ws : List ℤ) where
+module _ (count : ℕ) (t : ListTable) where
   -- ---- the steps
-  pub places-short : length ps ≤ count → false ≡ isList count ps rs ws
-  places-short h = rw (le-ltb count (length ps) h)
+  pub places-short : length (t .places) ≤ count → false ≡ isList count t
+  places-short h = rw (le-ltb count (length (t .places)) h)
 
-  pub ratios-short : count < length ps → length rs ≤ count → false ≡ isList count ps rs ws
-  ratios-short p h = rw (lt-ltb count (length ps) p, le-ltb count (length rs) h)
+  module _ (p : count < length (t .places)) where
+    pub ratios-short : length (t .ratios) ≤ count → false ≡ isList count t
+    ratios-short h = rw (lt-ltb count (length (t .places)) p, le-ltb count (length (t .ratios)) h)
 
-  pub wraps-short : count < length ps → count < length rs → length ws ≤ count → false ≡ isList count ps rs ws
-  wraps-short p r h = rw (lt-ltb count (length ps) p, lt-ltb count (length rs) r, le-ltb count (length ws) h)
+    module _ (r : count < length (t .ratios)) where
+      pub wraps-short : length (t .wraps) ≤ count → false ≡ isList count t
+      wraps-short h = rw (lt-ltb count (length (t .places)) p, lt-ltb count (length (t .ratios)) r, le-ltb count (length (t .wraps)) h)
 
-  module _ (p : count < length ps) (r : count < length rs) (w : count < length ws) where
-    -- the columns of the list are the first places of the lent ones
-    pub list-columns : Columns (listOf count ps rs ws) (take (count + 1) ps) (take (count + 1) rs) (take (count + 1) ws)
-    list-columns =
-        let lp = length-take-le (count + 1) ps (omega (arith, p)) in
-        let lr = length-take-le (count + 1) rs (omega (arith, r)) in
-        let lw = length-take-le (count + 1) ws (omega (arith, w)) in
-        columns-zip (take (count + 1) ps) (take (count + 1) rs) (take (count + 1) ws) (lr ∙ sym lp) (lw ∙ sym lp)
+      module _ (w : count < length (t .wraps)) where
+        pub have-list : haveList count t ≡ true
+        have-list = rw (lt-ltb count (length (t .places)) p, lt-ltb count (length (t .ratios)) r, lt-ltb count (length (t .wraps)) w)
 
-    pub list-tests : {a b : Bool} → a ≡ usable (take (count + 1) rs) → b ≡ areWithin count (take (count + 1) ps) → (a && b) ≡ isList count ps rs ws
-    list-tests {a} {b} e f =
-        let ratios : a ≡ usable (ratiosOf (listOf count ps rs ws)) = e ∙ ap usable (list-columns .ratios) in
-        let places : b ≡ areWithin count (placesOf (listOf count ps rs ws)) = f ∙ ap (areWithin count) (list-columns .places) in
-        rw (lt-ltb count (length ps) p, lt-ltb count (length rs) r, lt-ltb count (length ws) w, ratios, places)
+        -- the columns of the list are the first places of the lent ones
+        pub list-columns : Columns (listIn count t) (take (count + 1) (t .places)) (take (count + 1) (t .ratios)) (take (count + 1) (t .wraps))
+        list-columns =
+            let lp = length-take-le (count + 1) (t .places) (omega (arith, p)) in
+            let lr = length-take-le (count + 1) (t .ratios) (omega (arith, r)) in
+            let lw = length-take-le (count + 1) (t .wraps) (omega (arith, w)) in
+            columns-zip (take (count + 1) (t .places)) (take (count + 1) (t .ratios)) (take (count + 1) (t .wraps)) (lr ∙ sym lp) (lw ∙ sym lp)
+
+        pub list-tests : {a b : Bool} → a ≡ usable (take (count + 1) (t .ratios)) → b ≡ areWithin count (take (count + 1) (t .places)) → (a && b) ≡ isList count t
+        list-tests {a} {b} e f =
+            let ratios : a ≡ usable (ratiosOf (listIn count t)) = e ∙ ap usable (list-columns .ratios) in
+            let places : b ≡ areWithin count (placesOf (listIn count t)) = f ∙ ap (areWithin count) (list-columns .places) in
+            rw (have-list, ratios, places)
 
 -- ---- what it means
 within-at : (n : ℕ) (ps : List ℕ) → areWithin n ps ≡ true → AllAtMost n ps
@@ -56,25 +59,24 @@ at-within n [] h = refl
 at-within n (p ∷ ps) h = rw (le-leb p n (h 0 (omega arith))) (at-within n ps (λ i k. h (suc i) (suc-le-suc k)))
 
 -- "list ratios lie in 2^-900..2^900 and never fall, with places within the count", and a place for every entry in each column
-pub list-is : (count : ℕ) (ps : List ℕ) (rs : List Float) (ws : List ℤ) → (isList count ps rs ws ≡ true) ↔ Listed count ps rs ws
-list-is count ps rs ws = (
+pub list-is : (count : ℕ) (t : ListTable) → (isList count t ≡ true) ↔ Listed count t
+list-is count t = (
   (λ h.
-      let es = listOf count ps rs ws in
-      let all = both (ltb count (length ps) && ltb count (length rs) && ltb count (length ws)) (usable (ratiosOf es) && areWithin count (placesOf es)) h in
-      let rooms = both (ltb count (length ps) && ltb count (length rs)) (ltb count (length ws)) (all .0) in
-      let first = both (ltb count (length ps)) (ltb count (length rs)) (rooms .0) in
+      let es = listIn count t in
+      let all = both (haveList count t) (usable (ratiosOf es) && areWithin count (placesOf es)) h in
+      let rooms = both (ltb count (length (t .places)) && ltb count (length (t .ratios))) (ltb count (length (t .wraps))) (all .0) in
+      let first = both (ltb count (length (t .places))) (ltb count (length (t .ratios))) (rooms .0) in
       let tests = both (usable (ratiosOf es)) (areWithin count (placesOf es)) (all .1) in
       let up = usable-is (ratiosOf es) .0 (tests .0) in
       record {
-        places-room = ltb-true count (length ps) (first .0);
-        ratios-room = ltb-true count (length rs) (first .1);
-        wraps-room = ltb-true count (length ws) (rooms .1);
+        places-room = ltb-true count (length (t .places)) (first .0);
+        ratios-room = ltb-true count (length (t .ratios)) (first .1);
+        wraps-room = ltb-true count (length (t .wraps)) (rooms .1);
         reach = up .0;
         rises = up .1;
         within = within-at count (placesOf es) (tests .1);
       }),
   (λ l.
-      let es = listOf count ps rs ws in
-      rw (lt-ltb count (length ps) (l .places-room), lt-ltb count (length rs) (l .ratios-room), lt-ltb count (length ws) (l .wraps-room), usable-is (ratiosOf es) .1 (l .reach, l .rises))
-      (at-within count (placesOf es) (l .within))),
+      let es = listIn count t in
+      rw (have-list count t (l .places-room) (l .ratios-room) (l .wraps-room), usable-is (ratiosOf es) .1 (l .reach, l .rises)) (at-within count (placesOf es) (l .within))),
 )

@@ -23,9 +23,18 @@ ratiosOf = map (λ (e : Entry). e .ratio)
 abbrev pub wrapsOf : List Entry → List ℤ
 wrapsOf = map (λ (e : Entry). e .wraps)
 
--- the list of `count` items in its columns, which may be longer: the entry of place 0 is one more
-abbrev pub listOf : ℕ → List ℕ → List Float → List ℤ → List Entry
-listOf count ps rs ws = zip (take (count + 1) ps) (take (count + 1) rs) (take (count + 1) ws)
+-- the three columns, as they are lent
+pub record ListTable : Type 0 where
+  pub places : List ℕ
+  pub ratios : List Float
+  pub wraps : List ℤ
+
+abbrev pub listTable : List ℕ → List Float → List ℤ → ListTable
+listTable ps rs ws = record { places = ps; ratios = rs; wraps = ws }
+
+-- the list that they stand for in a scale of count items: one entry for place 0 and one for each; the columns may be longer
+abbrev pub listIn : ℕ → ListTable → List Entry
+listIn count t = zip (take (count + 1) (t .places)) (take (count + 1) (t .ratios)) (take (count + 1) (t .wraps))
 
 -- ---- what may be asked of a list
 -- each ratio lies in 2^-900..2^900
@@ -41,13 +50,13 @@ abbrev pub AllAtMost : ℕ → List ℕ → Type 0
 AllAtMost n ps = (i : ℕ) → i < length ps → getD ps i 0 ≤ n
 
 -- a list of count items that a call may use: each column has a place for every entry
-pub record Listed (count : ℕ) (ps : List ℕ) (rs : List Float) (ws : List ℤ) : Type 0 where
-  pub places-room : count < length ps
-  pub ratios-room : count < length rs
-  pub wraps-room : count < length ws
-  pub reach : AllInReach (ratiosOf (listOf count ps rs ws))
-  pub rises : NeverFalls (ratiosOf (listOf count ps rs ws))
-  pub within : AllAtMost count (placesOf (listOf count ps rs ws))
+pub record Listed (count : ℕ) (t : ListTable) : Type 0 where
+  pub places-room : count < length (t .places)
+  pub ratios-room : count < length (t .ratios)
+  pub wraps-room : count < length (t .wraps)
+  pub reach : AllInReach (ratiosOf (listIn count t))
+  pub rises : NeverFalls (ratiosOf (listIn count t))
+  pub within : AllAtMost count (placesOf (listIn count t))
 
 -- ---- the same as tests that the code makes
 -- after the ratio p, r lies in the range and is not below p
@@ -67,11 +76,13 @@ unfoldable pub areWithin : ℕ → List ℕ → Bool
 areWithin n [] = true
 areWithin n (p ∷ ps) = leb p n && areWithin n ps
 
+-- each column has a place for count items after place 0
+abbrev pub haveList : ℕ → ListTable → Bool
+haveList count t = ltb count (length (t .places)) && ltb count (length (t .ratios)) && ltb count (length (t .wraps))
+
 -- a list of count items: room in each column, then ratios and places
-abbrev pub isList : ℕ → List ℕ → List Float → List ℤ → Bool
-isList count ps rs ws =
-    (ltb count (length ps) && ltb count (length rs) && ltb count (length ws))
-    && (usable (ratiosOf (listOf count ps rs ws)) && areWithin count (placesOf (listOf count ps rs ws)))
+abbrev pub isList : ℕ → ListTable → Bool
+isList count t = haveList count t && (usable (ratiosOf (listIn count t)) && areWithin count (placesOf (listIn count t)))
 
 -- ---- where a search starts
 -- the place of the first ratio that is not below x: the length where there is none

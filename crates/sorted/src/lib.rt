@@ -13,7 +13,7 @@ ghost use lib.Ieee.Positive.{positive};
 ghost use Rattle.sorting.specs.Asked.{AllPositive};
 ghost use Rattle.sorting.specs.Entries.{zip, Columns};
 ghost use Rattle.sorted.specs.Repeats.{near, keep, arranged};
-ghost use Rattle.sorted.specs.Lent.{NeverFalls, goesOn, usable, areWithin, isList, firstNotBelow, from};
+ghost use Rattle.sorted.specs.Lent.{NeverFalls, goesOn, usable, areWithin, listTable, isList, firstNotBelow, from};
 
 // Whether the quotient of two ratios is as good as 1.
 fn is_near(a: f64, c: f64) -> bool
@@ -143,7 +143,7 @@ fn are_within(place: &[u32], n: usize, count: usize) -> bool
 // Whether the columns hold the list of `count` items: place 0 and a place for each, ratios in 2^-900..2^900 that never fall, places
 // within the count. Each column is gone over once.
 pub fn is_list(place: &[u32], ratio: &[f64], wraps: &[i32], count: usize) -> bool
-    ensures { λ r. ⌜ r ≡ isList count (now (place .entry)) (now (ratio .entry)) (now (wraps .entry)) ⌝ }
+    ensures { λ r. ⌜ r ≡ isList count (listTable (now (place .entry)) (now (ratio .entry)) (now (wraps .entry))) ⌝ }
 {
     if count < place.len() {
         if count < ratio.len() {
