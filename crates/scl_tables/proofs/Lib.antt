@@ -1,0 +1,4 @@
+pub mod Filling
+pub mod Override
+pub mod Beyond
+pub mod Parts
