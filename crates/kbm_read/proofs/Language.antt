@@ -107,7 +107,7 @@ module _ (room : ℕ) (s : List ℕ) where
       back : FaultText room s n d → readOf room s ≡ refuses n d
       back t =
           same-walk room (saidIn s) ∙ ap (walkOn mapping reads (finishOn room) room 1 (atStart mapping reads (unread .head))) (one-strict-text s (t .says) (t .text)) ∙
-              listing.refuses-fault mapping reads (finishOn room) room (unread .head) (λ vs es c. WrongEnd room (sizeOf vs) es c) (ends-wrong room) (wrong-ends room) (t .says) n d .1 (t .fault)
+          listing.refuses-fault mapping reads (finishOn room) room (unread .head) (λ vs es c. WrongEnd room (sizeOf vs) es c) (ends-wrong room) (wrong-ends room) (t .says) n d .1 (t .fault)
 
 -- ONE READING: a text is a mapping file of one mapping and one list of entries
 pub one-reading : (s : List ℕ) (x y : Kbm) (es fs : List Entry) → MappingText s x es → MappingText s y fs → (x ≡ y) × (es ≡ fs)

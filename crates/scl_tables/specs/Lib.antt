@@ -1,2 +1,3 @@
 pub mod Build
 pub mod Writing
+pub mod Room

@@ -8,7 +8,7 @@ use scl::Denom;
 use scl::Item;
 ghost use mathlib.Core.Path.{_≡_};
 ghost use mathlib.Core.Bool.{true};
-ghost use Prim.Native.Nat.{_<_, _≤_, _-_};
+ghost use Prim.Native.Nat.{_<_, _≤_, _-_, min};
 ghost use lib.IntN.{pos};
 ghost use lib.ListN.{length, getD, set};
 ghost use lib.Ieee.{nan, le, div, binary64};
@@ -21,6 +21,7 @@ ghost use Rattle.scl.specs.Items.{isUsable, ratioOf};
 ghost use Rattle.scl.specs.Table.{itemOf, itemsOf, itemsIn, itemTable, areUsable, isItems, writtenAt};
 ghost use Rattle.reduction.specs.Reduce.{IsPeriod};
 ghost use Rattle.scl_tables.specs.Build.{entry, entryOf, entriesFrom, lastOf, sortedOf, isBeyond, afterList};
+ghost use Rattle.scl_tables.specs.Room.{shortest};
 ghost use Rattle.scl_tables.specs.Writing.{storedOf};
 
 // What stands in the four columns for an item.
@@ -226,4 +227,27 @@ pub fn is_beyond(last: Item, count: usize) -> bool
         return octaves == 0.0;
     }
     false
+}
+
+// The lesser of two numbers.
+fn lesser(a: usize, b: usize) -> usize
+    ensures { λ r. ⌜ r ≡ min a b ⌝ }
+{
+    if a < b { a } else { b }
+}
+
+// The room for a scale: the shortest of columns of these lengths.
+pub fn room_of(
+    kinds: usize,
+    cents: usize,
+    numers: usize,
+    denoms: usize,
+    places: usize,
+    ratios: usize,
+    wraps: usize,
+) -> usize
+    ensures { λ r. ⌜ r ≡ shortest kinds cents numers denoms places ratios wraps ⌝ }
+{
+    let items = lesser(lesser(kinds, cents), lesser(numers, denoms));
+    lesser(items, lesser(lesser(places, ratios), wraps))
 }

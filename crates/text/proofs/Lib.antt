@@ -18,3 +18,4 @@ pub mod LineLanguage
 pub mod Shown
 pub mod Theorems
 pub mod Samples
+pub mod Placed

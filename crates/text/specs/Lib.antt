@@ -6,3 +6,4 @@ pub mod Eights
 pub mod Utf8Machine
 pub mod Trim
 pub mod ReadLine
+pub mod Placed

@@ -1,0 +1,3 @@
+pub mod Finds
+pub mod Takes
+pub mod Language
