@@ -176,10 +176,10 @@ module _ (vs : Values required) (ts : List (List ℕ)) (given : List Entry) (x :
   said-has (SaidOf.degree i n q r e d m h p) = Has.degree (inside-is vs key i) n q e (reaches-one e d m) h p
 
 -- ---- which refusal, exactly when
-other : {A : Type 0} {m n : ℕ} {x : Said ℤ} → x ≡ refuses m 0 → x ≡ refuses n 0 → (m ≡ n → ⊥) → A
+pub other : {A : Type 0} {m n : ℕ} {x : Said ℤ} → x ≡ refuses m 0 → x ≡ refuses n 0 → (m ≡ n → ⊥) → A
 other p e f = absurd (f (same-refuses (sym p ∙ e) .0))
 
-no-degree : {A : Type 0} {z : ℤ} {n : ℕ} {x : Said ℤ} → x ≡ gives z → x ≡ refuses n 0 → A
+pub no-degree : {A : Type 0} {z : ℤ} {n : ℕ} {x : Said ℤ} → x ≡ gives z → x ≡ refuses n 0 → A
 no-degree p e = no-refusal (sym p ∙ e)
 
 outside-silent : (vs : Values required) (ts : List (List ℕ)) (key : ℤ) → Outside vs key → Silent vs ts key
@@ -244,8 +244,9 @@ module _ {s : List ℕ} {k : Kbm} {es : List Entry} (t : MappingText s k es) (ol
   pub text-outside : (answer ≡ refuses key-out-of-range 0) ↔ Outside vs (key .0)
   text-outside = (λ e. said-outside (text-says answer .0 refl) e, λ o. text-says (refuses key-out-of-range 0) .1 (SaidOf.outside o refl))
 
-  -- NO DEGREE, 16 or 17, exactly when the key is below the first key, or above the last, or the map has entries and the place reached by
-  -- counting round from the reference key has `x` or `X` as its token or lies past the entries written
+  -- NO DEGREE, 16 or 17, exactly when the key is below the first key, or above the last, or its distance from the reference key is a number
+  -- of 32 bits, the map has entries and the place reached by counting round that far has `x` or `X` as its token or lies past the entries
+  -- written
   pub text-lacks : Lacks answer ↔ Silent vs (entryTokens t) (key .0)
   text-lacks = (forth, back)
     where

@@ -6,6 +6,7 @@ pub mod Agree
 pub mod Limits
 pub mod Accepted
 pub mod OneMeaning
+pub mod SameKeys
 pub mod Sounding
 pub mod Samples
 pub mod Range
