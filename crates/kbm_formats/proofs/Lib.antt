@@ -9,5 +9,6 @@ pub mod OneMeaning
 pub mod SameKeys
 pub mod Sounding
 pub mod Samples
+pub mod PublishedSamples
 pub mod Range
 pub mod KeysOfText

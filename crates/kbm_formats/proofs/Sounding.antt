@@ -33,6 +33,13 @@ use Rattle.kbm_formats.proofs.KeysOfText.{added-at}
 use Rattle.kbm_formats.proofs.OneMeaning.{one-meaning}
 use Rattle.kbm_formats.proofs.SameKeys.{SameKeys, answers}
 
+-- a place that is unmapped has no degree
+pub not-mapped : (m : P.Mapping) {r i : ℕ} {z : ℤ} → r ≡ i → getD (m .given) i Unmapped ≡ Unmapped → getD (m .given) r Unmapped ≡ Mapped z → ⊥
+not-mapped m {r} {i} {z} p u f =
+    let x : _≡_ {A = Entry} Unmapped (Mapped z) = sym u ∙ sym (ap (λ (j : ℕ). getD (m .given) j Unmapped) p) ∙ f in
+    let y : _≡_ {A = ℕ} 0 1 = cc in
+    omega arith
+
 -- a key sounds one degree
 pub one-sound : (m : P.Mapping) (key d e : ℤ) → P.Sounds m key d → P.Sounds m key e → d ≡ e
 one-sound m key d e (P.Sounds.linear n p) (P.Sounds.linear l q) = p ∙ sym q
@@ -124,12 +131,7 @@ parting pitch =
     -- -2 is -1 times 3 and 1 more: the second entry, which is unmapped
     none : (d : ℤ) → P.Sounds (asPublished pitch) (pos 60) d → ⊥
     none d (P.Sounds.linear n e) = omega arith
-    none d (P.Sounds.pattern q r z c f e) =
-        let p : r ≡ 1 = divides-one c .1 in
-        let g = ap (λ (i : ℕ). getD (asPublished pitch .given) i Unmapped) p in
-        let x : _≡_ {A = Entry} Unmapped (Mapped z) = sym g ∙ f in
-        let y : _≡_ {A = ℕ} 0 1 = cc in
-        omega arith
+    none d (P.Sounds.pattern q r z c f e) = not-mapped (asPublished pitch) (divides-one c .1) refl f
 
     first : P.Sounds (asPublished pitch) (pos 62) (pos 0)
     first = P.Sounds.pattern (pos 0) 0 (pos 0) (record { whole = refl; rest = lit< tt }) refl refl
