@@ -1,4 +1,5 @@
--- A TEXT OF THE PUBLISHED FORMAT IS TAKEN exactly within document 01's limits, and its meaning is the published one. Assumes nothing.
+-- A TEXT OF THE PUBLISHED FORMAT IS IN DOCUMENT 01'S LANGUAGE exactly within 01's limits, with the same numbers (01 has the f64 nearest the
+-- frequency) and entries; it is read where the table has a place for each entry. Which degrees its keys have: Sounding. Assumes nothing.
 use mathlib.Core.Path.{_≡_, refl, sym, _∙_, subst}
 use mathlib.Core.Bool.{true, false, _&&_}
 use mathlib.Core.List.{List, [], _∷_, _++_}
@@ -161,7 +162,7 @@ module _ {s : List ℕ} {m : P.Mapping} (p : P.PublishedText s m) where
         entries = refl;
       }
 
-  -- A PUBLISHED TEXT WITHIN THE LIMITS is a mapping file of document 01, and what it says there is what it says as published
+  -- A PUBLISHED TEXT WITHIN THE LIMITS is a mapping file of document 01, with the numbers and entries that it has as published
   pub published-accepted : WithinLimits p → (k : Kbm) × (es : List Entry) × MappingText s k es × Agree m k es
   published-accepted w = let t = within-taken w in (mappingFrom said, added (m .size) (m .given), t, agree p (mappingFrom said) (added (m .size) (m .given)) t)
 

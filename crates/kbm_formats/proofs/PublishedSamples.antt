@@ -184,7 +184,7 @@ middle-keys old room =
         read = r .1;
         here63 = key-is (key (pos 63)) .degree (pos 5) .1 (record { retuned = (leZ-yes tt, leZ-yes tt); near = refl; held = refl; sounds = five });
         there63 = five;
-        here61 = key-is (key (pos 61)) .silent .1 (record { retuned = (leZ-yes tt, leZ-yes tt); near = refl; silent = none });
+        here61 = key-is (key (pos 61)) .silent .1 (record { retuned = (leZ-yes tt, leZ-yes tt); within = refl; silent = none });
         there61 = none;
         here128 = key-is (key (pos 128)) .outside .1 high;
         there128 = high;

@@ -149,7 +149,7 @@ module _ (kbm : Kbm) (es : List Entry) (y : Typed kbm es) where
         let h = reads-only (2 ^ 15) key z (lit< tt) (lit≤ tt) (mag-in key (y .middle)) (sound true (2 ^ 15) (lit< tt) z (wholeText key) (sym q)) in
         had-reference (readInt true (2 ^ 15) (wholeText (kbm .root .reference .0))) refl (q ∙ ap value (h .0)) (in-i16 key (h .1)) e
 
-    -- an export read again is the same mapping exactly when it comes back
+    -- an export read again, into a table with a place for each entry, is the same mapping exactly when it comes back
     pub round-trip : (readOf room (exportText kbm es) ≡ gives kbm) ↔ ComesBack kbm
     round-trip = (had-middle (readInt true (2 ^ 15) (wholeText (middleOf kbm))) refl, comes-back)
 

@@ -119,7 +119,7 @@ module _ {m : P.Mapping} {kbm : Kbm} {es : List Entry} (a : SameKeys m kbm es) (
     silent-there (Has.outside w p) e = other p e (λ f. omega arith)
     silent-there (Has.far w n p) e = other p e (λ f. omega arith)
     silent-there (Has.plain w n l p) e = no-degree p e
-    silent-there (Has.none w n q at p) e = record { retuned = retuned w; near = near n; silent = unmapped at }
+    silent-there (Has.none w n q at p) e = record { retuned = retuned w; within = near n; silent = unmapped at }
     silent-there (Has.passed w n q z at h p) e = other p e (λ f. omega arith)
     silent-there (Has.degree w n q z at h p) e = no-degree p e
 
@@ -134,7 +134,7 @@ module _ {m : P.Mapping} {kbm : Kbm} {es : List Entry} (a : SameKeys m kbm es) (
     -- a retuned key near enough that sounds nothing is unmapped
     silent-back : Has kbm es key s → SilentWithin m (key .0) → s ≡ refuses unmapped-key 0
     silent-back (Has.outside w p) x = not-both (retuned-back (x .retuned)) w
-    silent-back (Has.far w n p) x = not-both (near-back (x .near)) n
+    silent-back (Has.far w n p) x = not-both (near-back (x .within)) n
     silent-back (Has.plain w n l p) x = absurd (x .silent (distance kbm key) (linear l))
     silent-back (Has.none w n q at p) x = p
     silent-back (Has.passed w n q z at h p) x = absurd (x .silent (z +ℤ q *ℤ kbm .octave) (mapped z at))

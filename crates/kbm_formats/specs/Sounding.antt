@@ -27,7 +27,7 @@ pub record SoundsWithin (m : P.Mapping) (key d : ℤ) : Type 0 where
 -- the key is retuned and sounds no degree as published; its distance from the middle key is a number of 32 bits ("Order: 16, 11 for d, 17")
 pub record SilentWithin (m : P.Mapping) (key : ℤ) : Type 0 where
   pub retuned : P.Retuned m key
-  pub near : inI32 (key -ℤ m .middle) ≡ true
+  pub within : inI32 (key -ℤ m .middle) ≡ true
   pub silent : (d : ℤ) → P.Sounds m key d → ⊥
 
 -- the key is retuned, and its distance from the middle key, or the degree that it sounds as published, is no number of 32 bits
