@@ -1,11 +1,13 @@
--- The samples that document 01's words give: its own input for `kbmcopy`, and the text at the ends of 32 bits, are read, and their keys
--- answered. Assumes nothing.
-use mathlib.Core.Path.{_≡_, refl}
-use mathlib.Core.Bool.{true}
+-- Samples by document 01: its own input for `kbmcopy`, and the text at the ends of 32 bits, are read, and their keys answered; a mapping that
+-- comes back, and one that does not. Assumes nothing.
+use mathlib.Core.Path.{_≡_, refl, ap}
+use mathlib.Core.Bool.{true, false}
 use mathlib.Core.List.{List, [], _∷_, _++_}
+use mathlib.Core.Logic.{inl, inr}
 use Prim.Native.Nat.{ℕ, _^_, _≤_}
+use native.Mathlib.Omega.{arith}
 use lib.Dec.{lit<, lit≤}
-use lib.Ieee.{ofBits, round, le}
+use lib.Ieee.{Float, ofBits, round, le}
 use lib.IntN.{ℤ, pos, negsuc}
 use lib.ListN.{length}
 use lib.Signed.{leZ-yes}
@@ -15,11 +17,14 @@ use Rattle.decimals.specs.DecimalScan.{spelled, scanOf, readDecimal}
 use Rattle.decimals.specs.DecimalScan as decimals
 use Rattle.integers.specs.Integer.{scan, magnitudeOf, readSigned}
 use Rattle.integers.proofs.Language.{sound}
-use Rattle.kbm.specs.Degree.{degreeAt}
+use Rattle.floats.specs.Units.{negative}
+use Rattle.kbm.specs.Degree.{degreeAt, scaleDegreeOf}
+use Rattle.kbm.specs.Keys.{Lacks}
+use Rattle.kbm.specs.Table.{entriesOf}
 use Rattle.kbm.specs.declared.Entry.{Entry}
 use Rattle.kbm.specs.declared.Entry.the-variants.{Mapped, Unmapped}
 use Rattle.kbm_read.specs.Language.{Required, required, Values, GiveAll, EntryText, Entries, Tokens, sizeOf, mappingFrom, blanks, added, MappingText}
-use Rattle.kbm_read.specs.Reader.{saidIn}
+use Rattle.kbm_read.specs.Reader.{saidIn, afterRead}
 use Rattle.kbm_read.proofs.Fields.{readAs, read-gives}
 use Rattle.kbm_read.proofs.Language.{in-language}
 use Rattle.key.specs.Keys.{key}
@@ -30,8 +35,9 @@ use Rattle.text.specs.Trim.{widthBy, run}
 use Rattle.text.specs.Utf8Machine.{leadOf, utf8Step}
 use Rattle.text.specs.Utf8Machine as utf8
 use Rattle.text.proofs.LineLanguage.{strict-text}
-use Rattle.kbm_formats.specs.Samples.{copyText, exampleKbm, exampleEntries, CopyKeys, farText, farKbm, FarKey}
-use Rattle.kbm_formats.proofs.KeysOfText.{read-answers}
+use Rattle.kbm_formats.specs.KeysOfText.{Silent}
+use Rattle.kbm_formats.specs.Samples.{copyText, exampleKbm, exampleEntries, CopyKeys, farText, farKbm, FarKey, Back}
+use Rattle.kbm_formats.proofs.KeysOfText.{other, read-answers, text-lacks}
 
 -- ---- A TEXT OF THE LANGUAGE, by computation
 -- the values that the required lines are read as
@@ -90,6 +96,8 @@ copy-keys old room =
       at62 = read-answers copy-text old room (key (pos 62));
       at63 = read-answers copy-text old room (key (pos 63));
       high = read-answers copy-text old room (key (pos 128));
+      cross = Silent.gap refl (pos 0) 1 (record { whole = refl; rest = lit< tt }) (inl (inr refl));
+      left-out = Silent.gap refl (pos 0) 2 (record { whole = refl; rest = lit< tt }) (inr (lit≤ tt));
     }
 
 -- ---- THE ENDS OF 32 BITS
@@ -112,5 +120,36 @@ far-key old room =
       inside = (leZ-yes tt, leZ-yes tt);
       counted = record { whole = refl; rest = lit< tt };
       cross = refl;
+      not-silent = λ x. not-lacking (text-lacks far-text old room (key (pos 2147483646)) .1 x);
       answer = read-answers far-text old room (key (pos 2147483646));
     }
+  where
+    -- 11 is neither 16 nor 17
+    not-lacking : Lacks (scaleDegreeOf farKbm (afterRead farText old) (key (pos 2147483646))) → ⊥
+    not-lacking (inl e) = other (read-answers far-text old room (key (pos 2147483646))) e (λ f. omega arith)
+    not-lacking (inr e) = other (read-answers far-text old room (key (pos 2147483646))) e (λ f. omega arith)
+
+-- ---- THE ROUND TRIP
+pub sample-back : Back
+unfolding entriesOf round ofBits le negative
+sample-back =
+    record {
+      typed =
+          record {
+            start = refl;
+            end = refl;
+            reference = refl;
+            pitch = refl;
+            octave = refl;
+            size = lit≤ tt;
+            last = refl;
+            middle = refl;
+            degrees = (refl, (tt, (refl, tt)));
+            counted = refl;
+          };
+      back = record { reference = refl; middle = refl; pitch = refl };
+      not-back = λ c. no-test (ap (λ (x : Float). le x (exampleKbm (pos 62) .root .pitch .0)) (c .pitch));
+    }
+  where
+    no-test : false ≡ true → ⊥
+    no-test e = let z : _≡_ {A = ℕ} 0 1 = cc in omega arith

@@ -1,24 +1,29 @@
--- Texts of samples, and what the calls answer for their keys: document 01's example for `kbmcopy`; the same with `x` written small, as
--- Scala's pages have it; that one with middle and reference key one; and a text at the ends of 32 bits. Assumes nothing.
+-- SAMPLES: texts, and what the calls answer for their keys (document 01's example for `kbmcopy`; the same with `x` written small, as Scala's
+-- pages have it; that one with middle and reference key one; a text at the ends of 32 bits), and the round trip. Assumes nothing.
 use mathlib.Core.Path.{_≡_}
+use mathlib.Core.Bool.{false}
 use mathlib.Core.List.{List, [], _∷_}
 use Prim.Native.Nat.{ℕ, _^_}
-use mathlib.Core.Bool.{false}
 use lib.Ieee.{round, binary64}
 use lib.IntN.{ℤ, pos, negsuc, _-ℤ_}
 use lib.ListN.{length, getD}
 use Rattle.base.specs.Numbers.{overflow, key-out-of-range, unmapped-key}
 use Rattle.base.specs.Said.{gives, refuses}
 use Rattle.kbm.specs.Degree.{scaleDegreeOf}
+use Rattle.kbm.specs.Samples.{sample, sampleTable}
+use Rattle.kbm.specs.Table.{tableOf}
 use Rattle.kbm.specs.declared.Entry.{Entry}
 use Rattle.kbm.specs.declared.Entry.the-variants.{Mapped, Unmapped}
 use Rattle.kbm.specs.declared.Kbm.{Kbm}
 use Rattle.kbm_read.specs.Language.{MappingText}
 use Rattle.kbm_read.specs.Reader.{readOf, afterRead}
+use Rattle.kbm_write.specs.Again.{ComesBack}
 use Rattle.kbm_write.specs.Export.{linesText}
 use Rattle.kbm_write.specs.Published as P
+use Rattle.kbm_write.specs.Typed.{Typed}
 use Rattle.key.specs.Keys.{key}
-use Rattle.kbm_formats.specs.KeysOfText.{entryTokens, Inside, Counts}
+use Rattle.pitch.specs.declared.Pitch.{Pitch}
+use Rattle.kbm_formats.specs.KeysOfText.{entryTokens, Inside, Counts, Silent}
 
 -- `3`, `0`, `127`, the middle key, `60`, `261.6256`, `5`, `0`, and the last entry
 abbrev pub exampleLines : List ℕ → List ℕ → List (List ℕ)
@@ -78,6 +83,9 @@ pub record CopyKeys (old : List ℤ) : Type 0 where
   pub at62 : scaleDegreeOf (exampleKbm (pos 62)) (afterRead copyText old) (key (pos 62)) ≡ refuses unmapped-key 0
   pub at63 : scaleDegreeOf (exampleKbm (pos 62)) (afterRead copyText old) (key (pos 63)) ≡ gives (pos 5)
   pub high : scaleDegreeOf (exampleKbm (pos 62)) (afterRead copyText old) (key (pos 128)) ≡ refuses key-out-of-range 0
+  -- which is what the text's own lines say of 61 and 62
+  pub cross : Silent (text .values) (entryTokens text) (pos 61)
+  pub left-out : Silent (text .values) (entryTokens text) (pos 62)
 
 -- KEYS THAT SOUND AND DO NOT, of the published text with middle and reference key one, read as k into a table `old`
 pub record MiddleKeys (k : Kbm) (old : List ℤ) : Type 0 where
@@ -117,4 +125,15 @@ pub record FarKey (old : List ℤ) : Type 0 where
   pub inside : Inside (text .values) (pos 2147483646)
   pub counted : Counts (text .values) (pos 2147483646) (pos 2147483648) 0
   pub cross : getD (entryTokens text) 0 [] ≡ 120 ∷ []
+  pub not-silent : Silent (text .values) (entryTokens text) (pos 2147483646) → ⊥
   pub answer : scaleDegreeOf farKbm (afterRead farText old) (key (pos 2147483646)) ≡ refuses overflow 0
+
+-- THE ROUND TRIP: 01's mapping of the starred samples with 440 Hz and middle key 60 is of its types and comes back; that of 01's own input is
+-- written with 261.626 and does not
+abbrev pub a440 : Pitch
+a440 = record { 0 = round binary64 false 440 1 }
+
+pub record Back : Type 0 where
+  pub typed : Typed (sample a440 (pos 0)) (tableOf 3 sampleTable)
+  pub back : ComesBack (sample a440 (pos 0))
+  pub not-back : ComesBack (exampleKbm (pos 62)) → ⊥
