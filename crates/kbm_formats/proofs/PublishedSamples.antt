@@ -28,7 +28,8 @@ use Rattle.text.proofs.LinesLanguage.{the-lines}
 use Rattle.text.proofs.Utf8Language.{accepts}
 use Rattle.kbm_formats.specs.Limits.{WithinLimits}
 use Rattle.kbm_formats.specs.Samples.{exampleLines, exampleText, middleText, exampleMapping, MiddleKeys}
-use Rattle.kbm_formats.proofs.Sounding.{not-mapped, read-sounds}
+use Rattle.kbm_formats.proofs.SameKeys.{not-mapped}
+use Rattle.kbm_formats.proofs.Sounding.{read-sounds}
 
 -- digits, by a test
 abbrev allDigits : List ℕ → Bool

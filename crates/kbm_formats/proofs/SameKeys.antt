@@ -28,6 +28,13 @@ use Rattle.kbm_formats.specs.Sounding.{SoundsWithin, SilentWithin, Sound
 use Rattle.kbm_formats.proofs.KeysOfText.{other, no-degree}
 use Rattle.kbm_formats.proofs.Range.{inside, inside-back}
 
+-- a place that is unmapped has no degree
+pub not-mapped : (m : P.Mapping) {r i : ℕ} {z : ℤ} → r ≡ i → getD (m .given) i Unmapped ≡ Unmapped → getD (m .given) r Unmapped ≡ Mapped z → ⊥
+not-mapped m {r} {i} {z} p u f =
+    let x : _≡_ {A = Entry} Unmapped (Mapped z) = sym u ∙ sym (ap (λ (j : ℕ). getD (m .given) j Unmapped) p) ∙ f in
+    let y : _≡_ {A = ℕ} 0 1 = cc in
+    omega arith
+
 -- m says of the keys what the mapping with the entries es does, and its middle key is the mapping's reference key
 pub record SameKeys (m : P.Mapping) (kbm : Kbm) (es : List Entry) : Type 0 where
   pub first : m .first ≡ kbm .start .0
@@ -65,33 +72,31 @@ module _ {m : P.Mapping} {kbm : Kbm} {es : List Entry} (a : SameKeys m kbm es) (
       let c : Divides (distance kbm key) (m .size) q (at .place) = rw (a .size) at (at .counted) in
       P.Sounds.pattern q (at .place) z (rw from-middle c) (sym (a .given (at .place)) ∙ at .found) (rw (a .octave))
 
+  counted : {q : ℤ} {r : ℕ} → Divides (key .0 -ℤ m .middle) (m .size) q r → Divides (distance kbm key) (length es) q r
+  counted c = rw (a .size) (rw from-middle at c)
+
   -- an unmapped place sounds none
   unmapped : {q : ℤ} → Reaches es (distance kbm key) q Unmapped → (d : ℤ) → P.Sounds m (key .0) d → ⊥
   unmapped at d (P.Sounds.linear l g) = omega (arith, at .counted .rest, a .size)
   unmapped at d (P.Sounds.pattern y r z c f g) =
-      let k : Divides (distance kbm key) (length es) y r = rw (a .size) (rw from-middle at c) in
-      let i : r ≡ at .place = divides-one k .1 ∙ sym (divides-one (at .counted) .1) in
-      let j = a .given r in
-      let h = at .found in
-      let u : _≡_ {A = Entry} Unmapped (Mapped z) = cc in
-      let v : _≡_ {A = ℕ} 0 1 = cc in
-      omega arith
+      let i : r ≡ at .place = divides-one (counted c) .1 ∙ sym (divides-one (at .counted) .1) in
+      not-mapped m i (sym (a .given (at .place)) ∙ at .found) f
+
+  reached : {q z : ℤ} {r : ℕ} → Divides (key .0 -ℤ m .middle) (m .size) q r → getD (m .given) r Unmapped ≡ Mapped z → Reaches es (distance kbm key) q (Mapped z)
+  reached {r = r} c f = record { place = r; counted = counted c; found = a .given r ∙ f }
+
+  in-octaves : {d : ℤ} (q z : ℤ) → d ≡ z +ℤ q *ℤ m .octave → d ≡ z +ℤ q *ℤ kbm .octave
+  in-octaves q z e = e ∙ ap (λ (y : ℤ). z +ℤ q *ℤ y) (a .octave)
 
   -- what sounds is reached, or the map has no entries
   module _ (d : ℤ) (w : inKeys kbm key ≡ true) (n : inI32 (distance kbm key) ≡ true) where
     sounds-has : P.Sounds m (key .0) d → inI32 d ≡ true → Has kbm es key (gives d)
     sounds-has (P.Sounds.linear l e) h = Has.plain w n (a .size ∙ l) (ap gives (e ∙ from-middle))
-    sounds-has (P.Sounds.pattern q i z c f e) h =
-        let g : d ≡ z +ℤ q *ℤ kbm .octave = e ∙ ap (λ (y : ℤ). z +ℤ q *ℤ y) (a .octave) in
-        let counted : Divides (distance kbm key) (length es) q i = rw (a .size) (rw from-middle at c) in
-        Has.degree w n q z (record { place = i; counted = counted; found = a .given i ∙ f }) (rw g at h) (ap gives g)
+    sounds-has (P.Sounds.pattern q i z c f e) h = Has.degree w n q z (reached c f) (rw (in-octaves q z e) at h) (ap gives (in-octaves q z e))
 
     past-has : P.Sounds m (key .0) d → inI32 d ≡ false → Has kbm es key (refuses overflow 0)
     past-has (P.Sounds.linear l e) h = not-both n (rw (e ∙ from-middle) at h)
-    past-has (P.Sounds.pattern q i z c f e) h =
-        let g : d ≡ z +ℤ q *ℤ kbm .octave = e ∙ ap (λ (y : ℤ). z +ℤ q *ℤ y) (a .octave) in
-        let counted : Divides (distance kbm key) (length es) q i = rw (a .size) (rw from-middle at c) in
-        Has.passed w n q z (record { place = i; counted = counted; found = a .given i ∙ f }) (rw g at h) refl
+    past-has (P.Sounds.pattern q i z c f e) h = Has.passed w n q z (reached c f) (rw (in-octaves q z e) at h) refl
 
   -- ---- what 01 says is as published
   module _ {s : Said ℤ} where

@@ -14,7 +14,7 @@ use Rattle.base.proofs.Division.{divides-one}
 use Rattle.kbm.specs.Degree.{degreeAt, scaleDegreeOf}
 use Rattle.kbm.specs.Table.{areEntries, entriesOf, isTable, tableOf}
 use Rattle.kbm.specs.declared.Entry.{Entry}
-use Rattle.kbm.specs.declared.Entry.the-variants.{Mapped, Unmapped}
+use Rattle.kbm.specs.declared.Entry.the-variants.{Unmapped}
 use Rattle.kbm.specs.declared.Kbm.{Kbm}
 use Rattle.kbm.proofs.Table.{table-length}
 use Rattle.kbm_read.specs.Reader.{readOf, afterRead}
@@ -31,14 +31,7 @@ use Rattle.kbm_formats.specs.Sounding.{AnsweredAs, atMiddle, asPublished
 use Rattle.kbm_formats.proofs.Accepted.{published-read}
 use Rattle.kbm_formats.proofs.KeysOfText.{added-at}
 use Rattle.kbm_formats.proofs.OneMeaning.{one-meaning}
-use Rattle.kbm_formats.proofs.SameKeys.{SameKeys, answers}
-
--- a place that is unmapped has no degree
-pub not-mapped : (m : P.Mapping) {r i : ℕ} {z : ℤ} → r ≡ i → getD (m .given) i Unmapped ≡ Unmapped → getD (m .given) r Unmapped ≡ Mapped z → ⊥
-not-mapped m {r} {i} {z} p u f =
-    let x : _≡_ {A = Entry} Unmapped (Mapped z) = sym u ∙ sym (ap (λ (j : ℕ). getD (m .given) j Unmapped) p) ∙ f in
-    let y : _≡_ {A = ℕ} 0 1 = cc in
-    omega arith
+use Rattle.kbm_formats.proofs.SameKeys.{not-mapped, SameKeys, answers}
 
 -- a key sounds one degree
 pub one-sound : (m : P.Mapping) (key d e : ℤ) → P.Sounds m key d → P.Sounds m key e → d ≡ e

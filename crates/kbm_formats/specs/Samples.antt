@@ -128,11 +128,12 @@ pub record FarKey (old : List ℤ) : Type 0 where
   pub not-silent : Silent (text .values) (entryTokens text) (pos 2147483646) → ⊥
   pub answer : scaleDegreeOf farKbm (afterRead farText old) (key (pos 2147483646)) ≡ refuses overflow 0
 
--- THE ROUND TRIP: 01's mapping of the starred samples with 440 Hz and middle key 60 is of its types and comes back; that of 01's own input is
--- written with 261.626 and does not
+-- 440 Hz
 abbrev pub a440 : Pitch
 a440 = record { 0 = round binary64 false 440 1 }
 
+-- THE ROUND TRIP: the mapping of 01's starred samples with 440 Hz and middle key 60 is of its types and comes back; that of 01's own input,
+-- whose 261.6256 Hz are written as 261.626, does not
 pub record Back : Type 0 where
   pub typed : Typed (sample a440 (pos 0)) (tableOf 3 sampleTable)
   pub back : ComesBack (sample a440 (pos 0))

@@ -35,8 +35,8 @@ pub data SoundsPast (m : P.Mapping) (key : ℤ) : Type 0 where
   distance : P.Retuned m key → inI32 (key -ℤ m .middle) ≡ false → SoundsPast m key
   degree : P.Retuned m key → (d : ℤ) → P.Sounds m key d → inI32 d ≡ false → SoundsPast m key
 
--- THE ANSWER FOR A KEY IS AS PUBLISHED: a degree exactly where it sounds that one, 16 exactly where it is not retuned, 17 exactly where it
--- sounds none, 11 exactly where a number passes 32 bits
+-- THE ANSWER FOR A KEY IS AS PUBLISHED: 16 exactly where it is not retuned; of a retuned key 11 exactly where a number passes 32 bits, and
+-- else a degree exactly where it sounds that one, 17 exactly where it sounds none
 pub record AnsweredAs (m : P.Mapping) (key : ℤ) (answer : Said ℤ) : Type 0 where
   pub degree : (d : ℤ) → (answer ≡ gives d) ↔ SoundsWithin m key d
   pub outside : (answer ≡ refuses key-out-of-range 0) ↔ (P.Retuned m key → ⊥)
