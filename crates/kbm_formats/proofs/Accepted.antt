@@ -1,4 +1,5 @@
--- A TEXT OF THE PUBLISHED FORMAT IS TAKEN exactly within document 01's limits, and its meaning is the published one. Assumes nothing.
+-- A TEXT OF THE PUBLISHED FORMAT IS IN DOCUMENT 01'S LANGUAGE exactly within 01's limits, with the same numbers (01 has the f64 nearest the
+-- frequency) and entries; it is read where the table has a place for each entry. Which degrees its keys have: Sounding. Assumes nothing.
 use mathlib.Core.Path.{_≡_, refl, sym, _∙_, subst}
 use mathlib.Core.Bool.{true, false, _&&_}
 use mathlib.Core.List.{List, [], _∷_, _++_}
@@ -15,13 +16,14 @@ use Rattle.base.specs.Said.{gives}
 use Rattle.decimals.specs.DecimalText.{OptionalSign, Form, FloatText, Unsupported, DecimalText, fromNonzero}
 use Rattle.floats.proofs.Ranges.{and-true}
 use Rattle.integers.specs.IntegerText.{IntText}
-use Rattle.kbm.specs.Table.{AreI16}
+use Rattle.kbm.specs.Table.{AreI16, isTable, tableOf}
 use Rattle.kbm.specs.declared.Entry.{Entry}
 use Rattle.kbm.specs.declared.Kbm.{Kbm}
 use Rattle.kbm_read.specs.Language.{required, Values, GiveAll, EntryText, Entries, Tokens, mappingFrom, added, MappingText}
-use Rattle.kbm_read.specs.Reader.{readOf, entriesIn}
+use Rattle.kbm_read.specs.Reader.{readOf, afterRead}
 use Rattle.kbm_read.proofs.Ends.{length-added}
-use Rattle.kbm_read.proofs.Language.{accepts}
+use Rattle.kbm_read.proofs.Language.{in-language}
+use Rattle.kbm_read.proofs.Tables.{leaves-meaning}
 use Rattle.kbm_write.specs.Published as P
 use Rattle.text.specs.Characters.{Utf8}
 use Rattle.text.specs.ReadLine.{strictly, meaningBy}
@@ -160,7 +162,7 @@ module _ {s : List ℕ} {m : P.Mapping} (p : P.PublishedText s m) where
         entries = refl;
       }
 
-  -- A PUBLISHED TEXT WITHIN THE LIMITS is a mapping file of document 01, and what it says there is what it says as published
+  -- A PUBLISHED TEXT WITHIN THE LIMITS is a mapping file of document 01, with the numbers and entries that it has as published
   pub published-accepted : WithinLimits p → (k : Kbm) × (es : List Entry) × MappingText s k es × Agree m k es
   published-accepted w = let t = within-taken w in (mappingFrom said, added (m .size) (m .given), t, agree p (mappingFrom said) (added (m .size) (m .given)) t)
 
@@ -168,10 +170,12 @@ module _ {s : List ℕ} {m : P.Mapping} (p : P.PublishedText s m) where
   pub published-exactly : ((k : Kbm) × (es : List Entry) × MappingText s k es) ↔ WithinLimits p
   published-exactly = (λ t. taken-within p (t .0) (t .1) (t .2), λ w. (mappingFrom said, added (m .size) (m .given), within-taken w))
 
-  -- the reader gives its mapping, where the table has a place for each entry
-  pub published-read : WithinLimits p → (room : ℕ) → m .size ≤ room → (k : Kbm) × (readOf room s ≡ gives k) × Agree m k (entriesIn (k .count) s)
-  published-read w room h =
+  -- it is read where the table has a place for each entry, and leaves a table that later calls take, with its numbers and entries
+  pub published-read : WithinLimits p → (old : List ℤ) → m .size ≤ length old
+      → (k : Kbm) × (readOf (length old) s ≡ gives k) × (isTable (k .count) (afterRead s old) ≡ true) × Agree m k (tableOf (k .count) (afterRead s old))
+  published-read w old h =
       let t = within-taken w in
       let es = added (m .size) (m .given) in
-      let a = accepts room s (mappingFrom said) es .1 (t, omega (arith, length-added (m .size) (m .given), p .most)) in
-      (mappingFrom said, a .0, rw (a .1) (agree p (mappingFrom said) es t))
+      let fits : length es ≤ length old = omega (arith, length-added (m .size) (m .given), p .most) in
+      let l = leaves-meaning s old (mappingFrom said) es t fits in
+      (mappingFrom said, in-language (length old) s t fits, l .0, rw (l .1) (agree p (mappingFrom said) es t))

@@ -1,4 +1,4 @@
--- THE LIMITS ARE NEEDED: a published text that document 01 takes is within them. Assumes nothing.
+-- THE LIMITS ARE NEEDED: a published text in document 01's language is within them. Assumes nothing.
 use mathlib.Core.Path.{_≡_, sym, _∙_, subst}
 use mathlib.Core.Bool.{false}
 use mathlib.Core.List.{List, [], _∷_, _++_}

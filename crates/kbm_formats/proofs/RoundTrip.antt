@@ -1,5 +1,6 @@
--- THE ROUND TRIP: the export of a mapping, read again, is the same mapping exactly when reference and middle key fit i16 and the
--- pitch is the f64 nearest its own three decimals; its entries come back in any case. Assumes nothing.
+-- THE ROUND TRIP: the export of a mapping, read again into a table with a place for each entry, is the same mapping exactly when reference
+-- and middle key fit i16 and the pitch is the f64 nearest its own three decimals. That a read leaves the entries is `entries-back` of Agree,
+-- also where the pitch comes back as another. Assumes nothing.
 use mathlib.Core.Path.{_≡_, refl, sym, ap, _∙_}
 use mathlib.Core.Bool.{Bool, true, false}
 use mathlib.Core.List.{List, _∷_, append-nil}
@@ -148,14 +149,14 @@ module _ (kbm : Kbm) (es : List Entry) (y : Typed kbm es) where
         let h = reads-only (2 ^ 15) key z (lit< tt) (lit≤ tt) (mag-in key (y .middle)) (sound true (2 ^ 15) (lit< tt) z (wholeText key) (sym q)) in
         had-reference (readInt true (2 ^ 15) (wholeText (kbm .root .reference .0))) refl (q ∙ ap value (h .0)) (in-i16 key (h .1)) e
 
-    -- an export read again is the same mapping exactly when it comes back
+    -- an export read again, into a table with a place for each entry, is the same mapping exactly when it comes back
     pub round-trip : (readOf room (exportText kbm es) ≡ gives kbm) ↔ ComesBack kbm
     round-trip = (had-middle (readInt true (2 ^ 15) (wholeText (middleOf kbm))) refl, comes-back)
 
-  -- and its entries are the same in any case
-  pub entries-back : entriesIn (kbm .count) (exportText kbm es) ≡ es
+  -- the entries that the lines of the export say, read or not
+  lines-back : entriesIn (kbm .count) (exportText kbm es) ≡ es
   unfolding blanks
-  entries-back =
+  lines-back =
       let g : givenFrom 7 (selves (exportTexts kbm es)) ≡ es = head-given (wholeText (pos (kbm .count))) (wholeText (kbm .start .0)) (wholeText (lastOf kbm)) (wholeText (middleOf kbm)) (wholeText (kbm .root .reference .0)) (textOf 3 false hz) (wholeText (kbm .octave)) (entryTexts es) ∙ entries-given es (y .degrees) in
       let z : kbm .count - length es ≡ 0 = omega (arith, y .counted) in
       rw (export-found kbm es, g, z) (append-nil es)
@@ -167,5 +168,5 @@ module _ (kbm : Kbm) (es : List Entry) (y : Typed kbm es) where
       let all : room ≤ room = omega arith in
       let a = accepts room (exportText kbm es) kbm es in (
         λ m. round-trip room all .0 (a .1 (m, omega (arith, y .counted)) .0),
-        λ c. a .0 (comes-back room all c, entries-back) .0,
+        λ c. a .0 (comes-back room all c, lines-back) .0,
       )

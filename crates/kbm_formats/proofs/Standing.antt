@@ -1,5 +1,5 @@
--- LINES AS PUBLISHED, read by document 01: a line where a value stands has it as its token, a comment drops out, and so the tokens
--- are the values of the lines that are kept. Assumes nothing.
+-- LINES AS PUBLISHED, read by document 01: of lines in UTF-8 one where a value stands has it as its token, a comment drops out, and so the
+-- tokens are the values of the lines that are kept. Assumes nothing.
 use mathlib.Core.Path.{_≡_, refl, sym, ap, _∙_, subst}
 use mathlib.Core.List.{List, [], _∷_, _++_, append-assoc}
 use mathlib.Core.Logic.{_⊎_, inl, inr}

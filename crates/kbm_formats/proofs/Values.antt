@@ -1,4 +1,5 @@
--- VALUES AS PUBLISHED, read by document 01: a whole number, a frequency, a degree is the same there, and each is a word. Assumes nothing.
+-- VALUES AS PUBLISHED, read by document 01: where 01 reads them, a whole number and a degree are the same there and a frequency is its
+-- nearest f64; and each is a word. Assumes nothing.
 use mathlib.Core.Path.{_≡_, refl, sym, ap, _∙_, subst}
 use mathlib.Core.Bool.{Bool, true, false}
 use mathlib.Core.List.{List, [], _∷_, _++_}

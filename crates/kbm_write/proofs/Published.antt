@@ -85,7 +85,8 @@ degrees [] d = tt
 degrees (Mapped z ∷ es) d = ((wholeText z, alone (wholeText z), P.Degree.degree z (whole-number z (omega (arith, mag-i16 z (d .0))))), degrees es (d .1))
 degrees (Unmapped ∷ es) d = ((120 ∷ [], alone (120 ∷ []), P.Degree.cross refl), degrees es (d .1))
 
--- the bytes that the export writes are a text of the published format, with that mapping as its meaning
+-- the bytes that the export of a mapping of its types writes are a text of the published format, and say the mapping's numbers, its pitch to
+-- three decimals, and its entries
 pub export-published : (kbm : Kbm) (es : List Entry) → Typed kbm es → P.PublishedText (exportText kbm es) (P.publishedOf kbm es)
 export-published kbm es y =
     record {

@@ -125,7 +125,8 @@ pub data Sounds (m : Mapping) (key degree : ℤ) : Type 0 where
   linear : m .size ≡ 0 → degree ≡ key -ℤ m .middle → Sounds m key degree
   pattern : (q : ℤ) (r : ℕ) (z : ℤ) → Divides (key -ℤ m .middle) (m .size) q r → getD (m .given) r Unmapped ≡ Mapped z → degree ≡ z +ℤ q *ℤ m .octave → Sounds m key degree
 
--- "first MIDI note to retune; last MIDI note to retune"
+-- "first MIDI note to retune; last MIDI note to retune". A MIDI note is 0 to 127: that bound is left out on purpose, here and of the four lines
+-- with a key, since 01 has keys of 32 bits and no such bound
 abbrev pub Retuned : Mapping → ℤ → Type 0
 Retuned m key = (m .first ≤ℤ key) × (key ≤ℤ m .last)
 
