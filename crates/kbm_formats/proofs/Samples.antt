@@ -24,13 +24,13 @@ use Rattle.kbm.specs.Table.{entriesOf}
 use Rattle.kbm.specs.declared.Entry.{Entry}
 use Rattle.kbm.specs.declared.Entry.the-variants.{Mapped, Unmapped}
 use Rattle.kbm_read.specs.Language.{Required, required, Values, GiveAll, EntryText, Entries, Tokens, sizeOf, mappingFrom, blanks, added, MappingText}
-use Rattle.kbm_read.specs.Reader.{saidIn, afterRead}
+use Rattle.kbm_read.specs.Reader.{afterRead}
 use Rattle.kbm_read.proofs.Fields.{readAs, read-gives}
 use Rattle.kbm_read.proofs.Language.{in-language}
 use Rattle.key.specs.Keys.{key}
 use Rattle.kbm_write.specs.Export.{linesText}
 use Rattle.text.specs.Cut.{lines}
-use Rattle.text.specs.ReadLine.{tokenLength, meaningBy, meanings}
+use Rattle.text.specs.ReadLine.{tokenLength, meaningBy, meanings, saidIn}
 use Rattle.text.specs.Trim.{widthBy, run}
 use Rattle.text.specs.Utf8Machine.{leadOf, utf8Step}
 use Rattle.text.specs.Utf8Machine as utf8
@@ -61,7 +61,7 @@ by-lines s first rest vs es t r e l c =
       text = strict-text s;
       values = vs;
       given = es;
-      lines = record { first = first; rest = rest; tokens = t; values = all-read required first vs r; entries = e };
+      lines = record { first = first; rest = rest; words = t; values = all-read required first vs r; entries = e };
       not-large = l;
       consistent = c;
       mapping = refl;
