@@ -116,3 +116,7 @@ line-turn w text at h {l} {r} p q =
 pub said-end : (text : List ℕ) (at : ℕ) → length text ≤ at → saidIn (drop at text) ≡ []
 unfolding lines meanings
 said-end text at h = rw (drop-of-length-le text h)
+
+-- the token of a line lies in the text
+pub token-within : (text : List ℕ) {x : LineSays} {a e t : ℕ} → InText text x → x ≡ Content a e t → (a ≤ t) × (t ≤ length text)
+token-within text h q = let w = rw q at h in (w .0, omega (arith, w .1, w .2))
