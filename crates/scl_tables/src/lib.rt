@@ -20,7 +20,7 @@ ghost use Rattle.sorted.specs.Lent.{AllInReach, from, listTable};
 ghost use Rattle.scl.specs.Items.{isUsable, ratioOf};
 ghost use Rattle.scl.specs.Table.{itemOf, itemsOf, itemsIn, itemTable, areUsable, isItems, writtenAt};
 ghost use Rattle.reduction.specs.Reduce.{IsPeriod};
-ghost use Rattle.scl_tables.specs.Build.{entry, entryOf, entriesFrom, lastOf, sortedOf, isBeyond, afterList};
+ghost use Rattle.scl_tables.specs.Build.{entry, entryOf, entriesFrom, lastOf, sortedOf, isBeyond, isGiven, afterList};
 ghost use Rattle.scl_tables.specs.Writing.{storedOf};
 
 // What stands in the four columns for an item.
@@ -186,7 +186,7 @@ fn build_whole(
     sorted::arrange(place, ratio, wraps);
 }
 
-// The sorted list of `count` usable items and place 0, in columns that may be longer: what they hold after it stays.
+// The sorted list of `count` usable items and place 0, in columns that may be longer: what they hold after it stays. 18 never arises.
 pub fn build_list(
     kind: &[u8],
     cents: &[f64],
@@ -199,9 +199,10 @@ pub fn build_list(
 )
     requires { ⌜ (isItems count (itemTable (now kind) (now cents) (now numer) (now denom)) ≡ true) × (count ≤ 65535)
         × (count < length (now place)) × (count < length (now ratio)) × (count < length (now wraps)) ⌝ }
-    ensures { λ _. ⌜ listTable (now (place .exit)) (now (ratio .exit)) (now (wraps .exit))
+    ensures { λ _. ⌜ (isGiven (sortedOf (itemsIn count (itemTable (now (kind .entry)) (now (cents .entry)) (now (numer .entry)) (now (denom .entry))))) ≡ true)
+        × (listTable (now (place .exit)) (now (ratio .exit)) (now (wraps .exit))
         ≡ afterList (sortedOf (itemsIn count (itemTable (now (kind .entry)) (now (cents .entry)) (now (numer .entry)) (now (denom .entry)))))
-        (listTable (now (place .entry)) (now (ratio .entry)) (now (wraps .entry))) ⌝ }
+        (listTable (now (place .entry)) (now (ratio .entry)) (now (wraps .entry)))) ⌝ }
 {
     let n = count + 1;
     build_whole(
