@@ -15,7 +15,7 @@ use Rattle.pitch.specs.Ratios.{asCents}
 use Rattle.sorting.specs.Entries.{Entry}
 use Rattle.sorted.specs.Lent.{ListTable, isList}
 use Rattle.scl.specs.Items.{isUsable}
-use Rattle.scl.specs.Table.{ItemTable, itemsIn, implicit, writtenAt, isItems}
+use Rattle.scl.specs.Table.{ItemTable, itemTable, itemsIn, implicit, writtenAt, isItems}
 use Rattle.scl.specs.declared.Item.{Item}
 use Rattle.scl.specs.declared.Item.the-variants.{Cents}
 use Rattle.scl_tables.specs.Build.{sizedOf, afterList}
@@ -82,15 +82,19 @@ pub record Built : Type 0 where
   pub builder : SclBuilder
   pub table : ItemTable
 
+abbrev pub beside : SclBuilder → ItemTable → Built
+beside b t = record { builder = b; table = t }
+
 -- the builder that a push leaves: the old one where it is refused
 abbrev pub builderAfter : SclBuilder → Said SclBuilder → SclBuilder
 builderAfter old (gives b) = b
 builderAfter old (refuses n detail) = old
 
+-- one item pushed, whether it is accepted or refused
 abbrev pub afterOne : Built → Item → Built
-afterOne s item = record { builder = builderAfter (s .builder) (pushed (s .builder) (s .table) item); table = afterPush (s .builder) (s .table) item }
+afterOne s item = beside (builderAfter (s .builder) (pushed (s .builder) (s .table) item)) (afterPush (s .builder) (s .table) item)
 
--- these items pushed one after the other, whether each is accepted or refused
+-- these items pushed one after the other
 unfoldable pub afterAll : Built → List Item → Built
 afterAll s [] = s
 afterAll s (i ∷ is) = afterAll (afterOne s i) is
@@ -104,15 +108,15 @@ acceptedOf places (i ∷ is) = pick (isUsable i && ltb 0 places) (i ∷ accepted
 abbrev pub placesLeft : SclBuilder → ℕ
 placesLeft b = b .room - (b .count + 1)
 
--- these items were appended to the plain list: one count more for each, all other places as they were
+-- what stands after the first n places
+abbrev pub behind : ℕ → ItemTable → ItemTable
+behind n t = itemTable (drop n (t .kinds)) (drop n (t .cents)) (drop n (t .numers)) (drop n (t .denoms))
+
+-- these items were appended to the plain list: one count more for each, all places behind them as they were
 pub record Appended (s : Built) (is : List Item) (left : Built) : Type 0 where
   pub items : itemsIn (left .builder .count) (left .table) ≡ itemsIn (s .builder .count) (s .table) ++ is
-  pub room : left .builder .room ≡ s .builder .room
-  pub count : left .builder .count ≡ s .builder .count + length is
-  pub kinds : drop (s .builder .count + length is + 1) (left .table .kinds) ≡ drop (s .builder .count + length is + 1) (s .table .kinds)
-  pub cents : drop (s .builder .count + length is + 1) (left .table .cents) ≡ drop (s .builder .count + length is + 1) (s .table .cents)
-  pub numers : drop (s .builder .count + length is + 1) (left .table .numers) ≡ drop (s .builder .count + length is + 1) (s .table .numers)
-  pub denoms : drop (s .builder .count + length is + 1) (left .table .denoms) ≡ drop (s .builder .count + length is + 1) (s .table .denoms)
+  pub builder : left .builder ≡ state (s .builder .room) (s .builder .count + length is)
+  pub others : behind (s .builder .count + length is + 1) (left .table) ≡ behind (s .builder .count + length is + 1) (s .table)
   pub fits : fitsItems (left .builder) (left .table) ≡ true
 
 -- ---- a build

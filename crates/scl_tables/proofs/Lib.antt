@@ -2,3 +2,4 @@ pub mod Filling
 pub mod Override
 pub mod Beyond
 pub mod Parts
+pub mod Theorems
