@@ -1,7 +1,7 @@
 -- What a new builder and a push come to, by the tests that the code makes. Assumes nothing.
 use mathlib.Core.Path.{_≡_, refl, sym, _∙_, ap}
 use mathlib.Core.Bool.{Bool, true, false, _&&_}
-use Prim.Native.Nat.{ℕ, _+_, _≤_, _<_, min}
+use Prim.Native.Nat.{ℕ, _+_, _≤_, _<_}
 use native.Mathlib.Omega.{arith}
 use lib.Dec.{leb, ltb}
 use lib.ListN.{length}
@@ -16,28 +16,18 @@ use Rattle.scl.specs.Table.{ItemTable, implicit, writtenAt}
 use Rattle.scl.specs.declared.Item.{Item}
 use Rattle.scl.specs.declared.Item.the-variants.{Cents}
 use Rattle.scl.proofs.Table.{both}
-use Rattle.scl_build.specs.Builder.{roomOf, state, builderOf, afterNew, fitsItems, fitsList, pushed, writtenWhere, afterPush, pushedRatio, afterCents, afterRatio}
+use Rattle.scl_tables.specs.Room.{roomOf}
+use Rattle.scl_build.specs.Builder.{state, builderOf, afterNew, fitsItems, fitsList, pushed, writtenWhere, afterPush, pushedRatio, afterCents, afterRatio}
 use Rattle.scl_build.specs.declared.SclBuilder.{SclBuilder}
 
 -- ---- a new builder
 module _ (t : ItemTable) (l : ListTable) where
-  pub room-is : {a b c d e r : ℕ} → a ≡ min (length (t .kinds)) (length (t .cents)) → b ≡ min (length (t .numers)) (length (t .denoms)) → c ≡ min a b
-      → d ≡ min (length (l .places)) (length (l .ratios)) → e ≡ min d (length (l .wraps)) → r ≡ min c e → r ≡ roomOf t l
-  unfolding roomOf
-  room-is ea eb ec ed ee er = rw (er, ec, ea, eb, ee, ed)
-
   module _ {r : ℕ} (e : r ≡ roomOf t l) where
     pub new-given : 0 < r → {t′ : ItemTable} → t′ ≡ writtenAt t 0 implicit → (gives (state r 0) ≡ builderOf t l) × (t′ ≡ afterNew t l)
     new-given h w = let some = ap (ltb 0) (sym e) ∙ lt-ltb 0 r h in (rw some (ap (λ (x : ℕ). gives (state x 0)) e), rw some w)
 
     pub new-none : r ≤ 0 → (refuses no-room 0 ≡ builderOf t l) × (t ≡ afterNew t l)
     new-none h = let none = ap (ltb 0) (sym e) ∙ le-ltb 0 r h in (rw none, rw none)
-
-  -- the room is in each column
-  pub room-within : (roomOf t l ≤ length (t .kinds)) × (roomOf t l ≤ length (t .cents)) × (roomOf t l ≤ length (t .numers)) × (roomOf t l ≤ length (t .denoms))
-      × (roomOf t l ≤ length (l .places)) × (roomOf t l ≤ length (l .ratios)) × (roomOf t l ≤ length (l .wraps))
-  unfolding roomOf
-  room-within = (omega arith, omega arith, omega arith, omega arith, omega arith, omega arith, omega arith)
 
 -- ---- what it is to fit
 pub record Fit (b : SclBuilder) (t : ItemTable) : Type 0 where

@@ -25,15 +25,17 @@ use Rattle.scl.proofs.Table.{have-items, length-first, items-roomy, items-usabl
 use Rattle.scl.proofs.Theorems.{scl-one}
 use Rattle.scl.proofs.Writing.{first-written}
 use Rattle.scl_tables.specs.Build.{countOf, scaleOf, sortedOf, sizedOf, isBeyond, lastOf, afterList}
+use Rattle.scl_tables.specs.Room.{roomOf}
 use Rattle.scl_tables.proofs.Beyond.{scale-looks}
+use Rattle.scl_tables.proofs.Room.{room-within}
 use Rattle.scl_tables.proofs.Theorems.{list-leaves, left-list}
 use Rattle.scl_build.specs.Answers.{saysBuilder}
-use Rattle.scl_build.specs.Builder.{roomOf, state, builderOf, afterNew, fitsItems, fitsList, pushed, afterPush, pushedRatio, afterRatio, beside, afterAll, acceptedOf, Built, Appended, isReady, built, counted, Leaves}
+use Rattle.scl_build.specs.Builder.{state, builderOf, afterNew, fitsItems, fitsList, pushed, afterPush, pushedRatio, afterRatio, beside, afterAll, acceptedOf, Built, Appended, isReady, built, counted, Leaves}
 use Rattle.scl_build.specs.declared.SclBuilder.{SclBuilder}
 use Rattle.scl_build.specs.declared.SclBuilderAnswer.the-variants as OfBuilder
 use Rattle.scl_build.proofs.Appends.{written-fits, run-appends, accepted-usable}
 use Rattle.scl_build.proofs.Builds.{ready, ready-items, ready-count, not-ready}
-use Rattle.scl_build.proofs.Pushes.{Fit, fit-says, says-fit, says-fit-list, room-within}
+use Rattle.scl_build.proofs.Pushes.{Fit, fit-says, says-fit, says-fit-list}
 
 -- ---- from a new builder on
 implicit-usable : isUsable implicit ≡ true

@@ -5,7 +5,7 @@
 use mathlib.Core.Path.{_≡_}
 use mathlib.Core.Bool.{Bool, true, _&&_}
 use mathlib.Core.List.{List, [], _∷_, _++_}
-use Prim.Native.Nat.{ℕ, _+_, _-_, _≤_, min}
+use Prim.Native.Nat.{ℕ, _+_, _-_, _≤_}
 use lib.Dec.{leb, ltb}
 use lib.Ieee.{Float}
 use lib.ListN.{length, drop}
@@ -19,14 +19,8 @@ use Rattle.scl.specs.Table.{ItemTable, itemTable, itemsIn, implicit, writtenAt,
 use Rattle.scl.specs.declared.Item.{Item}
 use Rattle.scl.specs.declared.Item.the-variants.{Cents}
 use Rattle.scl_tables.specs.Build.{sizedOf, afterList}
+use Rattle.scl_tables.specs.Room.{roomOf}
 use Rattle.scl_build.specs.declared.SclBuilder.{SclBuilder}
-
--- "the room for a scale is the shorter of this list and the item table": the shortest column
-unfoldable pub roomOf : ItemTable → ListTable → ℕ
-roomOf t l =
-    min
-    (min (min (length (t .kinds)) (length (t .cents))) (min (length (t .numers)) (length (t .denoms))))
-    (min (min (length (l .places)) (length (l .ratios))) (length (l .wraps)))
 
 abbrev pub state : ℕ → ℕ → SclBuilder
 state room count = record { room = room; count = count }

@@ -12,7 +12,6 @@ use scl::Scl;
 use scl::SclAnswer;
 ghost use mathlib.Core.Path.{_≡_};
 ghost use mathlib.Core.Bool.{_&&_};
-ghost use Prim.Native.Nat.{min};
 ghost use lib.Dec.{leb, ltb};
 ghost use Rattle.scl.specs.Answers.{saysScl};
 ghost use Rattle.scl.specs.Table.{itemTable};
@@ -51,13 +50,6 @@ const OUT_OF_REACH: Refusal = Refusal {
     detail: 0,
 };
 
-// The lesser of two numbers.
-fn lesser(a: usize, b: usize) -> usize
-    ensures { λ r. ⌜ r ≡ min a b ⌝ }
-{
-    if a < b { a } else { b }
-}
-
 // Whether a state fits four columns of these lengths.
 fn fits_items(state: SclBuilder, kinds: usize, cents: usize, numers: usize, denoms: usize) -> bool
     ensures { λ r. ⌜ r ≡ (ltb (state .count) (state .room) && (leb (state .room) kinds && leb (state .room) cents && leb (state .room) numers && leb (state .room) denoms)) ⌝ }
@@ -91,12 +83,7 @@ impl SclBuilder {
             × (itemTable (now (kind .exit)) (now (cents .exit)) (now (numer .exit)) (now (denom .exit))
             ≡ afterNew (itemTable (now (kind .entry)) (now (cents .entry)) (now (numer .entry)) (now (denom .entry))) (listTable (now (place .entry)) (now (ratio .entry)) (now (wraps .entry)))) ⌝ }
     {
-        let items = lesser(
-            lesser(kind.len(), cents.len()),
-            lesser(numer.len(), denom.len()),
-        );
-        let list = lesser(lesser(place.len(), ratio.len()), wraps.len());
-        let room = lesser(items, list);
+        let room = scl_tables::room_of(kind, cents, numer, denom, place, ratio, wraps);
         if 0 < room {
             scl_tables::write_item(kind, cents, numer, denom, 0, Item::Cents(0.0));
             return SclBuilderAnswer::Is(SclBuilder { room, count: 0 });

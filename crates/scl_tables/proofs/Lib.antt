@@ -1,3 +1,4 @@
+pub mod Room
 pub mod Filling
 pub mod Override
 pub mod Beyond

@@ -1,2 +1,3 @@
+pub mod Room
 pub mod Build
 pub mod Writing

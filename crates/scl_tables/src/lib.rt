@@ -8,7 +8,7 @@ use scl::Denom;
 use scl::Item;
 ghost use mathlib.Core.Path.{_≡_};
 ghost use mathlib.Core.Bool.{true};
-ghost use Prim.Native.Nat.{_<_, _≤_, _-_};
+ghost use Prim.Native.Nat.{_<_, _≤_, _-_, min};
 ghost use lib.IntN.{pos};
 ghost use lib.ListN.{length, getD, set};
 ghost use lib.Ieee.{nan, le, div, binary64};
@@ -21,7 +21,35 @@ ghost use Rattle.scl.specs.Items.{isUsable, ratioOf};
 ghost use Rattle.scl.specs.Table.{itemOf, itemsOf, itemsIn, itemTable, areUsable, isItems, writtenAt};
 ghost use Rattle.reduction.specs.Reduce.{IsPeriod};
 ghost use Rattle.scl_tables.specs.Build.{entry, entryOf, entriesFrom, lastOf, sortedOf, isBeyond, isGiven, afterList};
+ghost use Rattle.scl_tables.specs.Room.{roomOf};
 ghost use Rattle.scl_tables.specs.Writing.{storedOf};
+
+// The lesser of two numbers.
+fn lesser(a: usize, b: usize) -> usize
+    ensures { λ r. ⌜ r ≡ min a b ⌝ }
+{
+    if a < b { a } else { b }
+}
+
+// The room of a scale's tables: the length of the shortest column.
+pub fn room_of(
+    kind: &[u8],
+    cents: &[f64],
+    numer: &[u32],
+    denom: &[u32],
+    place: &[u32],
+    ratio: &[f64],
+    wraps: &[i32],
+) -> usize
+    ensures { λ r. ⌜ r ≡ roomOf (itemTable (now (kind .entry)) (now (cents .entry)) (now (numer .entry)) (now (denom .entry))) (listTable (now (place .entry)) (now (ratio .entry)) (now (wraps .entry))) ⌝ }
+{
+    let items = lesser(
+        lesser(kind.len(), cents.len()),
+        lesser(numer.len(), denom.len()),
+    );
+    let list = lesser(lesser(place.len(), ratio.len()), wraps.len());
+    lesser(items, list)
+}
 
 // What stands in the four columns for an item.
 pub struct Stored {
