@@ -11,7 +11,8 @@ use lib.ListN.{length, getD}
 use lib.Ieee.{Float, nan, lt}
 use lib.Ieee.Positive.{positive}
 use Rattle.sorting.specs.Asked.{AllPositive}
-use Rattle.sorted.specs.Lent.{NeverFalls, firstNotBelow}
+use Rattle.sorting.specs.Stable.{NeverFalls}
+use Rattle.sorted.specs.Lent.{firstNotBelow}
 use Rattle.base.proofs.Integers.{bool-cases}
 use Rattle.sorting.proofs.Order.{float-lel}
 

@@ -19,11 +19,13 @@ use Rattle.sorting.specs.Entries.{Entry}
 use Rattle.sorting.specs.Order.{lower, sortBy}
 use Rattle.sorted.specs.Repeats.{keep}
 use Rattle.sorting.specs.Asked.{AllPositive}
-use Rattle.sorted.specs.Lent.{AllInReach, NeverFalls, goesOn, usableAfter, usable}
+use Rattle.sorting.specs.Stable.{NeverFalls}
+use Rattle.sorted.specs.Lent.{AllInReach, goesOn, usableAfter, usable}
 use Rattle.base.proofs.Integers.{bool-cases}
 use Rattle.sorting.proofs.Order.{clash, float-lel, float-asym}
 use Rattle.sorting.proofs.Work.{All}
-use Rattle.sorted.proofs.Facts.{Good, arranged-all, arranged-falls}
+use Rattle.sorting.proofs.Stable.{Good}
+use Rattle.sorted.proofs.Facts.{arranged-all, arranged-falls}
 
 nought : zeroF ≡ fin false 0 (pos 0)
 unfolding ofBits ofFields odd climb span size

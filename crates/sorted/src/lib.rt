@@ -13,7 +13,8 @@ ghost use lib.Ieee.Positive.{positive};
 ghost use Rattle.sorting.specs.Asked.{AllPositive};
 ghost use Rattle.sorting.specs.Entries.{zip, Columns};
 ghost use Rattle.sorted.specs.Repeats.{near, keep, arranged};
-ghost use Rattle.sorted.specs.Lent.{NeverFalls, goesOn, usable, areWithin, listTable, isList, firstNotBelow, from};
+ghost use Rattle.sorting.specs.Stable.{NeverFalls};
+ghost use Rattle.sorted.specs.Lent.{goesOn, usable, areWithin, listTable, isList, firstNotBelow, from};
 
 // Whether the quotient of two ratios is as good as 1.
 fn is_near(a: f64, c: f64) -> bool

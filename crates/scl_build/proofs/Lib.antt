@@ -1,0 +1,4 @@
+pub mod Pushes
+pub mod Builds
+pub mod Appends
+pub mod Theorems
