@@ -139,10 +139,14 @@ firstContent (Content a e t ∷ xs) = record { start = a; end = e }
 unfoldable pub descriptionIn : List ℕ → Description
 descriptionIn text = firstContent (placedIn text)
 
+-- a scale of n items that was read
+abbrev pub scaleRead : ℕ → List ℕ → SclRead
+scaleRead n text = record { scl = record { count = n }; description = descriptionIn text }
+
 -- THE READER: the scale that a text is, where the tables have so many places, the first for the implicit item; or a refusal
 abbrev pub readOf : ℕ → List ℕ → Said SclRead
 readOf zero text = refuses no-room 0
-readOf (suc places) text = andThen (checkOf places text) (λ n. gives (record { scl = record { count = n }; description = descriptionIn text }))
+readOf (suc places) text = andThen (checkOf places text) (λ n. gives (scaleRead n text))
 
 -- items written at places k, k + 1, ..
 unfoldable pub written : ItemTable → ℕ → List Item → ItemTable

@@ -241,15 +241,7 @@ pub fn read_scl(
     ensures { λ _. ⌜ listTable (now (place .exit)) (now (ratio .exit)) (now (wraps .exit))
         ≡ afterSorted (now (text .entry)) (itemTable (now (kind .entry)) (now (cents .entry)) (now (numer .entry)) (now (denom .entry))) (listTable (now (place .entry)) (now (ratio .entry)) (now (wraps .entry))) ⌝ }
 {
-    let room = scl_tables::room_of(
-        kind.len(),
-        cents.len(),
-        numer.len(),
-        denom.len(),
-        place.len(),
-        ratio.len(),
-        wraps.len(),
-    );
+    let room = scl_tables::room_of(kind, cents, numer, denom, place, ratio, wraps);
     if room == 0 {
         return SclReadAnswer::Refused(NO_PLACE);
     }
