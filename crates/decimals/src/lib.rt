@@ -291,15 +291,15 @@ fn nearest_decimal(n: u64, k: u64) -> f64
     ensures { λ r. ⌜ r ≡ Ieee.round binary64 false n (10 ^ k) ⌝ }
 {
     if n <= MOST_EXACT {
-        return (n as f64) / std::num::nearest_u64_to_f64(floats::pow10(k));
+        return (n as f64) / std::num::nearest_u64_to_f64(rounding::pow10(k));
     }
     if k == 0 {
         return std::num::nearest_u64_to_f64(n);
     }
     if k == 1 {
-        return floats::nearest_scaled(n, 640, 6);
+        return rounding::nearest_scaled(n, 640, 6);
     }
-    floats::nearest_scaled(n, floats::pow10(k), 0)
+    rounding::nearest_scaled(n, rounding::pow10(k), 0)
 }
 
 // The f64 nearest to n / 10^k, or to its negative: the sign of zero is kept.

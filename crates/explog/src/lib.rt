@@ -178,7 +178,7 @@ pub fn exp2(x: f64) -> floats::FloatAnswer
         let parts = floats::unpack(x);
         let f = floor_sum(parts.negative, parts.digits, parts.exponent);
         let p = power_bits(f % PARTS);
-        floats::FloatAnswer::Is(floats::nearest_power(p, f / PARTS))
+        floats::FloatAnswer::Is(rounding::nearest_power(p, f / PARTS))
     } else {
         floats::FloatAnswer::Refused(base::Refusal {
             number: base::BEYOND_REACH,
@@ -196,9 +196,9 @@ pub fn log2(x: f64) -> floats::FloatAnswer
         let bits = log_bits(parts.digits * 1024);
         let a = parts.exponent * PARTS + bits;
         if PARTS_OF_ONE <= a {
-            floats::FloatAnswer::Is(floats::nearest_ratio(a - PARTS_OF_ONE))
+            floats::FloatAnswer::Is(rounding::nearest_ratio(a - PARTS_OF_ONE))
         } else {
-            floats::FloatAnswer::Is(-floats::nearest_ratio(PARTS_OF_ONE - a))
+            floats::FloatAnswer::Is(-rounding::nearest_ratio(PARTS_OF_ONE - a))
         }
     } else {
         floats::FloatAnswer::Refused(base::Refusal {

@@ -12,8 +12,8 @@ use lib.Ieee.{nearest}
 use lib.Ieee.Nearest.{closest, closest-same, closest-mono}
 use borrow.Author.Tests.{eq-eqb, ne-eqb}
 use Rattle.base.specs.Said.{pick}
-use Rattle.floats.specs.Nearest.{roundedHalf}
-use Rattle.floats.proofs.Nearest.{half-closest}
+use Rattle.rounding.specs.Nearest.{roundedHalf}
+use Rattle.rounding.proofs.Nearest.{half-closest}
 use Rattle.printing.specs.PrintText.{cutAt}
 
 -- m times ten, from its two parts

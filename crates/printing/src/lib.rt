@@ -42,12 +42,12 @@ fn scaled_far(m: u64, t: u64, d: u64) -> u64
     requires { ⌜ (m < 2 ^ 54) × (32 ≤ t) × (d ≤ 4) ⌝ }
     ensures { λ r. ⌜ r ≡ closest (m * 10 ^ d) (2 ^ t) ⌝ }
 {
-    let ten = floats::pow10(d);
+    let ten = rounding::pow10(d);
     let low = m % 0x8000_0000 * ten;
     let p = m / 0x8000_0000 * ten + low / 0x8000_0000;
     let l = low % 0x8000_0000;
     let u = t - 32;
-    floats::rounded_half(above(p, u), under(p, u) + l)
+    rounding::rounded_half(above(p, u), under(p, u) + l)
 }
 
 // The same at any t, where m is below 2^(t + 1).
@@ -69,7 +69,7 @@ fn fixed(m: u64, t: u64, d: u64) -> Cut
 {
     let halves = above(m, t + 1);
     let p = scaled(under(m, t + 1), t, d);
-    let ten = floats::pow10(d);
+    let ten = rounding::pow10(d);
     Cut {
         whole: halves * 2 + p / ten,
         part: p % ten,
@@ -168,7 +168,7 @@ fn write_digits(n: u64, k: usize, out: &mut [u8], at: usize) -> usize
     let mut i = at;
     while left > 0 {
         left = left - 1;
-        let p = floats::pow10(left as u64);
+        let p = rounding::pow10(left as u64);
         out[i] = b'0' + (n / p % 10) as u8;
         i += 1;
     }

@@ -6,7 +6,7 @@ use native.Mathlib.Omega.{arith}
 use native.Mathlib.Nat.{mul-le-mul, div-le-self, mod-le, mod-lt}
 use lib.Dec.{lit<}
 use lib.Ieee.Nearest.{closest}
-use Rattle.floats.specs.Nearest.{roundedHalf}
+use Rattle.rounding.specs.Nearest.{roundedHalf}
 use Rattle.decimals.proofs.Tens.{ten-le}
 use Rattle.printing.proofs.Scale.{split-product, scaled-is}
 use borrow.Author.Needs.{needs}
