@@ -2,9 +2,6 @@
 // A given pitch or ratio outside 2^-900..2^900 is refused by 10, a computed one by 18 at its step.
 use base::Refusal;
 use floats::FloatAnswer;
-
-pub mod nearest;
-
 ghost use mathlib.Core.Path.{_≡_};
 ghost use mathlib.Core.Bool.{_&&_};
 ghost use Rattle.floats.specs.Answers.{saysFloat};
