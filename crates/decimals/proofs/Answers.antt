@@ -7,7 +7,7 @@ use native.Mathlib.Omega.{arith}
 use lib.ListN.{length}
 use lib.Dec.{leb, eqb}
 use lib.Ieee.{Float}
-use borrow.Author.Tests.{leb-true}
+use borrow.Author.Tests.{leb-true, le-leb, lt-leb}
 use Rattle.base.specs.Said.{pick}
 use Rattle.decimals.specs.DecimalScan.{afterSign, afterDot, wordAt, exponentAt, runAt, endedAt, afterPart, numberAt, scaled, scanOf, minusFirst, supported, valued, judged, readDecimal}
 use Rattle.decimals.specs.declared.Run.{Run}
@@ -30,6 +30,16 @@ supported-says x e = go (x .plain) refl (leb (x .significant) 18) refl e
     go true a true b h = record { plain = a; few = leb-true (x .significant) 18 b; near = leb-true (x .places) 18 h }
     go true a false b h = let z : _≡_ {A = ℕ} 0 1 = cc in absurd (omega arith)
     go false a q b h = let z : _≡_ {A = ℕ} 0 1 = cc in absurd (omega arith)
+
+-- the ways of the code through the three tests
+pub plain-few : (x : Numeral) → x .plain ≡ true → x .significant ≤ 18 → leb (x .places) 18 ≡ supported x
+plain-few x p h = rw (p, le-leb (x .significant) 18 h)
+
+pub plain-long : (x : Numeral) → x .plain ≡ true → 18 < x .significant → false ≡ supported x
+plain-long x p h = rw (p, lt-leb (x .significant) 18 h)
+
+pub not-plain : (x : Numeral) → x .plain ≡ false → false ≡ supported x
+not-plain x p = rw p
 
 -- the number of a numeral is below 10^18
 abbrev Small : Scanned → Type 0

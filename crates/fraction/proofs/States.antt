@@ -1,6 +1,6 @@
 -- What holds of every state of the walk of `nearest_fraction`: it is between two fractions of 16 bits, neither of them 0/0,
 -- and what holds of each fraction that counts holds of the best. Assumes nothing.
-use mathlib.Core.Path.{_≡_, refl, sym}
+use mathlib.Core.Path.{_≡_, refl, sym, _∙_}
 use mathlib.Core.Bool.{Bool, true, false, _&&_, true≢false}
 use Prim.Native.Nat.{ℕ, zero, suc, _+_, _≤_}
 use native.Mathlib.Omega.{arith}
@@ -60,6 +60,24 @@ improved-keeps w mid deviation limit = go (bothWithin mid limit && lt (upward de
     go : (t : Bool) → Kept w (pick t (walkOf (w .low) (w .high) mid deviation) w)
     go true = record { low = refl; high = refl }
     go false = record { low = refl; high = refl }
+
+-- the ways of the code: it has asked whether the fraction counts, and has both deviations upwards
+module _ (w : Walk) (mid : Fraction) (deviation : Float) (limit : ℕ) {counts : Bool} (asked : counts ≡ bothWithin mid limit) where
+  pub left-out : counts ≡ false → w ≡ improved w mid deviation limit
+  unfolding improved
+  left-out c = rw (sym asked ∙ c)
+
+  module _ {new old : Float} (n : new ≡ upward deviation) (o : old ≡ upward (w .deviation)) (c : counts ≡ true) where
+    nearness : {t : Bool} → lt new old ≡ t → lt (upward deviation) (upward (w .deviation)) ≡ t
+    nearness e = (λ i. lt (sym n i) (sym o i)) ∙ e
+
+    pub nearer : lt new old ≡ true → walkOf (w .low) (w .high) mid deviation ≡ improved w mid deviation limit
+    unfolding improved
+    nearer e = rw (sym asked ∙ c, nearness e)
+
+    pub no-nearer : lt new old ≡ false → w ≡ improved w mid deviation limit
+    unfolding improved
+    no-nearer e = rw (sym asked ∙ c, nearness e)
 
 -- B holds of each fraction in the middle that counts
 module _ (target : Float) (limit : ℕ) (B : Fraction → Float → Type 0) (new : (mid : Fraction) → Proper mid → bothWithin mid limit ≡ true → B mid (div binary64 target (floatOf mid))) where

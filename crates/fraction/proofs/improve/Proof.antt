@@ -1,8 +1,7 @@
 -- `improve` meets its contract: kept, unless the fraction counts and is nearer.
--- Assumes nothing.
-use Rattle.fraction.specs.NearestFraction.{improved}
+-- Each return cites the law of its way.
 use borrow.Author.Needs.{needs}
-use mathlib.Core.Path.{sym, _∙_}
+use Rattle.fraction.proofs.States.{nearer, no-nearer, left-out}
 use Rattle.fraction.proofs.improve.Statement.{statement}
 use Rattle.fraction.proofs.improve.Tie as tie
 
@@ -16,16 +15,22 @@ upwards-requires-2 : tie.Need-upwards-requires-2
 upwards-requires-2 c κs = search needs
 
 returns : tie.Need-returns
-unfolding improved
-returns c = rw (sym (c .before .before .before .before .before .before .are-within .ensures) ∙ c .before .before .before .before .before .if1 .taken, rw (c .before .before .before .before .upwards .ensures, c .before .before .before .upwards2 .ensures) at (c .before .before .if2 .taken))
+returns c =
+    let test = c .before .before in
+    let asked = test .before .before .before .before in
+    let start = asked .before in
+    nearer (start .args .w) (start .args .mid) (start .args .deviation) (start .args .limit) (asked .are-within .ensures) (test .before .before .upwards .ensures) (test .before .upwards2 .ensures) (test .before .before .before .if1 .taken) (test .if2 .taken)
 
 returns-2 : tie.Need-returns-2
-unfolding improved
-returns-2 c = rw (sym (c .before .before .before .before .are-within .ensures) ∙ c .before .before .before .if1 .taken, rw (c .before .before .upwards .ensures, c .before .upwards2 .ensures) at (c .if2 .left))
+returns-2 c =
+    let asked = c .before .before .before .before in
+    let start = asked .before in
+    no-nearer (start .args .w) (start .args .mid) (start .args .deviation) (start .args .limit) (asked .are-within .ensures) (c .before .before .upwards .ensures) (c .before .upwards2 .ensures) (c .before .before .before .if1 .taken) (c .if2 .left)
 
 returns-3 : tie.Need-returns-3
-unfolding improved
-returns-3 c = rw (sym (c .before .are-within .ensures) ∙ c .if1 .left)
+returns-3 c =
+    let start = c .before .before in
+    left-out (start .args .w) (start .args .mid) (start .args .deviation) (start .args .limit) (c .before .are-within .ensures) (c .if1 .left)
 
 pub improve-spec : {M : Type 1} → statement M
 improve-spec =
