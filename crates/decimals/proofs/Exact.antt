@@ -14,7 +14,7 @@ use lib.Ieee.Fits.{down-pos}
 use lib.Ieee.Exact.{HasValue, round-exact}
 use lib.Ieee.Scale.{round-same}
 use borrow.Author.Tests.{ne-eqb}
-use Rattle.decimals.proofs.Tens.{ten-pos}
+use Rattle.integers.proofs.Tens.{ten-pos}
 
 -- 10 ^ k is 5 ^ k with k zero bits after it
 tens : (k : ℕ) → 10 ^ k ≡ 5 ^ k * 2 ^ k

@@ -16,7 +16,7 @@ use Rattle.floats.proofs.Decode.{value-of, units-of}
 use Rattle.rounding.proofs.Nearest.{near-lt}
 use Rattle.printing.specs.PrintText.{limited, scaledOf, cutAt, partsText, widthOf, textOf}
 use Rattle.printing.specs.declared.Cut.{Cut}
-use Rattle.decimals.proofs.Tens.{ten-pos}
+use Rattle.integers.proofs.Tens.{ten-pos}
 
 pub limited-finite : (x : Float) → T (limited x) → T (finite x)
 limited-finite nan h = absurd h

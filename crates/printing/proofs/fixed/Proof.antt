@@ -4,7 +4,7 @@ use Prim.Native.Nat.{_+_, _-_, _*_, _^_, _<_, _≤_}
 use native.Mathlib.Omega.{arith}
 use native.Mathlib.Nat.{mod-lt, mod-le, div-le-self}
 use lib.Pow.{pow-pos}
-use Rattle.decimals.proofs.Tens.{ten-pos, ten-le}
+use Rattle.integers.proofs.Tens.{ten-pos, ten-le}
 use Rattle.printing.proofs.Scale.{fixed-is, left-small}
 use borrow.Author.Needs.{needs}
 use Rattle.printing.proofs.fixed.Statement.{statement}

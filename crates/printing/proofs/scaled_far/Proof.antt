@@ -7,7 +7,7 @@ use native.Mathlib.Nat.{mul-le-mul, div-le-self, mod-le, mod-lt}
 use lib.Dec.{lit<}
 use lib.Ieee.Nearest.{closest}
 use Rattle.rounding.specs.Nearest.{roundedHalf}
-use Rattle.decimals.proofs.Tens.{ten-le}
+use Rattle.integers.proofs.Tens.{ten-le}
 use Rattle.printing.proofs.Scale.{split-product, scaled-is}
 use borrow.Author.Needs.{needs}
 use Rattle.printing.proofs.scaled_far.Statement.{statement}
