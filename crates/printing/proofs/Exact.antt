@@ -14,8 +14,9 @@ use lib.Ieee.Scale.{finite}
 use Rattle.floats.specs.Units.{unitsOf, negative, Unpacked}
 use Rattle.floats.proofs.Decode.{value-of, units-of}
 use Rattle.rounding.proofs.Nearest.{near-lt}
-use Rattle.printing.specs.PrintText.{limited, scaledOf, cutAt, partsText, widthOf, textOf}
-use Rattle.printing.specs.declared.Cut.{Cut}
+use Rattle.printing.specs.PrintText.{limited, scaledOf, partsText, widthOf, textOf}
+use Rattle.fixed.specs.Cuts.{cutAt}
+use Rattle.fixed.specs.declared.Cut.{Cut}
 use Rattle.integers.proofs.Tens.{ten-pos}
 
 pub limited-finite : (x : Float) → T (limited x) → T (finite x)

@@ -6,8 +6,8 @@ use native.Mathlib.Nat.{div-eq-of-lt, lt-of-lt-of-le}
 use native.Mathlib.Omega.{arith}
 use lib.Pow.{pow-mono}
 use borrow.Author.Needs.{needs}
-use Rattle.printing.proofs.above.Statement.{statement}
-use Rattle.printing.proofs.above.Tie as tie
+use Rattle.fixed.proofs.above.Statement.{statement}
+use Rattle.fixed.proofs.above.Tie as tie
 
 shr-result : tie.Need-shr-result
 shr-result c = search needs

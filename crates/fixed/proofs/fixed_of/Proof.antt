@@ -3,11 +3,11 @@
 use mathlib.Core.Path.{ap, _∙_}
 use Prim.Native.Nat.{_^_}
 use native.Mathlib.Omega.{arith}
-use Rattle.printing.specs.PrintText.{cutAt}
-use Rattle.printing.proofs.Scale.{units-low, units-high}
+use Rattle.fixed.specs.Cuts.{cutAt}
+use Rattle.fixed.proofs.Scale.{units-low, units-high}
 use borrow.Author.Needs.{needs}
-use Rattle.printing.proofs.fixed_of.Statement.{statement}
-use Rattle.printing.proofs.fixed_of.Tie as tie
+use Rattle.fixed.proofs.fixed_of.Statement.{statement}
+use Rattle.fixed.proofs.fixed_of.Tie as tie
 
 fixed-requires : tie.Need-fixed-requires
 fixed-requires c κs = search needs

@@ -5,10 +5,10 @@ use native.Mathlib.Omega.{arith}
 use native.Mathlib.Nat.{mod-lt, mod-le, div-le-self}
 use lib.Pow.{pow-pos}
 use Rattle.integers.proofs.Tens.{ten-pos, ten-le}
-use Rattle.printing.proofs.Scale.{fixed-is, left-small}
+use Rattle.fixed.proofs.Scale.{fixed-is, left-small}
 use borrow.Author.Needs.{needs}
-use Rattle.printing.proofs.fixed.Statement.{statement}
-use Rattle.printing.proofs.fixed.Tie as tie
+use Rattle.fixed.proofs.fixed.Statement.{statement}
+use Rattle.fixed.proofs.fixed.Tie as tie
 
 rest-lt : (c : tie.After-under) → c .under .result < 2 ^ (c .before .before .args .t + 1)
 rest-lt c = rw (c .under .ensures) (mod-lt (c .before .before .args .m) (pow-pos (c .before .before .args .t + 1)))

@@ -5,10 +5,10 @@ use Prim.Native.Nat.{ℕ, _+_, _-_, _*_, _%_, _^_, _<_}
 use native.Mathlib.Omega.{arith}
 use native.Mathlib.Nat.{mod-eq-of-lt}
 use lib.Ieee.Nearest.{closest}
-use Rattle.printing.proofs.Scale.{closest-shift, shifted-small}
+use Rattle.fixed.proofs.Scale.{closest-shift, shifted-small}
 use borrow.Author.Needs.{needs}
-use Rattle.printing.proofs.scaled.Statement.{statement}
-use Rattle.printing.proofs.scaled.Tie as tie
+use Rattle.fixed.proofs.scaled.Statement.{statement}
+use Rattle.fixed.proofs.scaled.Tie as tie
 
 small : (c : tie.Then1) → c .before .args .m * 2 ^ (32 - c .before .args .t) < 2 ^ 33
 small c = shifted-small (c .before .args .m) (c .before .args .t) (c .if1 .taken) (c .before .pre .1)

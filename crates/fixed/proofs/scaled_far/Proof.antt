@@ -8,10 +8,10 @@ use lib.Dec.{lit<}
 use lib.Ieee.Nearest.{closest}
 use Rattle.rounding.specs.Nearest.{roundedHalf}
 use Rattle.integers.proofs.Tens.{ten-le}
-use Rattle.printing.proofs.Scale.{split-product, scaled-is}
+use Rattle.fixed.proofs.Scale.{split-product, scaled-is}
 use borrow.Author.Needs.{needs}
-use Rattle.printing.proofs.scaled_far.Statement.{statement}
-use Rattle.printing.proofs.scaled_far.Tie as tie
+use Rattle.fixed.proofs.scaled_far.Statement.{statement}
+use Rattle.fixed.proofs.scaled_far.Tie as tie
 
 small-ten : (c : tie.After-pow10) → c .pow10 .result ≤ 10 ^ 4
 small-ten c = rw (c .pow10 .ensures) (ten-le (c .before .args .d) 4 (omega arith))

@@ -5,10 +5,10 @@ use Prim.Native.Nat.{_^_}
 use native.Mathlib.Nat.{mod-eq-of-lt, lt-of-lt-of-le, div-mul-le-self}
 use native.Mathlib.Omega.{arith}
 use lib.Pow.{pow-mono}
-use Rattle.printing.proofs.Scale.{cut, rest-is}
+use Rattle.fixed.proofs.Scale.{cut, rest-is}
 use borrow.Author.Needs.{needs}
-use Rattle.printing.proofs.under.Statement.{statement}
-use Rattle.printing.proofs.under.Tie as tie
+use Rattle.fixed.proofs.under.Statement.{statement}
+use Rattle.fixed.proofs.under.Tie as tie
 
 shr-result : tie.Need-shr-result
 shr-result c = search needs

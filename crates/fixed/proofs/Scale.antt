@@ -14,7 +14,7 @@ use borrow.Author.Tests.{eq-eqb, ne-eqb}
 use Rattle.base.specs.Said.{pick}
 use Rattle.rounding.specs.Nearest.{roundedHalf}
 use Rattle.rounding.proofs.Nearest.{half-closest}
-use Rattle.printing.specs.PrintText.{cutAt}
+use Rattle.fixed.specs.Cuts.{cutAt}
 
 -- m times ten, from its two parts
 pub split-product : (m ten : ℕ) → m * ten ≡ (m / 2 ^ 31 * ten + m % 2 ^ 31 * ten / 2 ^ 31) * 2 ^ 31 + m % 2 ^ 31 * ten % 2 ^ 31
