@@ -1,13 +1,13 @@
 -- How large an f64 is: |x| is at most a whole number, and what the float steps keep of that. Assumes nothing.
-use mathlib.Core.Path.{_≡_, refl, sym, ap, _∙_, subst}
-use mathlib.Core.Bool.{Bool, true, false, not, _&&_, _||_, Bool·beq, cond, true≢false}
+use mathlib.Core.Path.{_≡_, sym, ap, _∙_, subst}
+use mathlib.Core.Bool.{Bool, true, false, not, _&&_, Bool·beq, cond, true≢false}
 use Prim.Native.Nat.{ℕ, zero, suc, _+_, _-_, _*_, _/_, _%_, _^_, _≤_, _<_, compare, min}
-use native.Mathlib.Nat.{le-trans, le-of-eq, mul-one, mul-comm, mul-assoc, mul-left-comm, mul-right-comm, add-mul, mul-pos, mul-le-mul, mul-le-mul-right, le-of-mul-le-mul-right, mod-le, div-le-of-le-mul, div-lt-iff-lt-mul}
+use native.Mathlib.Nat.{le-trans, le-of-eq, mul-one, mul-comm, mul-assoc, mul-right-comm, add-mul, mul-pos, mul-le-mul, mul-le-mul-right, le-of-mul-le-mul-right, div-le-of-le-mul, div-lt-iff-lt-mul}
 use native.Mathlib.Omega.{arith}
 use lib.Dec.{T, ltb, lt→ltb, lit<}
 use lib.IntN.{ℤ, pos, negℤ}
 use borrow.Author.Tests.{ne-eqb}
-use lib.Ieee.{Float, inf, fin, binary64, up, down, size, nearest, odd, units, round, neg, sum, add, sub, div, rem, lt, le, eq, unlike, ofBits, ofInt, toSigned}
+use lib.Ieee.{Float, inf, fin, binary64, up, down, size, nearest, odd, units, round, neg, sum, add, sub, div, lt, le, eq, unlike, ofInt, toSigned}
 use lib.Ieee.Exact.{HasValue}
 use lib.Ieee.Back.{round-whole}
 use lib.Ieee.Fits.{down-pos, up-pos, round-is}

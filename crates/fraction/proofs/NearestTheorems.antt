@@ -4,7 +4,7 @@ use mathlib.Core.Bool.{true, false}
 use Prim.Native.Nat.{ℕ, _+_, _-_, _≤_}
 use lib.Dec.{lit≤}
 use lib.IntN.{ℤ}
-use lib.Ieee.{Float, inf, binary64, fits, div}
+use lib.Ieee.{Float, binary64, fits, div}
 use Rattle.base.specs.Said.{Said, gives, refuses, andThen}
 use Rattle.base.proofs.Said.{same-value}
 use Rattle.floats.specs.Floats.{floor, count}
@@ -13,7 +13,7 @@ use Rattle.floats.proofs.Between.{within-more, within-reach}
 use Rattle.floats.proofs.Ranges.{Within}
 use Rattle.explog.specs.Rules.{L}
 use Rattle.math.specs.OddPart.{halvedWhileEven}
-use Rattle.fraction.specs.NearestFraction.{fraction, widest, turns, walked, floatOf, bothOver, bothWithin, turnAt, turnOf, bestFor, nearestFraction, noFraction, InLimit, Proper}
+use Rattle.fraction.specs.NearestFraction.{fraction, widest, turns, walked, floatOf, bothOver, turnAt, turnOf, bestFor, nearestFraction, noFraction, InLimit}
 use Rattle.pitch.specs.Ratios.{upward}
 use Rattle.fraction.specs.declared.NearestFraction.{NearestFraction}
 use Rattle.fraction.specs.declared.Walk.{Walk}

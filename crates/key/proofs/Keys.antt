@@ -1,18 +1,17 @@
 -- What the calls on keys come to, as their code meets it. Assumes nothing.
 use mathlib.Core.Path.{_≡_, sym, _∙_, ap, subst}
 use mathlib.Core.Bool.{true, false}
-use Prim.Native.Nat.{ℕ, _^_, _≤_, _<_}
 use native.Mathlib.Omega.{arith}
 use lib.Dec.{T}
 use lib.IntN.{ℤ, pos, negsuc, natAbs, _+ℤ_}
-use lib.Signed.{leZ, nonNeg, mag}
-use mir.Syntax.{w8, w32, w64}
+use lib.Signed.{leZ, nonNeg}
+use mir.Syntax.{w8, w32}
 use mir.Val.{Fits, SFits, toZ, ofZ}
 use mir.Facts.{toZ-ofZ}
 use borrow.Author.Tests.{leb-true}
 use Rattle.base.specs.Integers.{held}
 use Rattle.base.specs.Numbers.{key-out-of-range}
-use Rattle.base.specs.Said.{Said, gives, refuses, refusal, andThen}
+use Rattle.base.specs.Said.{gives, refuses, andThen}
 use Rattle.integer_math.specs.Answers.{saysI32}
 use Rattle.integer_math.specs.declared.I32Answer.{I32Answer}
 use Rattle.integer_math.specs.declared.I32Answer.the-variants as OfI32

@@ -5,8 +5,8 @@ use mathlib.Core.Bool.{Bool, true, false}
 use Prim.Native.Nat.{ℕ, suc, _+_, _-_, _^_, _≤_, _<_}
 use native.Mathlib.Omega.{arith}
 use lib.ListN.{length, getD, drop, length-drop}
-use lib.Dec.{leb, ltb, eqb}
-use borrow.Author.Tests.{ltb-true, ltb-false, leb-true}
+use lib.Dec.{ltb, eqb}
+use borrow.Author.Tests.{ltb-true}
 use Rattle.base.specs.Said.{pick}
 use Rattle.numerals.specs.Scan.{grownBy, countedBy, runOf, runAt, afterSign, afterDot, markAt}
 use Rattle.numerals.specs.declared.Run.{Run}

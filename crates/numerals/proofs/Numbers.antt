@@ -9,9 +9,9 @@ use lib.ListN.{length, length-append}
 use lib.Dec.{ltb, eqb, lit≤}
 use borrow.Author.Tests.{lt-ltb, le-ltb, ltb-true, eq-eqb, ne-eqb, eqb-true, eqb-false}
 use Rattle.base.specs.Said.{pick}
-use Rattle.numerals.specs.FloatText.{OptionalSign, DottedDigits, Exponent}
+use Rattle.numerals.specs.FloatText.{DottedDigits, Exponent}
 use Rattle.integers.specs.Digits.{AllDigits}
-use Rattle.numerals.specs.Scan.{runOf, runAt, afterSign, afterDot, markAt, digitsToEnd, exponentAt, scaled as withExponent, endedAt, afterPart, numberAt}
+use Rattle.numerals.specs.Scan.{runOf, runAt, afterSign, afterDot, markAt, digitsToEnd, exponentAt, scaled as withExponent, endedAt, numberAt}
 use Rattle.numerals.specs.declared.Run.{Run}
 use Rattle.numerals.specs.declared.Numeral.{Numeral}
 use Rattle.numerals.specs.declared.Scanned.the-variants as scanned

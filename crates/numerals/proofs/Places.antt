@@ -8,11 +8,8 @@ use lib.ListN.{length, getD, drop, length-append}
 use lib.Seq.{drop-drop, drop-append-seam, getD-drop}
 use lib.Dec.{eqb}
 use borrow.Author.Tests.{lt-ltb, le-ltb, eqb-true, eqb-false, ne-eqb}
-use Rattle.base.specs.Said.{pick}
 use Rattle.numerals.specs.FloatText.{OptionalSign}
-use Rattle.integers.specs.Digits.{AllDigits}
-use Rattle.numerals.specs.Scan.{runOf, runAt, afterSign, afterDot, minusFirst}
-use Rattle.numerals.proofs.Values.{grownAll, countedAll, Stops, run-over}
+use Rattle.numerals.specs.Scan.{afterSign, minusFirst}
 
 -- t is what stands in s from `at` on
 pub record At (s : List ℕ) (at : ℕ) (t : List ℕ) : Type 0 where

@@ -9,7 +9,7 @@ use native.Mathlib.Omega.{arith}
 use lib.ListN.{length, getD, drop, drop-of-length-le}
 use lib.Seq.{drop-cons}
 use lib.Dec.{ltb, eqb}
-use borrow.Author.Tests.{lt-ltb, le-ltb, ltb-true, le-leb, lt-leb, eq-eqb, ne-eqb}
+use borrow.Author.Tests.{lt-ltb, le-ltb, ltb-true, eq-eqb, ne-eqb}
 use Rattle.base.specs.Said.{pick}
 use Rattle.numerals.specs.Scan.{grownBy, countedBy, runOf, runAt, lowered, spelled, afterSign, afterDot, markAt, exponentAt, afterPart, numberAt}
 use Rattle.numerals.specs.declared.Run.{Run}
