@@ -13,8 +13,9 @@ use lib.ListN.{length}
 use lib.Signed.{leZ-yes}
 use Rattle.base.specs.Integers.{held}
 use Rattle.base.specs.Said.{gives}
-use Rattle.decimals.specs.DecimalScan.{spelled, scanOf, readDecimal}
-use Rattle.decimals.specs.DecimalScan as decimals
+use Rattle.numerals.specs.Scan.{spelled, scanOf}
+use Rattle.numerals.specs.Scan as numerals
+use Rattle.decimals.specs.DecimalScan.{readDecimal}
 use Rattle.integers.specs.Integer.{scan, magnitudeOf, readSigned}
 use Rattle.integers.proofs.Language.{sound}
 use Rattle.floats.specs.Units.{negative}
@@ -70,7 +71,7 @@ by-lines s first rest vs es t r e l c =
 
 -- ---- 01'S OWN INPUT
 copy-text : MappingText copyText (exampleKbm (pos 62)) exampleEntries
-unfolding linesText lines meaningBy meanings tokenLength widthBy run leadOf utf8Step utf8.utf8From scan magnitudeOf readSigned decimals.runOf spelled scanOf readDecimal blanks round ofBits le
+unfolding linesText lines meaningBy meanings tokenLength widthBy run leadOf utf8Step utf8.utf8From scan magnitudeOf readSigned numerals.runOf spelled scanOf readDecimal blanks round ofBits le
 copy-text =
     by-lines copyText
     ((51 ∷ []) ∷ (48 ∷ []) ∷ (49 ∷ 50 ∷ 55 ∷ []) ∷ (54 ∷ 50 ∷ []) ∷ (54 ∷ 48 ∷ []) ∷ (50 ∷ 54 ∷ 49 ∷ 46 ∷ 54 ∷ 50 ∷ 53 ∷ 54 ∷ []) ∷ (53 ∷ []) ∷ []) ((48 ∷ []) ∷ (88 ∷ []) ∷ [])
@@ -102,7 +103,7 @@ copy-keys old room =
 
 -- ---- THE ENDS OF 32 BITS
 far-text : MappingText farText farKbm (Unmapped ∷ [])
-unfolding linesText lines meaningBy meanings tokenLength widthBy run leadOf utf8Step utf8.utf8From scan magnitudeOf readSigned decimals.runOf spelled scanOf readDecimal blanks round ofBits le
+unfolding linesText lines meaningBy meanings tokenLength widthBy run leadOf utf8Step utf8.utf8From scan magnitudeOf readSigned numerals.runOf spelled scanOf readDecimal blanks round ofBits le
 far-text =
     by-lines farText
     ((49 ∷ []) ∷ (45 ∷ 50 ∷ 49 ∷ 52 ∷ 55 ∷ 52 ∷ 56 ∷ 51 ∷ 54 ∷ 52 ∷ 56 ∷ []) ∷ (50 ∷ 49 ∷ 52 ∷ 55 ∷ 52 ∷ 56 ∷ 51 ∷ 54 ∷ 52 ∷ 54 ∷ []) ∷ (45 ∷ 50 ∷ []) ∷ (45 ∷ 50 ∷ []) ∷

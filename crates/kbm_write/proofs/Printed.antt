@@ -23,7 +23,7 @@ use Rattle.decimals.specs.DecimalText.{DecimalText}
 use Rattle.integers.specs.IntegerText.{Digits, IntText}
 use Rattle.printing.specs.PrintForm.{FixedText}
 use Rattle.printing.specs.PrintText.{scaledOf, digitsOf, widthOf, signText, pointText, partsText, integerText, wholeText, textOf}
-use Rattle.decimals.proofs.Scans.{all-append}
+use Rattle.integers.proofs.Digits.{all-append}
 use Rattle.integers.proofs.Theorems.{one-value}
 use Rattle.printing.proofs.Form.{fixed-text, printed, reads-back}
 use Rattle.printing.proofs.Texts.{length-digits}
