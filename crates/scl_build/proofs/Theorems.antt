@@ -1,12 +1,11 @@
 -- What the builder's calls come to, and that each has one result. Document 01, "What is taken", 5. Assumes nothing.
-use mathlib.Core.Path.{_≡_, refl, sym, _∙_, ap, subst}
+use mathlib.Core.Path.{_≡_, refl, sym, _∙_, ap}
 use mathlib.Core.Logic.{inl, inr}
-use mathlib.Core.Bool.{Bool, true, false, _&&_}
+use mathlib.Core.Bool.{Bool, true, false}
 use mathlib.Core.List.{List, [], _∷_}
-use Prim.Native.Nat.{ℕ, suc, _+_, _-_, _≤_, _<_}
+use Prim.Native.Nat.{ℕ, _+_, _-_, _≤_, _<_}
 use native.Mathlib.Omega.{arith}
 use lib.Dec.{leb}
-use lib.ListN.{length}
 use lib.Ieee.{Float, le, lt, eq, neg, ofBits}
 use borrow.Author.Tests.{lt-ltb, leb-true}
 use Rattle.base.specs.Numbers.{too-large, unusable}
@@ -14,10 +13,10 @@ use Rattle.base.specs.Said.{Said, gives, refuses, pick}
 use Rattle.base.proofs.Said.{One, Split, one-result, one-plain}
 use Rattle.reduction.proofs.Answered.{never}
 use Rattle.sorting.specs.Entries.{Entry}
-use Rattle.sorted.specs.Lent.{ListTable, isList}
+use Rattle.sorted.specs.Lent.{ListTable}
 use Rattle.scl.specs.Answers.{saysScl}
 use Rattle.scl.specs.Items.{isUsable, AllHeld}
-use Rattle.scl.specs.Table.{ItemTable, itemsOf, itemsIn, implicit, writtenAt, areUsable, haveItems, isItems}
+use Rattle.scl.specs.Table.{ItemTable, itemsOf, itemsIn, implicit, writtenAt, areUsable, haveItems}
 use Rattle.scl.specs.declared.Denom.the-variants.{Given, Lacking}
 use Rattle.scl.specs.declared.Item.{Item}
 use Rattle.scl.specs.declared.Item.the-variants.{Cents, Fraction}
@@ -34,7 +33,7 @@ use Rattle.scl_build.specs.Builder.{state, builderOf, afterNew, fitsItem
 use Rattle.scl_build.specs.declared.SclBuilder.{SclBuilder}
 use Rattle.scl_build.specs.declared.SclBuilderAnswer.the-variants as OfBuilder
 use Rattle.scl_build.proofs.Appends.{written-fits, run-appends, accepted-usable}
-use Rattle.scl_build.proofs.Builds.{ready, ready-items, ready-count, not-ready}
+use Rattle.scl_build.proofs.Builds.{ready, ready-items, ready-count}
 use Rattle.scl_build.proofs.Pushes.{Fit, fit-says, says-fit, says-fit-list}
 
 -- ---- from a new builder on

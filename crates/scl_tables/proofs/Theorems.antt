@@ -6,17 +6,17 @@ use mathlib.Core.List.{List, [], _∷_, _++_}
 use Prim.Native.Nat.{ℕ, zero, suc, _+_, _-_, _≤_, _<_}
 use native.Mathlib.Nat.{le-of-suc-le-suc, not-suc-le-zero}
 use native.Mathlib.Omega.{arith}
-use lib.ListN.{length, getD, take, drop, length-append}
+use lib.ListN.{length, take, drop, length-append}
 use lib.Ieee.{Float}
 use Rattle.base.specs.Numbers.{beyond-reach}
-use Rattle.base.specs.Said.{Said, gives, refuses}
+use Rattle.base.specs.Said.{gives, refuses}
 use Rattle.base.specs.Tables.{over}
 use Rattle.base.proofs.Said.{One, one-result, same-value}
 use Rattle.floats.specs.Floats.{oneF}
-use Rattle.sorting.specs.Entries.{Entry, zip}
+use Rattle.sorting.specs.Entries.{Entry}
 use Rattle.sorting.proofs.Columns.{zip-columns}
 use Rattle.sorting.proofs.Work.{All}
-use Rattle.sorted.specs.Lent.{ListTable, placesOf, ratiosOf, wrapsOf, listIn, usable, AllAtMost, isList}
+use Rattle.sorted.specs.Lent.{ListTable, placesOf, ratiosOf, wrapsOf, listIn, AllAtMost, isList}
 use Rattle.sorted.proofs.Lists.{have-list, at-within}
 use Rattle.scl.specs.Items.{ratioOf, AllHeld}
 use Rattle.scl.specs.Table.{ItemTable, itemOf, areUsable, writtenAt}

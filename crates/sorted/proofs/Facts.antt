@@ -1,24 +1,17 @@
 -- What `first_not_below` asks holds of the ratios that `arrange` and `sort_entries` leave. Assumes nothing.
 use mathlib.Core.Path.{_≡_, refl, sym, _∙_, ap, subst}
-use mathlib.Core.Logic.{_⊎_, inl, inr}
-use mathlib.Core.Bool.{Bool, true, false}
-use Prim.Native.Nat.{ℕ, zero, suc, _+_, _≤_, _<_, suc-le-suc}
-use native.Mathlib.Nat.{le-of-suc-le-suc, not-suc-le-zero}
-use native.Mathlib.Omega.{arith}
+use mathlib.Core.Logic.{inl, inr}
+use Prim.Native.Nat.{ℕ, suc}
 use mathlib.Core.List.{List, [], _∷_, map}
-use lib.Dec.{T}
 use lib.IntN.{ℤ}
-use lib.ListN.{length, getD}
-use lib.Ieee.{Float, nan, lt}
-use lib.Ieee.Positive.{positive}
-use Rattle.base.specs.Said.{pick}
+use lib.ListN.{length}
+use lib.Ieee.{Float}
 use Rattle.sorting.specs.Entries.{Entry, zip}
 use Rattle.sorting.specs.Order.{lower, insertBy, sortBy}
 use Rattle.sorted.specs.Repeats.{near, keepFrom, keep}
 use Rattle.sorting.specs.Asked.{AllPositive}
 use Rattle.sorting.specs.Stable.{NeverFalls}
 use Rattle.base.proofs.Integers.{bool-cases}
-use Rattle.sorting.proofs.Order.{clash, float-lel, float-asym}
 use Rattle.sorting.proofs.Stable.{Good, Over, Rises, over-self, sort-rises, all-good, never-falls, all-positive}
 use Rattle.sorting.proofs.Work.{All, all-insert}
 
