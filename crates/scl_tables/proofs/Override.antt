@@ -66,13 +66,6 @@ module _ (period : Float) (p : inReach period ≡ true) (rs : List Float) (ws : 
       go true = ap (λ (k : ℕ). gives (set (zip (from 0 n) rs ws) (k - 1) (entry (k - 1) period (pos 0)))) size ∙ ap gives (changed (n - 1) period (pos 0) (omega arith))
       go false = rw (turned period p) (ap gives (changed 0 (div binary64 oneF period) (pos 1) some))
 
-  length-after : length (ratiosAfter period rs) ≡ n
-  length-after = go (le oneF period)
-    where
-      go : (b : Bool) → length (pick b (set rs (length rs - 1) period) (set rs 0 (div binary64 oneF period))) ≡ n
-      go true = length-set rs (n - 1) period
-      go false = length-set rs 0 (div binary64 oneF period)
-
   kept : (i : ℕ) (r : Float) → i < n → inReach r ≡ true → AllInReach rs → AllInReach (set rs i r)
   kept i r h q a j l = elim (same? j i) [
     | inl e ↦ rw (e, getD-set-same rs i r nan h) q
