@@ -1,12 +1,12 @@
 -- An item written at a place of the columns: it is read back, and at the next place it is one item more. Assumes nothing.
-use mathlib.Core.Path.{_≡_, refl, sym, _∙_, ap}
+use mathlib.Core.Path.{_≡_, refl, _∙_, ap}
 use mathlib.Core.List.{List, [], _∷_, _++_}
-use Prim.Native.Nat.{ℕ, suc, _+_, _≤_, _<_}
+use Prim.Native.Nat.{ℕ, suc, _+_}
 use native.Mathlib.Omega.{arith}
 use lib.Ieee.{Float}
-use lib.ListN.{length, set, take, length-set}
+use lib.ListN.{length, take}
 use lib.Seq.{take-suc-set}
-use Rattle.scl.specs.Table.{ItemTable, itemTable, itemOf, itemsOf, kindOf, centsOf, numerOf, denomAt, writtenAt}
+use Rattle.scl.specs.Table.{ItemTable, itemOf, itemsOf, kindOf, centsOf, numerOf, denomAt, writtenAt}
 use Rattle.scl.specs.declared.Denom.the-variants.{Given, Lacking}
 use Rattle.scl.specs.declared.Item.{Item}
 use Rattle.scl.specs.declared.Item.the-variants.{Cents, Fraction}

@@ -3,18 +3,17 @@
 use mathlib.Core.Path.{_≡_, refl, sym, _∙_, ap}
 use mathlib.Core.Bool.{Bool, true, false, _&&_}
 use mathlib.Core.List.{List, [], _∷_, _++_, append-assoc, append-nil}
-use Prim.Native.Nat.{ℕ, suc, _+_, _-_, _≤_, _<_}
+use Prim.Native.Nat.{ℕ, _+_, _-_, _<_}
 use native.Mathlib.Numerals.{add-one}
 use native.Mathlib.Omega.{arith}
 use lib.Dec.{ltb}
-use lib.ListN.{length, drop, set, length-set}
+use lib.ListN.{length, length-set}
 use lib.Seq.{drop-set-lt}
 use borrow.Author.Tests.{ltb-true, ltb-false}
-use Rattle.base.specs.Said.{Said, gives, refuses, pick}
+use Rattle.base.specs.Said.{Said, pick}
 use Rattle.scl.specs.Items.{isUsable}
 use Rattle.scl.specs.Table.{ItemTable, itemsIn, kindOf, centsOf, numerOf, denomAt, writtenAt, areUsable}
 use Rattle.scl.specs.declared.Item.{Item}
-use Rattle.scl.proofs.Table.{Roomy}
 use Rattle.scl.proofs.Writing.{first-written}
 use Rattle.scl_build.specs.Builder.{state, fitsItems, pushed, writtenWhere, beside, builderAfter, afterOne, afterAll, acceptedOf, placesLeft, behind, Built, Appended}
 use Rattle.scl_build.specs.declared.SclBuilder.{SclBuilder}

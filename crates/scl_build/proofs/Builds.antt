@@ -55,9 +55,6 @@ module _ (b : SclBuilder) (t : ItemTable) (l : ListTable) where
     pub ready-items : isItems (b .count) t ≡ true
     ready-items = both (fitsList b l) (isItems (b .count) t) (rest .1) .1
 
-    pub ready-fits : fitsItems b t ≡ true
-    ready-fits = rest .0
-
     ready-list : FitList b l
     ready-list = fit-list-says b l (both (fitsList b l) (isItems (b .count) t) (rest .1) .0)
 

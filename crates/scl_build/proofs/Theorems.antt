@@ -1,23 +1,23 @@
 -- What the builder's calls come to, and that each has one result. Document 01, "What is taken", 5. Assumes nothing.
-use mathlib.Core.Path.{_≡_, refl, sym, _∙_, ap, subst}
-use mathlib.Core.Logic.{inl, inr}
-use mathlib.Core.Bool.{Bool, true, false, _&&_}
+use mathlib.Core.Path.{_≡_, refl, sym, _∙_, ap}
+use mathlib.Core.Logic.{_↔_, inl, inr}
+use mathlib.Core.Bool.{Bool, true, false}
 use mathlib.Core.List.{List, [], _∷_}
-use Prim.Native.Nat.{ℕ, suc, _+_, _-_, _≤_, _<_}
+use Prim.Native.Nat.{ℕ, _+_, _-_, _≤_, _<_}
 use native.Mathlib.Omega.{arith}
 use lib.Dec.{leb}
-use lib.ListN.{length}
 use lib.Ieee.{Float, le, lt, eq, neg, ofBits}
-use borrow.Author.Tests.{lt-ltb, leb-true}
-use Rattle.base.specs.Numbers.{too-large, unusable}
+use borrow.Author.Tests.{lt-ltb, leb-true, le-leb}
+use Rattle.base.specs.Numbers.{too-large, unusable, beyond-reach}
 use Rattle.base.specs.Said.{Said, gives, refuses, pick}
 use Rattle.base.proofs.Said.{One, Split, one-result, one-plain}
 use Rattle.reduction.proofs.Answered.{never}
+use Rattle.floats.specs.Floats.{oneF}
 use Rattle.sorting.specs.Entries.{Entry}
-use Rattle.sorted.specs.Lent.{ListTable, isList}
+use Rattle.sorted.specs.Lent.{ListTable}
 use Rattle.scl.specs.Answers.{saysScl}
-use Rattle.scl.specs.Items.{isUsable, AllHeld}
-use Rattle.scl.specs.Table.{ItemTable, itemsOf, itemsIn, implicit, writtenAt, areUsable, haveItems, isItems}
+use Rattle.scl.specs.Items.{isUsable, ratioOf, AllHeld}
+use Rattle.scl.specs.Table.{ItemTable, itemsOf, itemsIn, implicit, writtenAt, areUsable, haveItems}
 use Rattle.scl.specs.declared.Denom.the-variants.{Given, Lacking}
 use Rattle.scl.specs.declared.Item.{Item}
 use Rattle.scl.specs.declared.Item.the-variants.{Cents, Fraction}
@@ -28,13 +28,13 @@ use Rattle.scl_tables.specs.Build.{countOf, scaleOf, sortedOf, sizedOf, isBeyon
 use Rattle.scl_tables.specs.Room.{roomOf}
 use Rattle.scl_tables.proofs.Beyond.{scale-looks}
 use Rattle.scl_tables.proofs.Room.{room-within}
-use Rattle.scl_tables.proofs.Theorems.{list-leaves, left-list}
+use Rattle.scl_tables.proofs.Theorems.{beyond-reach-is, list-leaves, left-list}
 use Rattle.scl_build.specs.Answers.{saysBuilder}
 use Rattle.scl_build.specs.Builder.{state, builderOf, afterNew, fitsItems, fitsList, pushed, afterPush, pushedRatio, afterRatio, beside, afterAll, acceptedOf, Built, Appended, isReady, built, counted, Leaves}
 use Rattle.scl_build.specs.declared.SclBuilder.{SclBuilder}
 use Rattle.scl_build.specs.declared.SclBuilderAnswer.the-variants as OfBuilder
 use Rattle.scl_build.proofs.Appends.{written-fits, run-appends, accepted-usable}
-use Rattle.scl_build.proofs.Builds.{ready, ready-items, ready-count, not-ready}
+use Rattle.scl_build.proofs.Builds.{ready, ready-items, ready-count, too-many}
 use Rattle.scl_build.proofs.Pushes.{Fit, fit-says, says-fit, says-fit-list}
 
 -- ---- from a new builder on
@@ -93,6 +93,25 @@ module _ (t : ItemTable) (l : ListTable) (some : 0 < roomOf t l) where
     pub run-built : built (left .builder) (left .table) l ≡ sizedOf (implicit ∷ acceptedOf (roomOf t l - 1) is)
     unfolding built
     run-built = rw run-ready (ap sizedOf run-items)
+
+-- ---- when a build of ready tables is refused
+module _ (b : SclBuilder) (t : ItemTable) (l : ListTable) (h : isReady b t l ≡ true) where
+  -- "13: over 65,535 entries"
+  pub build-too-large : 65535 < b .count → built b t l ≡ refuses too-large 0
+  build-too-large = too-many b t l h
+
+  module _ (few : b .count ≤ 65535) (held : AllHeld (itemsIn (b .count) t)) where
+    built-scale : built b t l ≡ scaleOf (itemsIn (b .count) t)
+    unfolding built
+    built-scale = rw (h, ready-count b t l h, le-leb (b .count) 65535 few)
+
+    -- "then for a scale 18": exactly when there are two or more items and the period is 1.0
+    pub build-beyond : (built b t l ≡ refuses beyond-reach 0) ↔ ((2 ≤ b .count) × (ratioOf (lastOf (itemsIn (b .count) t)) ≡ gives oneF))
+    build-beyond =
+        let n = length-first (b .count + 1) t (items-roomy (b .count) t (ready-items b t l h)) in
+        let c = ready-count b t l h in
+        let k = beyond-reach-is (itemsIn (b .count) t) (omega (arith, n)) held (items-usable (b .count) t (ready-items b t l h)) in
+        (λ e. let x = k .0 (sym built-scale ∙ e) in (omega (arith, x .0, c), x .1), λ x. built-scale ∙ k .1 (omega (arith, x .0, c), x .1))
 
 -- ---- what an accepted build leaves passes every later call's test of lent tables
 module _ (b : SclBuilder) (t : ItemTable) (l : ListTable) (es : List Entry) where

@@ -10,9 +10,8 @@ use native.Mathlib.Omega.{arith}
 use lib.Dec.{leb, lit≤}
 use lib.ListN.{length, getD, set, length-set}
 use borrow.Author.Tests.{leb-true, le-leb, lt-leb}
-use lib.IntN.{ℤ, pos}
+use lib.IntN.{pos}
 use lib.Ieee.{Float, binary64, fits, eq, le, div, ofInt}
-use lib.Ieee.Bits.{is-true}
 use Rattle.base.specs.Numbers.{beyond-reach}
 use Rattle.base.specs.Said.{Said, gives, refuses, pick, andThen}
 use Rattle.base.proofs.Said.{same-value}

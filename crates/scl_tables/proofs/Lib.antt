@@ -3,4 +3,5 @@ pub mod Filling
 pub mod Override
 pub mod Beyond
 pub mod Parts
+pub mod Numbers
 pub mod Theorems

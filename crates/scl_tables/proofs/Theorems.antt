@@ -6,22 +6,23 @@ use mathlib.Core.List.{List, [], _∷_, _++_}
 use Prim.Native.Nat.{ℕ, zero, suc, _+_, _-_, _≤_, _<_}
 use native.Mathlib.Nat.{le-of-suc-le-suc, not-suc-le-zero}
 use native.Mathlib.Omega.{arith}
-use lib.ListN.{length, getD, take, drop, length-append}
+use lib.ListN.{length, take, drop, length-append}
 use lib.Ieee.{Float}
 use Rattle.base.specs.Numbers.{beyond-reach}
-use Rattle.base.specs.Said.{Said, gives, refuses}
+use Rattle.base.specs.Said.{gives, refuses}
 use Rattle.base.specs.Tables.{over}
 use Rattle.base.proofs.Said.{One, one-result, same-value}
 use Rattle.floats.specs.Floats.{oneF}
-use Rattle.sorting.specs.Entries.{Entry, zip}
+use Rattle.sorting.specs.Entries.{Entry}
 use Rattle.sorting.proofs.Columns.{zip-columns}
 use Rattle.sorting.proofs.Work.{All}
-use Rattle.sorted.specs.Lent.{ListTable, placesOf, ratiosOf, wrapsOf, listIn, usable, AllAtMost, isList}
+use Rattle.sorted.specs.Lent.{ListTable, placesOf, ratiosOf, wrapsOf, listIn, AllAtMost, isList}
 use Rattle.sorted.proofs.Lists.{have-list, at-within}
 use Rattle.scl.specs.Items.{ratioOf, AllHeld}
 use Rattle.scl.specs.Table.{ItemTable, itemOf, areUsable, writtenAt}
 use Rattle.scl.specs.declared.Item.{Item}
 use Rattle.scl_tables.specs.Build.{lastOf, countOf, sortedOf, scaleOf, isBeyond, afterList}
+use Rattle.scl_tables.specs.Room.{roomOf}
 use Rattle.scl_tables.proofs.Beyond.{Fine, Leaves, period-ratio, beyond-is, within-is, sorted-given, sorted-leaves}
 
 module _ (items : List Item) (some : 0 < length items) (h : AllHeld items) (u : areUsable items ≡ true) where
@@ -79,6 +80,9 @@ left-list count items es l n v =
     (at-within count (placesOf es) (within-places count es fine))
 
 -- ---- two results of one input are equal
+pub room-of-one : (t : ItemTable) (l : ListTable) → One (λ r. r) (roomOf t l)
+room-of-one t l = one-result (roomOf t l)
+
 pub write-item-one : (t : ItemTable) (at : ℕ) (i : Item) → One (λ r. r) (writtenAt t at i)
 write-item-one t at i = one-result (writtenAt t at i)
 

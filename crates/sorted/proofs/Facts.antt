@@ -1,25 +1,15 @@
--- What `first_not_below` asks holds of the ratios that `arrange` and `sort_entries` leave. Assumes nothing.
-use mathlib.Core.Path.{_≡_, refl, sym, _∙_, ap, subst}
-use mathlib.Core.Logic.{_⊎_, inl, inr}
-use mathlib.Core.Bool.{Bool, true, false}
-use Prim.Native.Nat.{ℕ, zero, suc, _+_, _≤_, _<_, suc-le-suc}
-use native.Mathlib.Nat.{le-of-suc-le-suc, not-suc-le-zero}
-use native.Mathlib.Omega.{arith}
+-- What order and the repeat rule leave: ratios that never fall, as many entries, each of them one that was there. Assumes nothing.
+use mathlib.Core.Path.{_≡_, refl, _∙_, ap}
+use mathlib.Core.Logic.{inl, inr}
+use Prim.Native.Nat.{suc}
 use mathlib.Core.List.{List, [], _∷_, map}
-use lib.Dec.{T}
-use lib.IntN.{ℤ}
-use lib.ListN.{length, getD}
-use lib.Ieee.{Float, nan, lt}
-use lib.Ieee.Positive.{positive}
-use Rattle.base.specs.Said.{pick}
-use Rattle.sorting.specs.Entries.{Entry, zip}
+use lib.ListN.{length}
+use Rattle.sorting.specs.Entries.{Entry}
 use Rattle.sorting.specs.Order.{lower, insertBy, sortBy}
 use Rattle.sorted.specs.Repeats.{near, keepFrom, keep}
-use Rattle.sorting.specs.Asked.{AllPositive}
 use Rattle.sorting.specs.Stable.{NeverFalls}
 use Rattle.base.proofs.Integers.{bool-cases}
-use Rattle.sorting.proofs.Order.{clash, float-lel, float-asym}
-use Rattle.sorting.proofs.Stable.{Good, Over, Rises, over-self, sort-rises, all-good, never-falls, all-positive}
+use Rattle.sorting.proofs.Stable.{Good, Over, Rises, over-self, sort-rises, never-falls}
 use Rattle.sorting.proofs.Work.{All, all-insert}
 
 pub all-keep : (q : Entry → Type 0) (p : Entry) (s : List Entry) → q p → All q s → All q (keepFrom p s)
@@ -39,16 +29,6 @@ keep-from-rises p (x ∷ s) g h a = elim (bool-cases (near (x .ratio) (p .ratio)
 pub keep-rises : (s : List Entry) → Rises s → Rises (keep s)
 keep-rises [] a = a
 keep-rises (x ∷ s) a = keep-from-rises x (x ∷ s) (a .0) (over-self x (a .0), a .1) a
-
--- so of what `arrange` leaves
-pub arranged-rises : (ps : List ℕ) (rs : List Float) (ws : List ℤ) → AllPositive rs → Rises (keep (sortBy lower (zip ps rs ws)))
-arranged-rises ps rs ws a = keep-rises (sortBy lower (zip ps rs ws)) (sort-rises (zip ps rs ws) (all-good ps rs ws a))
-
-pub searchable : (ps : List ℕ) (rs : List Float) (ws : List ℤ) {rs′ : List Float} → AllPositive rs → rs′ ≡ map (λ (e : Entry). e .ratio) (keep (sortBy lower (zip ps rs ws))) → AllPositive rs′ × NeverFalls rs′
-searchable ps rs ws a e =
-    let s = keep (sortBy lower (zip ps rs ws)) in
-    let up = arranged-rises ps rs ws a in
-    (subst AllPositive (sym e) (all-positive s up), subst NeverFalls (sym e) (never-falls s up))
 
 -- ---- what sorting and the repeat rule leave
 length-insert : (x : Entry) (s : List Entry) → length (insertBy lower x s) ≡ suc (length s)

@@ -1,15 +1,15 @@
 -- A lent list that passes the test is what a search asks for. Assumes nothing.
-use mathlib.Core.Path.{_≡_, refl, sym, _∙_, ap, subst}
-use mathlib.Core.Logic.{_⊎_, inl, inr, _↔_}
+use mathlib.Core.Path.{_≡_, refl, sym}
+use mathlib.Core.Logic.{inl, inr, _↔_}
 use mathlib.Core.Bool.{Bool, true, false, not, _&&_, true≢false}
-use Prim.Native.Nat.{ℕ, zero, suc, _+_, _*_, _≤_, _<_, suc-le-suc}
+use Prim.Native.Nat.{ℕ, zero, suc, _*_, _<_, suc-le-suc}
 use native.Mathlib.Nat.{le-of-suc-le-suc, not-suc-le-zero}
 use native.Mathlib.Omega.{arith}
 use mathlib.Core.List.{List, [], _∷_, map}
 use lib.Dec.{T, lt→ltb}
-use lib.IntN.{ℤ, pos}
+use lib.IntN.{pos}
 use lib.ListN.{length, getD}
-use lib.Ieee.{Float, nan, inf, fin, up, down, lt, binary64, ofBits, ofFields, odd, climb, span, size}
+use lib.Ieee.{Float, nan, inf, fin, up, down, lt, ofBits, ofFields, odd, climb, span, size}
 use lib.Ieee.Positive.{positive}
 use borrow.Author.Tests.{le-ltb}
 use Rattle.floats.specs.Floats.{zeroF}

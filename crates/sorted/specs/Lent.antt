@@ -1,7 +1,7 @@
 -- A lent list: "list ratios lie in 2^-900..2^900 and never fall, with places within the count" (document 01, "Scales and
 -- searches"); and where a search starts: "the first entry not below the target". Assumes nothing.
 use mathlib.Core.Path.{_≡_}
-use mathlib.Core.Bool.{Bool, true, false, not, _&&_}
+use mathlib.Core.Bool.{Bool, true, not, _&&_}
 use mathlib.Core.List.{List, [], _∷_, map}
 use Prim.Native.Nat.{ℕ, zero, suc, _+_, _≤_, _<_}
 use lib.Dec.{leb, ltb}

@@ -3,8 +3,7 @@
 //
 // An inner crate: what `arrange` and `first_not_below` ask of their columns, their callers have made sure of.
 ghost use mathlib.Core.Path.{_≡_};
-ghost use mathlib.Core.List.{List};
-ghost use Prim.Native.Nat.{ℕ, _≤_, _<_};
+ghost use Prim.Native.Nat.{_≤_, _<_};
 ghost use lib.ListN.{length, getD, set, take};
 ghost use lib.Ieee.{nan};
 ghost use lib.IntN.{pos};

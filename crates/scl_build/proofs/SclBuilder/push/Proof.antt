@@ -47,8 +47,11 @@ returns c =
 
 returns-2 : tie.Need-returns-2
 returns-2 c =
-    let args = c .before .before .before .before .before .before .before .before .before .args in
-    refused (args .self) (itemTable (args .kind .now) (args .cents .now) (args .numer .now) (args .denom .now)) (args .item) (push-full (args .self) (itemTable (args .kind .now) (args .cents .now) (args .numer .now) (args .denom .now)) (args .item) (sym (c .before .before .before .before .fits-items .ensures) ∙ c .before .before .before .if1 .taken) (sym (c .before .before .is-usable .ensures) ∙ c .before .if2 .taken) (c .if3 .left))
+    let at = c in
+    let args = at .before .before .before .before .before .before .before .before .before .args in
+    let fits = sym (at .before .before .before .before .fits-items .ensures) ∙ at .before .before .before .if1 .taken in
+    let usable = sym (at .before .before .is-usable .ensures) ∙ at .before .if2 .taken in
+    refused (args .self) (itemTable (args .kind .now) (args .cents .now) (args .numer .now) (args .denom .now)) (args .item) (push-full (args .self) (itemTable (args .kind .now) (args .cents .now) (args .numer .now) (args .denom .now)) (args .item) fits usable (at .if3 .left))
 
 returns-3 : tie.Need-returns-3
 returns-3 c =
