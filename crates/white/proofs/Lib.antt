@@ -6,3 +6,4 @@ pub mod Trims
 pub mod WhiteSpaces
 pub mod TrimLanguage
 pub mod Theorems
+pub mod Generals
