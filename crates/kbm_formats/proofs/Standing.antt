@@ -7,7 +7,7 @@ use Prim.Native.Nat.{ℕ, _≤_, _<_}
 use native.Mathlib.Omega.{arith}
 use Rattle.kbm_read.specs.Language.{Tokens}
 use Rattle.kbm_write.specs.Published as P
-use Rattle.kbm_write.proofs.Plain.{Plain, Word}
+use Rattle.writing.proofs.Plain.{Plain, Word}
 use Rattle.text.specs.Characters.{Each, inBytes, encode}
 use Rattle.text.specs.Reading.{WhiteSpace, EmptyOrComment, strict, Trimmed, Splits, Stops, Meaning, invalid, dropped, content, Line, EachLine}
 use Rattle.text.proofs.Encodings.{enc1, enc2, enc3, enc4, split}
