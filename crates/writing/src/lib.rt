@@ -28,8 +28,8 @@ pub const NO_ROOM: Refusal = Refusal {
     detail: 0,
 };
 
-// Room for the line of any one number.
-pub const LINE: usize = 32;
+// Room for the line of any one number, or of two with a byte between them.
+pub const LINE: usize = 40;
 
 // n and the byte `end` at `at`; the next place.
 pub fn write_number(n: u32, end: u8, out: &mut [u8], at: usize) -> usize
