@@ -3,13 +3,10 @@
 use mathlib.Core.Path.{_≡_}
 use mathlib.Core.Bool.{true, false}
 use mathlib.Core.List.{List, [], _∷_}
-use Prim.Native.Nat.{_*_, _^_, _≤_}
-use native.Mathlib.Nat.{le-trans, le-of-eq, mul-le-mul-right, mul-one, mul-right-comm}
+use Prim.Native.Nat.{_^_, _≤_}
 use native.Mathlib.Omega.{arith}
-use lib.Dec.{lit<}
-use lib.Ieee.{Float, up, down}
-use lib.Ieee.Fits.{down-pos}
-use lib.Ieee.Nearest.{closest-mono}
+use lib.Ieee.{Float}
+use Rattle.floats.proofs.Sized.{sized}
 use Rattle.floats.specs.Ranges.{inPitch}
 use Rattle.floats.proofs.Ranges.{Within, within-fin, pitch-says}
 use Rattle.decimals.specs.DecimalText.{DecimalText}
@@ -17,6 +14,7 @@ use Rattle.printing.specs.PrintText.{scaledOf, textOf}
 use Rattle.writing.specs.Thousandths.{nearestThree}
 use Rattle.writing.proofs.Plain.{Words}
 use Rattle.writing.proofs.Printed.{whole-word, three-reads}
+use Rattle.writing.proofs.Widths.{few-thousandths}
 use Rattle.kbm.specs.declared.Entry.{Entry}
 use Rattle.kbm.specs.declared.Entry.the-variants.{Mapped, Unmapped}
 use Rattle.kbm_write.specs.Export.{entryTexts}
@@ -33,10 +31,7 @@ pub pitch-few : (x : Float) → inPitch x ≡ true → scaledOf 3 x ≤ 10485760
 pitch-few x h = go (pitch-says x h)
   where
     go : {y : Float} → Within 10 20 y → scaledOf 3 y ≤ 1048576000
-    go (within-fin m e p l h) =
-        let a : m * up e * 10 ^ 3 * 1 ≤ 1048576000 * down e =
-        le-trans (le-of-eq (mul-one (m * up e * 10 ^ 3))) (le-trans (mul-le-mul-right (10 ^ 3) h) (le-of-eq (mul-right-comm (2 ^ 20) (down e) (10 ^ 3)))) in
-        closest-mono (m * up e * 10 ^ 3) (down e) 1048576000 1 (down-pos e) (lit< tt) a
+    go (within-fin m e p l h) = few-thousandths (2 ^ 20) (sized false m e h)
 
 -- a printed pitch is a decimal: the f64 nearest to its three decimals
 pub pitch-reads : (x : Float) → inPitch x ≡ true → DecimalText (textOf 3 false x) (nearestThree x)

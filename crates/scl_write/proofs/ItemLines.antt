@@ -2,47 +2,38 @@
 use mathlib.Core.Path.{_≡_, refl, sym, ap, _∙_}
 use mathlib.Core.Bool.{true, false}
 use mathlib.Core.List.{List, [], _∷_, _++_, append-assoc}
-use Prim.Native.Nat.{ℕ, _+_, _*_, _^_, _≤_, _<_}
-use native.Mathlib.Nat.{le-trans, mul-le-mul-right}
+use Prim.Native.Nat.{ℕ, _+_, _≤_, _<_}
 use native.Mathlib.Numerals.{add-one}
 use native.Mathlib.Omega.{arith}
-use lib.Dec.{T, lit≤, le→leb}
+use lib.Dec.{T, lit≤}
 use lib.IntN.{pos}
 use lib.ListN.{length, getD, drop, length-append, drop-of-length-le}
 use lib.Seq.{sets, drop-cons}
-use lib.Ieee.{Float, neg, up, down, ofBits}
-use Rattle.floats.proofs.Between.{range-sized}
-use Rattle.floats.proofs.Sized.{Sized, sized}
+use lib.Ieee.{Float, neg, le, ofBits}
 use Rattle.printing.specs.PrintText.{limited, wholeText}
+use Rattle.printing.proofs.Limits.{limited-between}
 use Rattle.printing.proofs.Texts.{sets-append}
 use Rattle.writing.specs.Lines.{line, linesText, numberText}
-use Rattle.writing.proofs.Lines.{number-short, decimal-short, step-length, step-sets}
-use Rattle.scl.specs.Items.{isUsableCents, isUsable}
-use Rattle.scl.specs.Table.{ItemTable, noItem, itemsIn, isItems}
+use Rattle.writing.proofs.Lines.{length-number, number-short, decimal-short, step-length, step-sets}
+use Rattle.scl.specs.Items.{mostCents, isUsableCents, isUsable}
+use Rattle.scl.specs.Table.{ItemTable, noItem, itemsIn, areUsable, isItems}
 use Rattle.scl.specs.declared.Denom.the-variants.{Given, Lacking}
 use Rattle.scl.specs.declared.Item.{Item}
 use Rattle.scl.specs.declared.Item.the-variants.{Cents, Fraction}
-use Rattle.scl.proofs.Table.{length-first, first-at, usable-at, items-roomy, items-usable}
+use Rattle.scl.proofs.Table.{both, length-first, first-at, usable-at, items-roomy, items-usable}
 use Rattle.scl_write.specs.Export.{standing, itemText, itemTexts, listedIn}
 
--- usable cents lie in -38400..38400
-pub cents-sized : (c : Float) → isUsableCents c ≡ true → Sized (75 * 2 ^ 9) c
-unfolding ofBits neg
-cents-sized c h = range-sized 75 9 c h
-
--- so they are printed
+-- usable cents are printed
 pub cents-limited : (c : Float) → isUsableCents c ≡ true → T (limited c)
-cents-limited c h = go (cents-sized c h)
-  where
-    go : {x : Float} → Sized (75 * 2 ^ 9) x → T (limited x)
-    go (sized s m e l) = le→leb (m * up e) (2 ^ 53 * down e) (le-trans l (mul-le-mul-right (down e) (lit≤ tt)))
+unfolding ofBits neg
+cents-limited c h = let t = both (le (neg mostCents) c) (le c mostCents) h in limited-between 75 9 c (lit≤ tt) (t .0) (t .1)
 
 -- a fraction's line: the numerator and a slash, the denominator and LF
 pub fraction-line : (n d : ℕ) → line (itemText (Fraction n (Given d))) ≡ numberText n 47 ++ numberText d 10
 fraction-line n d = append-assoc (numberText n 47) (wholeText (pos d)) (10 ∷ [])
 
-pub fraction-length : (n d : ℕ) → length (line (itemText (Fraction n (Given d)))) ≡ length (numberText n 47) + length (numberText d 10)
-fraction-length n d = rw (fraction-line n d) (length-append (numberText n 47) (numberText d 10))
+pub fraction-length : (n d : ℕ) → length (line (itemText (Fraction n (Given d)))) ≡ length (wholeText (pos n)) + 1 + (length (wholeText (pos d)) + 1)
+fraction-length n d = rw (fraction-line n d) (omega (arith, length-append (numberText n 47) (numberText d 10), length-number n 47, length-number d 10))
 
 pub fraction-sets : (n d : ℕ) (l m o : List ℕ) (at next : ℕ) → m ≡ sets l at (numberText n 47) → next ≡ at + length (numberText n 47) → o ≡ sets m next (numberText d 10)
     → o ≡ sets l at (line (itemText (Fraction n (Given d))))
@@ -51,7 +42,7 @@ fraction-sets n d l m o at next e p f = f ∙ rw (fraction-line n d, e) (sets-ap
 -- how long an item's line is at most, whatever its numbers
 pub item-short : (i : Item) → length (line (itemText i)) ≤ 40
 item-short (Cents c) = omega (arith, decimal-short 3 c (lit≤ tt))
-item-short (Fraction n (Given d)) = omega (arith, fraction-length n d, number-short n 47, number-short d 10)
+item-short (Fraction n (Given d)) = omega (arith, fraction-length n d, length-number n 47, number-short n 47, length-number d 10, number-short d 10)
 item-short (Fraction n Lacking) = omega (arith, number-short n 10)
 
 -- the lines of the items from a place on
@@ -89,10 +80,18 @@ module _ (count : ℕ) (t : ItemTable) (h : isItems count t ≡ true) where
   unfolding linesText itemTexts
   left-end i l = rw (drop-of-length-le (itemsIn count t) {i = i} (omega (arith, length-in, l)))
 
-  -- as many are written as the scale counts
+  -- as many are written as the scale counts, and each can be used
   pub length-listed : length (listedIn count t) ≡ count
-  length-listed = rw-drop (itemsIn count t) length-in
+  length-listed = go (itemsIn count t) length-in
     where
-      rw-drop : (is : List Item) → length is ≡ count + 1 → length (drop 1 is) ≡ count
-      rw-drop [] e = omega (arith, e)
-      rw-drop (i ∷ is) e = omega (arith, e)
+      go : (is : List Item) → length is ≡ count + 1 → length (drop 1 is) ≡ count
+      go [] e = omega (arith, e)
+      go (i ∷ is) e = omega (arith, e)
+
+  pub listed-usable : areUsable (listedIn count t) ≡ true
+  unfolding areUsable
+  listed-usable = go (itemsIn count t) (items-usable count t h)
+    where
+      go : (is : List Item) → areUsable is ≡ true → areUsable (drop 1 is) ≡ true
+      go [] e = e
+      go (i ∷ is) e = both (isUsable i) (areUsable is) e .1

@@ -11,8 +11,8 @@ use Rattle.floats.specs.Units.{negative}
 use Rattle.integers.specs.Digits.{AllDigits, decimal}
 use Rattle.integers.specs.IntegerText.{Digits}
 use Rattle.printing.specs.PrintText.{scaledOf}
-use Rattle.text.specs.Lines.{Lines}
-use Rattle.writing.specs.PublishedLines.{Kept, Stands, Number}
+use Rattle.text.specs.Lines.{NoLF, EndsCR, Lines}
+use Rattle.writing.specs.PublishedLines.{Comment, Kept, Stands, Number}
 use Rattle.scl.specs.Items.{denomOf}
 use Rattle.scl.specs.declared.Item.{Item}
 use Rattle.scl.specs.declared.Item.the-variants.{Cents, Fraction}
@@ -62,6 +62,12 @@ pub record PublishedText (s : List ℕ) (m : Scale) : Type 0 where
   pub keeps : Kept parts (m .description ∷ count ∷ rest)
   pub notes : Number count (pos (length (m .pitches)))
   pub values : Values rest (m .pitches)
+
+-- a description that is one line of such a file: no LF in it, no CR at its end, and no comment
+pub record OneLine (description : List ℕ) : Type 0 where
+  pub no-lf : NoLF description
+  pub no-cr : EndsCR description → ⊥
+  pub no-comment : Comment description → ⊥
 
 -- the pitch value of an item of the library: cents to three decimals, ratios exactly, an integer over 1
 abbrev pub pitchOf : Item → Pitch

@@ -60,7 +60,7 @@ fn item_at(kind: &[u8], cents: &[f64], numer: &[u32], denom: &[u32], count: usiz
 // How many bytes the items take, place 0 omitted.
 fn items_length(kind: &[u8], cents: &[f64], numer: &[u32], denom: &[u32], count: usize) -> usize
     requires { ⌜ (isItems count (itemTable (now kind) (now cents) (now numer) (now denom)) ≡ true) × (count ≤ 65535) ⌝ }
-    ensures { λ r. ⌜ (r ≡ length (linesText (itemTexts (listedIn count (itemTable (now (kind .entry)) (now (cents .entry)) (now (numer .entry)) (now (denom .entry))))))) × (r ≤ 2621400) ⌝ }
+    ensures { λ r. ⌜ (r ≡ length (linesText (itemTexts (listedIn count (itemTable (now (kind .entry)) (now (cents .entry)) (now (numer .entry)) (now (denom .entry))))))) × (r ≤ 2621440) ⌝ }
 {
     let mut total: usize = 0;
     let mut i: usize = 1;
@@ -87,7 +87,7 @@ fn write_items(
     ensures { λ r. ⌜ now (out .exit) ≡ sets (now (out .entry)) at (linesText (itemTexts (listedIn count (itemTable (now (kind .entry)) (now (cents .entry)) (now (numer .entry)) (now (denom .entry)))))) ⌝ }
 {
     let mut next = at;
-    let mut i: usize = 1;
+    let mut i = 1;
     while i <= count {
         next = write_item(item_at(kind, cents, numer, denom, count, i), out, next);
         i += 1;

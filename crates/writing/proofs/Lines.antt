@@ -63,8 +63,11 @@ whole-short (pos n) = omega (arith, length-line (integerText false n), parts-len
 whole-short (negsuc n) = omega (arith, length-line (integerText true (suc n)), parts-length true false (suc n) (widthOf 18 (suc n)) 0 0, width-le 18 (suc n), sign-le true false, point-le 0)
 
 -- a number and any byte after it
+pub length-number : (n end : ℕ) → length (numberText n end) ≡ length (wholeText (pos n)) + 1
+length-number n end = length-append (wholeText (pos n)) (end ∷ [])
+
 pub number-short : (n end : ℕ) → length (numberText n end) ≤ 20
-number-short n end = omega (arith, length-append (wholeText (pos n)) (end ∷ []), parts-length false false n (widthOf 18 n) 0 0, width-le 18 n)
+number-short n end = omega (arith, length-number n end, parts-length false false n (widthOf 18 n) 0 0, width-le 18 n)
 
 pub decimal-short : (d : ℕ) (x : Float) → d ≤ 4 → length (line (textOf d false x)) ≤ 32
 decimal-short d x h =

@@ -1,5 +1,5 @@
 -- What is answered by the room for a text: 12, or the text from the first byte on. Assumes nothing.
-use mathlib.Core.Path.{_≡_, refl, ap, _∙_}
+use mathlib.Core.Path.{_≡_, refl, sym, ap, _∙_}
 use mathlib.Core.Bool.{Bool, true, false}
 use mathlib.Core.List.{List, _++_}
 use mathlib.Core.Logic.{_↔_}
@@ -13,7 +13,7 @@ use borrow.Author.Tests.{le-leb, lt-leb, leb-true, leb-false}
 use Rattle.base.specs.Numbers.{no-room}
 use Rattle.base.specs.Said.{Said, gives, refuses, pick, andThen, Numbered}
 use Rattle.base.specs.Tables.{over, after}
-use Rattle.base.proofs.Said.{no-refusal, numbered-pick}
+use Rattle.base.proofs.Said.{no-value, no-refusal, same-value, same-refuses, numbered-pick}
 use Rattle.writing.specs.Fitted.{fitted, textLength}
 
 -- a text written from the first byte on
@@ -68,7 +68,24 @@ module _ (room : ℕ) (t : List ℕ) where
   unfolding fitted
   fitted-gives h = rw (le-leb (length t) room h)
 
+  -- and nothing else ever is
+  pub fitted-given : {u : List ℕ} → fitted room t ≡ gives u → (u ≡ t) × (length t ≤ room)
+  unfolding fitted
+  fitted-given {u} = go (leb (length t) room) refl
+    where
+      go : (b : Bool) → leb (length t) room ≡ b → pick b (gives t) (refuses no-room 0) ≡ gives u → (u ≡ t) × (length t ≤ room)
+      go true e q = (sym (same-value t u q), leb-true (length t) room e)
+      go false e q = no-value q
+
   -- and no other number than 12 arises
+  pub fitted-refuses : {n d : ℕ} → fitted room t ≡ refuses n d → n ≡ no-room
+  unfolding fitted
+  fitted-refuses {n} {d} = go (leb (length t) room)
+    where
+      go : (b : Bool) → pick b (gives t) (refuses no-room 0) ≡ refuses n d → n ≡ no-room
+      go true q = no-refusal q
+      go false q = sym (same-refuses q .0)
+
   pub fitted-numbered : Numbered (fitted room t)
   unfolding fitted
   fitted-numbered = numbered-pick (leb (length t) room) (Numbered.value t) (Numbered.number (omega arith) (omega arith))

@@ -14,7 +14,7 @@ use Rattle.scl_write.proofs.items_length.Tie as tie
 abbrev Inv-loop : tie.InvT-loop
 Inv-loop kind cents numer denom count total₀ i₀ total i =
     let t = itemTable kind cents numer denom in
-    (1 ≤ i) × (i ≤ count + 1) × (total + length (left count t i) ≡ length (left count t 1)) × (total + 40 ≤ 40 * i)
+    (i ≤ count + 1) × (total + length (left count t i) ≡ length (left count t 1)) × (total ≤ 40 * i)
 
 abbrev μ-loop : tie.MeasureT-loop
 μ-loop kind cents numer denom count total₀ i₀ total i = count + 1 - i
@@ -30,7 +30,7 @@ counted : (c : tie.After-item-length Inv-loop μ-loop) → let l = c .before .be
 counted c = rw (c .before .item-at .ensures .0) at (c .item-length .ensures .0)
 
 loop-holds : tie.Need-loop-holds Inv-loop μ-loop
-loop-holds c = (omega arith, omega arith, omega arith, omega arith)
+loop-holds c = (omega arith, omega arith, omega arith)
 
 item-at-requires : tie.Need-item-at-requires Inv-loop μ-loop
 item-at-requires c κs = (start (c .before) .pre .0, c .loop-test .taken)
@@ -51,7 +51,6 @@ loop-again : tie.Need-loop-again Inv-loop μ-loop
 loop-again c =
     let l = c .before .before .before in
     let s = start l in (
-      omega arith,
       omega arith,
       omega (arith, counted c, left-length (s .args .count) (table s) (s .pre .0) (l .loop .i) (c .before .before .loop-test .taken)),
       omega (arith, c .item-length .ensures .1),

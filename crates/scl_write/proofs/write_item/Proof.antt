@@ -8,6 +8,7 @@ use denote.Ref.{now}
 use lib.Dec.{lit≤}
 use lib.ListN.{length}
 use Rattle.writing.specs.Lines.{line}
+use Rattle.writing.proofs.Lines.{length-number}
 use Rattle.scl.specs.Items.{isUsable}
 use Rattle.scl.specs.declared.Denom.{Denom}
 use Rattle.scl.specs.declared.Denom.the-variants.{Given, Lacking}
@@ -61,7 +62,7 @@ write-number-requires c κs =
     let f = k .before .before .before in
     let n = f .before .item2 .given .0 .0 in
     let d = k .before .denom .given .0 .0 in
-    omega (arith, told (start f) (Fraction n (Given d)) (given-is k) .1, fraction-length n d)
+    omega (arith, told (start f) (Fraction n (Given d)) (given-is k) .1, fraction-length n d, length-number n 47)
 
 write-number-requires-2 : tie.Need-write-number-requires-2
 write-number-requires-2 c κs =
@@ -70,7 +71,7 @@ write-number-requires-2 c κs =
     let f = k .before .before .before in
     let n = f .before .item2 .given .0 .0 in
     let d = k .before .denom .given .0 .0 in
-    omega (arith, told (start f) (Fraction n (Given d)) (given-is k) .1, fraction-length n d, w .write-number .ensures .0)
+    omega (arith, told (start f) (Fraction n (Given d)) (given-is k) .1, fraction-length n d, length-number n 47, length-number d 10, w .write-number .ensures .0)
 
 enum-told : tie.Need-enum-told
 enum-told c = search needs
@@ -102,7 +103,7 @@ returns-2 c =
     let d = k .before .denom .given .0 .0 in
     let s = start f in
     rw (given-is k) (
-      omega (arith, w .write-number .ensures .0, v .write-number2 .ensures .0, fraction-length n d),
+      omega (arith, w .write-number .ensures .0, v .write-number2 .ensures .0, fraction-length n d, length-number n 47, length-number d 10),
       fraction-sets n d (now (s .args .out)) (w .write-number .last .1 .1 .0) (v .write-number2 .last .1 .1 .0) (s .args .at) (w .write-number .result) (w .write-number .ensures .1) (w .write-number .ensures .0) (v .write-number2 .ensures .1),
     )
 

@@ -17,7 +17,7 @@ use Rattle.scl_write.proofs.write_items.Tie as tie
 abbrev Inv-loop : tie.InvT-loop
 Inv-loop kind cents numer denom count out₀ at next₀ i₀ out next i =
     let t = itemTable kind cents numer denom in
-    (1 ≤ i) × (i ≤ count + 1) × (length out ≡ length out₀) × (next + length (left count t i) ≡ at + length (left count t 1))
+    (i ≤ count + 1) × (length out ≡ length out₀) × (next + length (left count t i) ≡ at + length (left count t 1))
     × (sets out next (left count t i) ≡ sets out₀ at (left count t 1))
 
 abbrev μ-loop : tie.MeasureT-loop
@@ -36,7 +36,7 @@ wrote : (c : tie.After-write-item Inv-loop μ-loop) → let l = c .before .befor
 wrote c = rw (c .before .before .item-at .ensures .0) at (c .write-item .ensures)
 
 loop-holds : tie.Need-loop-holds Inv-loop μ-loop
-loop-holds c = (omega arith, omega arith, refl, refl, refl)
+loop-holds c = (omega arith, refl, refl, refl)
 
 item-at-requires : tie.Need-item-at-requires Inv-loop μ-loop
 item-at-requires c κs = (start (c .before) .pre .0, c .loop-test .taken)
@@ -64,14 +64,13 @@ loop-again c =
     let t = w .before .before .before .loop-test .taken in
     let h = wrote w in (
       omega arith,
-      omega arith,
-      rw (h .1) (length-sets (l .loop .out) (l .loop .next) (line (itemText (standing (table s) (l .loop .i)))) ∙ l .loop .inv .2),
+      rw (h .1) (length-sets (l .loop .out) (l .loop .next) (line (itemText (standing (table s) (l .loop .i)))) ∙ l .loop .inv .1),
       omega (arith, h .0, left-length (s .args .count) (table s) (s .pre .0) (l .loop .i) t),
-      left-sets (s .args .count) (table s) (s .pre .0) (l .loop .i) t (l .loop .out) (w .write-item .last .1 .0) (l .loop .next) (w .write-item .result) (h .1) (h .0) ∙ l .loop .inv .4,
+      left-sets (s .args .count) (table s) (s .pre .0) (l .loop .i) t (l .loop .out) (w .write-item .last .1 .0) (l .loop .next) (w .write-item .result) (h .1) (h .0) ∙ l .loop .inv .3,
     )
 
 same-length : tie.Need-same-length Inv-loop μ-loop
-same-length c = c .before .loop .inv .2
+same-length c = c .before .loop .inv .1
 
 returns : tie.Need-returns Inv-loop μ-loop
 returns c =
@@ -79,7 +78,7 @@ returns c =
     let s = start l in
     let e = left-end (s .args .count) (table s) (s .pre .0) (l .loop .i) (omega arith) in (
       omega (arith, ap length e),
-      sym (ap (λ (t : List ℕ). sets (l .loop .out) (l .loop .next) t) e) ∙ l .loop .inv .4,
+      sym (ap (λ (t : List ℕ). sets (l .loop .out) (l .loop .next) t) e) ∙ l .loop .inv .3,
     )
 
 pub write-items-spec : {M : Type 1} → statement M
