@@ -13,7 +13,7 @@ ghost use lib.ListN.{length};
 ghost use lib.Seq.{sets};
 ghost use Rattle.base.specs.Tables.{after};
 ghost use Rattle.floats.specs.Ranges.{inPitch};
-ghost use Rattle.kbm.specs.Table.{isTable, entryOf, entriesOf};
+ghost use Rattle.kbm.specs.Table.{entryOf, entriesOf};
 ghost use Rattle.writing.specs.Answers.{saysSize};
 ghost use Rattle.writing.specs.Fitted.{fitted, textLength};
 ghost use Rattle.writing.specs.Lines.{line, linesText};

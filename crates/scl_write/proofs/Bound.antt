@@ -25,7 +25,7 @@ use Rattle.scl.specs.declared.Item.{Item}
 use Rattle.scl.specs.declared.Item.the-variants.{Cents, Fraction}
 use Rattle.scl.specs.declared.Scl.{Scl}
 use Rattle.scl.proofs.Table.{both, items-are}
-use Rattle.scl_write.specs.Export.{itemText, itemTexts, listedIn, exportText, scaleText, exportOf, Writable}
+use Rattle.scl_write.specs.Export.{itemText, itemTexts, listedIn, exportText, exportOf, Writable}
 use Rattle.scl_write.proofs.ItemLines.{fraction-length, length-listed, listed-usable}
 use Rattle.scl_write.proofs.ScaleLines.{scale-length}
 use Rattle.scl_write.proofs.Theorems.{writable, export-accepted}

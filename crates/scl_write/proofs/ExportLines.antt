@@ -1,6 +1,6 @@
 -- THE LINES OF AN EXPORT: the description, where it is one line, the count and the items, each with its LF. Document 01, "Writing".
 -- Assumes nothing.
-use mathlib.Core.List.{List, [], _∷_, _++_, append-assoc}
+use mathlib.Core.List.{List, [], _∷_, append-assoc}
 use Prim.Native.Nat.{ℕ}
 use native.Mathlib.Omega.{arith}
 use lib.IntN.{pos}

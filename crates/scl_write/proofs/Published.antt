@@ -1,6 +1,6 @@
 -- THE EXPORT IN THE PUBLISHED FORMAT: where the description is one line, what is written is a scale file as Scala's pages have it, with that
 -- description, cents to three decimals and ratios exactly. Assumes nothing.
-use mathlib.Core.Path.{_≡_, refl, sym, ap, _∙_}
+use mathlib.Core.Path.{_≡_, refl, sym, ap}
 use mathlib.Core.Bool.{Bool, true, false}
 use mathlib.Core.List.{List, [], _∷_, _++_, append-assoc}
 use mathlib.Core.Logic.{_⊎_, inl, inr}
@@ -13,10 +13,9 @@ use Rattle.base.specs.Said.{gives}
 use Rattle.floats.specs.Units.{negative}
 use Rattle.printing.specs.PrintText.{scaledOf, signText, textOf, wholeText}
 use Rattle.printing.proofs.Form.{printed}
-use Rattle.writing.specs.Lines.{numberText}
 use Rattle.writing.specs.PublishedLines.{Kept}
 use Rattle.writing.proofs.PublishedValues.{all-kept, alone, number-digits, number}
-use Rattle.scl.specs.Items.{isUsableCents, isUsable, denomOf, Held, AllHeld}
+use Rattle.scl.specs.Items.{isUsableCents, isUsable, Held, AllHeld}
 use Rattle.scl.specs.Table.{ItemTable, areUsable}
 use Rattle.scl.specs.declared.Denom.the-variants.{Given, Lacking}
 use Rattle.scl.specs.declared.Item.{Item}

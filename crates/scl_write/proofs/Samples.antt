@@ -3,7 +3,7 @@ use mathlib.Core.Path.{_≡_, refl}
 use mathlib.Core.Bool.{true, false}
 use mathlib.Core.List.{List, [], _∷_}
 use Prim.Native.Nat.{ℕ}
-use lib.Ieee.{Float, round, binary64, ofBits, le, lt, eq, neg}
+use lib.Ieee.{round, binary64, ofBits, le, lt, eq, neg}
 use Rattle.base.specs.Said.{gives, refuses}
 use Rattle.floats.specs.Floats.{zeroF}
 use Rattle.floats.specs.Units.{negative}

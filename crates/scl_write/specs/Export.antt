@@ -1,7 +1,6 @@
 -- Document 01, "Writing": the bytes that a scale is written as, "SCL: description, item count, items (place 0 omitted). .. A
 -- description that is not UTF-8 gives 10; any other is copied as it is. .. Every line ends in LF. Cents .. have three decimals, from
 -- the exact value, ties to even, sign kept .. Integers and fractions as declared." Assumes nothing.
-use mathlib.Core.Path.{_≡_}
 use mathlib.Core.Bool.{false, _&&_}
 use mathlib.Core.List.{List, [], _∷_, _++_}
 use Prim.Native.Nat.{ℕ}

@@ -1,6 +1,6 @@
 -- What is printed, in the published formats: no word is a comment, a value alone stands on its line, a printed integer is a whole
 -- number. Assumes nothing.
-use mathlib.Core.Path.{_≡_, refl, sym}
+use mathlib.Core.Path.{refl, sym}
 use mathlib.Core.Bool.{true, false}
 use mathlib.Core.List.{List, [], _∷_, _++_, append-nil}
 use Prim.Native.Nat.{ℕ, suc, _^_, _<_}

@@ -1,6 +1,6 @@
 -- The answer of an export: what is said determines it. Document 01, "What the contracts settle". And the writers of this crate: one
 -- next place, one state of the lent bytes. Assumes nothing.
-use mathlib.Core.Path.{_≡_, refl}
+use mathlib.Core.Path.{refl}
 use mathlib.Core.Bool.{false}
 use mathlib.Core.List.{List}
 use mathlib.Core.Logic.{inl, inr}

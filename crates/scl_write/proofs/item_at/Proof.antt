@@ -1,7 +1,6 @@
 -- `item_at` meets its contract: the place lies within each column of a usable table, and its item can be used.
 -- Assumes nothing.
 use native.Mathlib.Omega.{arith}
-use mathlib.Core.Path.{_∙_}
 use Rattle.scl.specs.Table.{ItemTable, Items, itemTable}
 use Rattle.scl.proofs.Table.{items-are}
 use Rattle.scl_write.proofs.ItemLines.{standing-usable}
