@@ -1,6 +1,6 @@
 -- The laws of an integer at a line of a text: it is read exactly where the text is one, at every type; and it lies within its type.
 -- Assumes nothing.
-use mathlib.Core.Path.{_≡_, refl, sym, ap}
+use mathlib.Core.Path.{_≡_, refl, sym, _∙_, ap}
 use mathlib.Core.Bool.{Bool, true, false, _&&_}
 use mathlib.Core.List.{List}
 use mathlib.Core.Logic.{_⊎_, inl, inr}
@@ -70,3 +70,7 @@ pub int-below : (top : ℕ) (t : List ℕ) (n : ℕ) → IntText false top t (po
 int-below top t n (IntText.plain k d h e) = let z : n ≡ k = cc in omega arith
 int-below top t n (IntText.plus s k p d h e) = let z : n ≡ k = cc in omega arith
 int-below top t n (IntText.minus s k g p d h e) = absurd (true-not-false (sym g))
+
+-- r is what a reader answered, r′ what a match made of it
+pub int-step : {X A : Type 0} (of : X → Int) (number k : ℕ) (f : ℤ → Said A) {r r′ : X} {i : Int} → of r ≡ i → r ≡ r′ → andThen (intAt number k (of r′)) f ≡ andThen (intAt number k i) f
+int-step of number k f e q = ap (λ i. andThen (intAt number k i) f) (ap of (sym q) ∙ e)

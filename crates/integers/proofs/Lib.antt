@@ -1,3 +1,4 @@
+pub mod Tens
 pub mod Digits
 pub mod Scan
 pub mod Range

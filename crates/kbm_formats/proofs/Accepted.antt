@@ -25,9 +25,9 @@ use Rattle.kbm_read.proofs.Ends.{length-added}
 use Rattle.kbm_read.proofs.Language.{in-language}
 use Rattle.kbm_read.proofs.Tables.{leaves-meaning}
 use Rattle.kbm_write.specs.Published as P
-use Rattle.text.specs.Characters.{Utf8}
+use Rattle.utf8.specs.Characters.{Utf8}
 use Rattle.text.specs.ReadLine.{strictly, meaningBy}
-use Rattle.text.specs.Reading.{strict, Meaning, invalid, dropped, content, Line, EachLine}
+use Rattle.text.specs.Reading.{strict, Meaning, invalid, blank, comment, content, Line, EachLine}
 use Rattle.text.proofs.LineLanguage.{strict-line}
 use Rattle.kbm_formats.specs.Agree.{Agree}
 use Rattle.kbm_formats.specs.Limits.{AllUtf8, WithinLimits}
@@ -40,14 +40,18 @@ use Rattle.kbm_formats.proofs.Values.{Are}
 no-meaning : {A : Type 0} {m t : List ℕ} → _≡_ {A = Meaning} invalid (content m t) → A
 no-meaning e = let z : _≡_ {A = ℕ} 0 1 = cc in absurd (omega arith)
 
-not-dropped : {A : Type 0} → _≡_ {A = Meaning} invalid dropped → A
-not-dropped e = let z : _≡_ {A = ℕ} 0 1 = cc in absurd (omega arith)
+not-blank : {A : Type 0} → _≡_ {A = Meaning} invalid blank → A
+not-blank e = let z : _≡_ {A = ℕ} 0 1 = cc in absurd (omega arith)
+
+not-comment : {A : Type 0} → _≡_ {A = Meaning} invalid comment → A
+not-comment e = let z : _≡_ {A = ℕ} 0 1 = cc in absurd (omega arith)
 
 -- UTF-8 is text
 is-text : (l : List ℕ) (x : Meaning) → Utf8 l → Line strict l x → x ≡ invalid → ⊥
 is-text l x u (Line.not-text n e) p = n u
-is-text l x u (Line.drops r m y d e) p = not-dropped (sym p ∙ e)
-is-text l x u (Line.says r m t y n q e) p = no-meaning (sym p ∙ e)
+is-text l x u (Line.is-blank r y e) p = not-blank (sym p ∙ e)
+is-text l x u (Line.is-comment r m y d e) p = not-comment (sym p ∙ e)
+is-text l x u (Line.says r m t y o n q e) p = no-meaning (sym p ∙ e)
 
 -- what the lines say, and the tokens of those that do not drop out
 record Spoken (ls us : List (List ℕ)) : Type 0 where
@@ -63,7 +67,7 @@ lines-say (P.Kept.comment {l = l} c k) a us h =
     let x = meaningBy strictly l in
     elim (comment-line l x c (strict-line l)) [
       | inl e ↦ absurd (is-text l x (a .0) (strict-line l) e)
-      | inr e ↦ record { says = dropped ∷ r .says; each = (subst (Line strict l) e (strict-line l), r .each); tokens = r .tokens }
+      | inr e ↦ record { says = comment ∷ r .says; each = (subst (Line strict l) e (strict-line l), r .each); tokens = r .tokens }
     ]
 lines-say (P.Kept.kept n k) a [] h = absurd h
 lines-say (P.Kept.kept {l = l} n k) a (u ∷ us) h =
@@ -152,7 +156,7 @@ module _ {s : List ℕ} {m : P.Mapping} (p : P.PublishedText s m) where
             record {
               first = seven p;
               rest = written-degrees p .tokens;
-              tokens = r .tokens;
+              words = r .tokens;
               values = given;
               entries = are-entries (written-degrees p .tokens) (m .given) (w .degrees) (written-degrees p .are);
             };

@@ -86,7 +86,7 @@ module _ {s : List ℕ} {m : P.Mapping} (p : P.PublishedText s m) where
   read-values a =
       let parts : a .text .parts ≡ p .parts = sym (one-lines (a .text .lines)) ∙ one-lines (p .lines) in
       let each = subst (λ (ls : List (List ℕ)). EachLine strict ls (a .says)) parts (a .text .each) in
-      let tokens = same-tokens (p .keeps) (a .says) each (a .lines .first ++ a .lines .rest) (seven ++ written-degrees .tokens) (a .lines .tokens) all-held in
+      let tokens = same-tokens (p .keeps) (a .says) each (a .lines .first ++ a .lines .rest) (seven ++ written-degrees .tokens) (a .lines .words) all-held in
       let same = same-parts (a .lines .first) seven (a .lines .rest) (written-degrees .tokens) (give-length required (a .lines .first) (a .values) (a .lines .values)) tokens in
       (subst (λ (l : List (List ℕ)). GiveAll required l (a .values)) (same .0) (a .lines .values), subst (λ (l : List (List ℕ)). Entries l (a .given)) (same .1) (a .lines .entries))
 

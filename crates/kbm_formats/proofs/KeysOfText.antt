@@ -25,12 +25,12 @@ use Rattle.kbm.proofs.Theorems.{table-used, key-has}
 use Rattle.kbm_read.specs.Language.{required, Values, EntryText, Entries, sizeOf, mappingFrom, blanks, added, MappingText}
 use Rattle.kbm_read.specs.Reader.{afterRead}
 use Rattle.kbm_read.proofs.Ends.{length-added}
-use Rattle.kbm_read.proofs.Fields.{same-refuses, no-refusal}
+use Rattle.base.proofs.Said.{no-refusal, same-refuses}
 use Rattle.kbm_read.proofs.Tables.{leaves-meaning}
 use Rattle.key.specs.declared.PianoKey.{PianoKey}
 use Rattle.kbm_formats.specs.KeysOfText.{entryTokens, lastKey, Inside, Outside, steps, Counts, NotMapped, MappedTo, Silent, TooFar, SaidOf}
 use Rattle.kbm_write.specs.Export.{lastOf}
-use Rattle.text.proofs.Encodings.{split}
+use Rattle.utf8.proofs.Encodings.{split}
 use Rattle.kbm_formats.proofs.Values.{letter-integer}
 use Rattle.kbm_formats.proofs.Range.{inside, inside-back, outside, outside-back}
 

@@ -17,7 +17,7 @@ use borrow.Author.Tests.{le-leb, lt-leb}
 use Rattle.base.specs.Integers.{inI32}
 use Rattle.base.specs.Said.{gives, refuses}
 use Rattle.base.proofs.Integers.{mag-in}
-use Rattle.base.proofs.Said.{same-value}
+use Rattle.base.proofs.Said.{same-value, no-value}
 use Rattle.floats.specs.Ranges.{inPitch}
 use Rattle.decimals.specs.DecimalScan.{readDecimal}
 use Rattle.integers.specs.Integer.{Int, value, none, readInt}
@@ -32,7 +32,7 @@ use Rattle.kbm.proofs.Entries.{mag-i16}
 use Rattle.kbm_read.specs.Reader.{takeToken, walk, unread, mappingOf, readOf, givenFrom, entriesIn}
 use Rattle.kbm_read.specs.Language.{blanks, MappingText}
 use Rattle.kbm_read.proofs.Language.{accepts}
-use Rattle.kbm_read.proofs.Walks.{no-value}
+use Rattle.listing.specs.Reader.{walkLines}
 use Rattle.writing.specs.Thousandths.{nearestThree}
 use Rattle.kbm_write.specs.Again.{ComesBack}
 use Rattle.kbm_write.specs.Export.{lastOf, middleOf, entryTexts, exportText}
@@ -58,16 +58,16 @@ last-below (negsuc n) h = refl
 module _ (room : ℕ) (t1 t2 t3 t4 t5 t6 : List ℕ) (ts : List (List ℕ)) {size : ℕ} {first last : ℤ} (e1 : readInt false (2 ^ 16) t1 ≡ value (pos size)) (e2 : readInt true (2 ^ 31) t2 ≡ value first)
     (e3 : readInt true (2 ^ 31) t3 ≡ value last) (n3 : leZ (pos 2147483647) last ≡ false) where
   middle-not : readInt true (2 ^ 15) t4 ≡ none → walk room 1 unread (selves (t1 ∷ t2 ∷ t3 ∷ t4 ∷ t5 ∷ t6 ∷ ts)) ≡ refuses 3 4
-  unfolding walk selves takeToken
+  unfolding walkLines selves takeToken
   middle-not e4 = rw (e1, e2, e3, n3, e4)
 
   reference-not : {middle : ℤ} → readInt true (2 ^ 15) t4 ≡ value middle → readInt true (2 ^ 15) t5 ≡ none → walk room 1 unread (selves (t1 ∷ t2 ∷ t3 ∷ t4 ∷ t5 ∷ t6 ∷ ts)) ≡ refuses 3 5
-  unfolding walk selves takeToken
+  unfolding walkLines selves takeToken
   reference-not e4 e5 = rw (e1, e2, e3, n3, e4, e5)
 
   pitch-not : {middle reference : ℤ} {hz : Float} → readInt true (2 ^ 15) t4 ≡ value middle → readInt true (2 ^ 15) t5 ≡ value reference → readDecimal t6 ≡ decimal.Is hz → inPitch hz ≡ false
       → walk room 1 unread (selves (t1 ∷ t2 ∷ t3 ∷ t4 ∷ t5 ∷ t6 ∷ ts)) ≡ refuses 10 6
-  unfolding walk selves takeToken
+  unfolding walkLines selves takeToken
   pitch-not e4 e5 e6 n6 = rw (e1, e2, e3, n3, e4, e5, e6, n6)
 
 -- the mapping of the seven lines is the one that was written

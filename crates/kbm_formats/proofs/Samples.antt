@@ -13,8 +13,9 @@ use lib.ListN.{length}
 use lib.Signed.{leZ-yes}
 use Rattle.base.specs.Integers.{held}
 use Rattle.base.specs.Said.{gives}
-use Rattle.decimals.specs.DecimalScan.{spelled, scanOf, readDecimal}
-use Rattle.decimals.specs.DecimalScan as decimals
+use Rattle.numerals.specs.Scan.{spelled, scanOf}
+use Rattle.numerals.specs.Scan as numerals
+use Rattle.decimals.specs.DecimalScan.{readDecimal}
 use Rattle.integers.specs.Integer.{scan, magnitudeOf, readSigned}
 use Rattle.integers.proofs.Language.{sound}
 use Rattle.floats.specs.Units.{negative}
@@ -24,16 +25,16 @@ use Rattle.kbm.specs.Table.{entriesOf}
 use Rattle.kbm.specs.declared.Entry.{Entry}
 use Rattle.kbm.specs.declared.Entry.the-variants.{Mapped, Unmapped}
 use Rattle.kbm_read.specs.Language.{Required, required, Values, GiveAll, EntryText, Entries, Tokens, sizeOf, mappingFrom, blanks, added, MappingText}
-use Rattle.kbm_read.specs.Reader.{saidIn, afterRead}
+use Rattle.kbm_read.specs.Reader.{afterRead}
 use Rattle.kbm_read.proofs.Fields.{readAs, read-gives}
 use Rattle.kbm_read.proofs.Language.{in-language}
 use Rattle.key.specs.Keys.{key}
 use Rattle.writing.specs.Lines.{linesText}
 use Rattle.text.specs.Cut.{lines}
-use Rattle.text.specs.ReadLine.{tokenLength, meaningBy, meanings}
-use Rattle.text.specs.Trim.{widthBy, run}
-use Rattle.text.specs.Utf8Machine.{leadOf, utf8Step}
-use Rattle.text.specs.Utf8Machine as utf8
+use Rattle.text.specs.ReadLine.{tokenLength, meaningBy, meanings, saidIn}
+use Rattle.white.specs.Trim.{widthBy, run}
+use Rattle.utf8.specs.Utf8Machine.{leadOf, utf8Step}
+use Rattle.utf8.specs.Utf8Machine as utf8
 use Rattle.text.proofs.LineLanguage.{strict-text}
 use Rattle.kbm_formats.specs.KeysOfText.{Silent}
 use Rattle.kbm_formats.specs.Samples.{copyText, exampleKbm, exampleEntries, CopyKeys, farText, farKbm, FarKey, Back}
@@ -61,7 +62,7 @@ by-lines s first rest vs es t r e l c =
       text = strict-text s;
       values = vs;
       given = es;
-      lines = record { first = first; rest = rest; tokens = t; values = all-read required first vs r; entries = e };
+      lines = record { first = first; rest = rest; words = t; values = all-read required first vs r; entries = e };
       not-large = l;
       consistent = c;
       mapping = refl;
@@ -70,7 +71,7 @@ by-lines s first rest vs es t r e l c =
 
 -- ---- 01'S OWN INPUT
 copy-text : MappingText copyText (exampleKbm (pos 62)) exampleEntries
-unfolding linesText lines meaningBy meanings tokenLength widthBy run leadOf utf8Step utf8.utf8From scan magnitudeOf readSigned decimals.runOf spelled scanOf readDecimal blanks round ofBits le
+unfolding linesText lines meaningBy meanings tokenLength widthBy run leadOf utf8Step utf8.utf8From scan magnitudeOf readSigned numerals.runOf spelled scanOf readDecimal blanks round ofBits le
 copy-text =
     by-lines copyText
     ((51 ∷ []) ∷ (48 ∷ []) ∷ (49 ∷ 50 ∷ 55 ∷ []) ∷ (54 ∷ 50 ∷ []) ∷ (54 ∷ 48 ∷ []) ∷ (50 ∷ 54 ∷ 49 ∷ 46 ∷ 54 ∷ 50 ∷ 53 ∷ 54 ∷ []) ∷ (53 ∷ []) ∷ []) ((48 ∷ []) ∷ (88 ∷ []) ∷ [])
@@ -102,7 +103,7 @@ copy-keys old room =
 
 -- ---- THE ENDS OF 32 BITS
 far-text : MappingText farText farKbm (Unmapped ∷ [])
-unfolding linesText lines meaningBy meanings tokenLength widthBy run leadOf utf8Step utf8.utf8From scan magnitudeOf readSigned decimals.runOf spelled scanOf readDecimal blanks round ofBits le
+unfolding linesText lines meaningBy meanings tokenLength widthBy run leadOf utf8Step utf8.utf8From scan magnitudeOf readSigned numerals.runOf spelled scanOf readDecimal blanks round ofBits le
 far-text =
     by-lines farText
     ((49 ∷ []) ∷ (45 ∷ 50 ∷ 49 ∷ 52 ∷ 55 ∷ 52 ∷ 56 ∷ 51 ∷ 54 ∷ 52 ∷ 56 ∷ []) ∷ (50 ∷ 49 ∷ 52 ∷ 55 ∷ 52 ∷ 56 ∷ 51 ∷ 54 ∷ 52 ∷ 54 ∷ []) ∷ (45 ∷ 50 ∷ []) ∷ (45 ∷ 50 ∷ []) ∷

@@ -41,10 +41,6 @@ use Rattle.kbm_read.specs.declared.line.EntryRead.{EntryRead}
 use Rattle.kbm_read.specs.declared.line.EntryRead.the-variants as entry
 use Rattle.kbm_read.specs.declared.line.State.{State}
 
--- THE LAW OF A REQUIRED LINE: r is what an integer's reader answered, r′ what a match made of it
-pub int-step : {X : Type 0} (of : X → Int) (k : ℕ) (f : ℤ → Said State) {r r′ : X} {i : Int} → of r ≡ i → r ≡ r′ → andThen (intAt int-value k (of r′)) f ≡ andThen (intAt int-value k i) f
-int-step of k f e q = ap (λ i. andThen (intAt int-value k i) f) (ap of (sym q) ∙ e)
-
 -- a key that is not the largest has one after it
 pub next-fits : (z : ℤ) → SFits w32 z → leZ (pos 2147483647) z ≡ false → SFits w32 (z +ℤ pos 1)
 next-fits (pos n) h e = let m = leb-false 2147483647 n e in record { sfits = omega (arith, h .sfits) }
@@ -155,10 +151,6 @@ other-byte (b ∷ c ∷ t) n x y = refl
 pub degree-is : (t : List ℕ) → isCross t ≡ false → {r r′ : I16} → i16Of r ≡ readInt true (2 ^ 15) t → r ≡ r′ → degreeIn (i16Of r′) ≡ entryIn t
 unfolding entryIn
 degree-is t n e q = rw (n, ← e, q)
-
--- the token of a line lies in the text
-pub token-within : (text : List ℕ) {x : LineSays} {a e t : ℕ} → InText text x → x ≡ Content a e t → (a ≤ t) × (t ≤ length text)
-token-within text h q = let w = rw q at h in (w .0, omega (arith, w .1, w .2))
 
 -- what a line gives the table, as a match told it
 module _ (n : ℕ) (text : List ℕ) {x : LineSays} where

@@ -13,7 +13,8 @@ use lib.Ieee.Bits.{is-true}
 use lib.Ieee.Fits.{add-fits, rem-fits, nan-fits, round-fits}
 use Rattle.base.specs.Said.{Said, gives, pick, andThen}
 use Rattle.base.proofs.Said.{same-value}
-use Rattle.floats.specs.Floats.{abs, zeroF, oneF, remEuclid, divEuclid, count}
+use Rattle.floats.specs.Floats.{abs, zeroF, oneF, count}
+use Rattle.remainder.specs.Euclid.{remEuclid, divEuclid}
 use Rattle.floats.specs.Ranges.{inReach, negligible}
 use Rattle.floats.proofs.Compare.{le-pos}
 use Rattle.floats.proofs.Ranges.{Within, reach-says}
@@ -22,7 +23,8 @@ use Rattle.explog.proofs.Theorems.{log-far, log-zero, log-one}
 use Rattle.pitch.specs.Ratios.{fromOctaves}
 use Rattle.reduction.specs.Reduce.{reducedTo, isCount, reducedOctaves, reducedBy}
 use Rattle.reduction.specs.declared.Reduced.{Reduced}
-use Rattle.floats.proofs.Sized.{Sized, sized, Apart, apart, rem-euclid-sized, div-euclid-sized, sized-count}
+use Rattle.floats.proofs.Sized.{Sized, sized, sized-count}
+use Rattle.remainder.proofs.Bounds.{Apart, apart, rem-euclid-sized, div-euclid-sized}
 use Rattle.explog.proofs.Reach.{log-sized, sized-powers}
 use Rattle.floats.proofs.Between.{within-more, within-reach}
 use Rattle.scl.proofs.Items.{octaves-ratio}

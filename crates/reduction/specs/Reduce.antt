@@ -5,7 +5,8 @@ use mathlib.Core.Bool.{Bool, true, _&&_}
 use lib.IntN.{ℤ, pos}
 use lib.Ieee.{Float, le, lt}
 use Rattle.base.specs.Said.{Said, gives, pick, andThen}
-use Rattle.floats.specs.Floats.{remEuclid, divEuclid, leastI32, pastI32, count}
+use Rattle.floats.specs.Floats.{leastI32, pastI32, count}
+use Rattle.remainder.specs.Euclid.{remEuclid, divEuclid}
 use Rattle.floats.specs.Ranges.{inReach, negligible}
 use Rattle.explog.specs.Rules.{L}
 use Rattle.pitch.specs.Ratios.{fromOctaves}

@@ -118,7 +118,7 @@ pub fn reduce(period: Period, ratio: f64) -> Reduced
         return Reduced { ratio, wraps: 0 };
     }
     let octaves = octaves_of(ratio);
-    let rest = ratio_of_octaves(floats::rem_euclid(octaves, size));
-    let wraps = wraps_of(floats::div_euclid(octaves, size));
+    let rest = ratio_of_octaves(remainder::rem_euclid(octaves, size));
+    let wraps = wraps_of(remainder::div_euclid(octaves, size));
     Reduced { ratio: rest, wraps }
 }

@@ -1,5 +1,5 @@
 -- A lent table of items: what stands at a place, how the code goes over it, and what the test means. Assumes nothing.
-use mathlib.Core.Path.{_≡_, refl, sym, _∙_, ap, subst}
+use mathlib.Core.Path.{_≡_, refl, sym, _∙_, ap}
 use mathlib.Core.Logic.{_↔_}
 use mathlib.Core.Bool.{Bool, true, false, _&&_, _||_, and-assoc, and-true, true≢false}
 use mathlib.Core.List.{List, [], _∷_}
@@ -11,11 +11,10 @@ use lib.Dec.{eqb, ltb}
 use lib.ListN.{length, getD, take, drop, drop-of-length-le}
 use lib.Seq.{drop-cons, getD-take, length-take-le}
 use lib.Ieee.{Float, nan, binary64, div, le, lt, eq, neg, ofBits, ofFields, odd, climb, span, size}
-use borrow.Author.Tests.{eq-eqb, ne-eqb, eqb-true, lt-ltb, le-ltb, ltb-true}
-use Rattle.base.specs.Said.{pick}
+use borrow.Author.Tests.{eq-eqb, ne-eqb, lt-ltb, le-ltb, ltb-true}
 use Rattle.floats.specs.Floats.{zeroF}
 use Rattle.scl.specs.Items.{isUsableCents, isUsable}
-use Rattle.scl.specs.Table.{ItemTable, itemTable, noItem, itemOf, itemsOf, itemsIn, areUsable, haveItems, isItems, Items}
+use Rattle.scl.specs.Table.{ItemTable, noItem, itemOf, itemsOf, itemsIn, areUsable, haveItems, isItems, Items}
 use Rattle.scl.specs.declared.Denom.the-variants.{Given, Lacking}
 use Rattle.scl.specs.declared.Item.{Item}
 use Rattle.scl.specs.declared.Item.the-variants.{Cents, Fraction}

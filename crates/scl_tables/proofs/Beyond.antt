@@ -10,28 +10,29 @@ use native.Mathlib.Omega.{arith}
 use lib.Dec.{leb, lit≤}
 use lib.ListN.{length, getD, set, length-set}
 use borrow.Author.Tests.{leb-true, le-leb, lt-leb}
-use lib.IntN.{ℤ, pos}
-use lib.Ieee.{Float, binary64, fits, eq, le, div}
-use lib.Ieee.Bits.{is-true}
+use lib.IntN.{pos}
+use lib.Ieee.{Float, binary64, fits, eq, le, div, ofInt}
 use Rattle.base.specs.Numbers.{beyond-reach}
 use Rattle.base.specs.Said.{Said, gives, refuses, pick, andThen}
 use Rattle.base.proofs.Said.{same-value}
 use Rattle.floats.specs.Floats.{zeroF, oneF}
 use Rattle.floats.specs.Ranges.{inReach}
 use Rattle.floats.proofs.Ranges.{Within}
-use Rattle.explog.specs.Rules.{L, logOf}
-use Rattle.pitch.specs.Ratios.{inverse}
+use Rattle.explog.specs.Rules.{E, L, logOf}
+use Rattle.pitch.specs.Given.{computed}
+use Rattle.pitch.specs.Ratios.{inverse, centsF}
 use Rattle.sorting.specs.Entries.{Entry}
 use Rattle.sorted.specs.Lent.{usable}
 use Rattle.sorted.specs.Repeats.{arranged}
 use Rattle.sorting.proofs.Work.{All}
 use Rattle.sorted.proofs.Facts.{arranged-length, arranged-all}
 use Rattle.sorted.proofs.Usable.{InReach, arranged-usable}
-use Rattle.scl.specs.Items.{isUsable, ratioOf, Held, AllHeld}
+use Rattle.scl.specs.Items.{isUsable, denomOf, ratioOf, Held, AllHeld}
 use Rattle.scl.specs.Table.{areUsable, noItem}
 use Rattle.reduction.specs.Reduce.{reducedBy}
 use Rattle.scl_tables.specs.Build.{entry, entryOf, entriesFrom, overridden, lastOf, countOf, sortedOf, scaleOf, isNone, isBeyond}
 use Rattle.scl.specs.declared.Item.{Item}
+use Rattle.scl.specs.declared.Item.the-variants.{Cents, Fraction}
 use Rattle.reduction.specs.declared.Reduced.{Reduced}
 use Rattle.reduction.proofs.Answered.{never}
 use Rattle.scl.proofs.Items.{Ratio, item-ratio, ratio-reach}
@@ -198,13 +199,6 @@ module _ (items : List Item) (some : 0 < length items) (h : AllHeld items) (u : 
       go true false x y = refl
       go false b x y = refl
 
-  -- so one look at the last item decides
-  pub scale-looks : scaleOf items ≡ pick (isBeyond (countOf items) (lastOf items)) (refuses beyond-reach 0) (sortedOf items)
-  unfolding isBeyond
-  scale-looks =
-      let none : isNone (andThen (ratioOf (lastOf items)) L) ≡ eq (logOf period) zeroF = ap (λ s. isNone (andThen s L)) (period-ratio .is) ∙ ap isNone (log-gives period reach) in
-      scale-opened ∙ ap (λ (b : Bool). pick (leb 2 (countOf items) && b) (refuses beyond-reach 0) (sortedOf items)) (sym none)
-
 -- ---- the look itself
 module _ (count : ℕ) (last : Item) where
   pub beyond-look : {ratio octaves : Float} → 2 ≤ count → gives ratio ≡ ratioOf last → L ratio ≡ gives octaves → eq octaves zeroF ≡ isBeyond count last
@@ -214,3 +208,38 @@ module _ (count : ℕ) (last : Item) where
   pub too-few : count < 2 → false ≡ isBeyond count last
   unfolding isBeyond
   too-few h = rw (lt-leb 2 count h)
+
+-- what is computed and given lies in the range of all ratios
+computed-reach : (x : Float) {r : Float} → computed x ≡ gives r → inReach r ≡ true
+computed-reach x {r} e = go (inReach x) refl e
+  where
+    go : (b : Bool) → inReach x ≡ b → pick b (gives x) (refuses beyond-reach 0) ≡ gives r → inReach r ≡ true
+    go true h e = rw (← same-value x r e) h
+    go false h e = never e refl
+
+then-reach : (s : Said Float) {r : Float} → andThen s computed ≡ gives r → inReach r ≡ true
+then-reach (gives x) e = computed-reach x e
+then-reach (refuses n d) e = never e refl
+
+ratio-said : (i : Item) {r : Float} → ratioOf i ≡ gives r → inReach r ≡ true
+ratio-said (Cents c) e = then-reach (E (div binary64 c centsF)) e
+ratio-said (Fraction n d) e = computed-reach (div binary64 (ofInt binary64 (pos n)) (ofInt binary64 (pos (denomOf d)))) e
+
+sorted-refused : (items : List Item) {n d : ℕ} → ratioOf (lastOf items) ≡ refuses n d → sortedOf items ≡ refuses n d
+unfolding sortedOf
+sorted-refused items e = ap (λ s. andThen s (λ r. andThen (entriesFrom r 0 items) (λ xs. andThen (overridden r xs) (λ ys. gives (arranged ys))))) e
+
+after-none : (b : Bool) (x y : Said (List Entry)) → y ≡ pick (b && false) x y
+after-none true x y = refl
+after-none false x y = refl
+
+-- one look at the last item decides
+pub scale-looks : (items : List Item) → scaleOf items ≡ pick (isBeyond (countOf items) (lastOf items)) (refuses beyond-reach 0) (sortedOf items)
+unfolding scaleOf isBeyond
+scale-looks items = go (ratioOf (lastOf items)) refl
+  where
+    go : (s : Said Float) → ratioOf (lastOf items) ≡ s
+        → andThen s (λ period. andThen (L period) (λ size. pick (leb 2 (countOf items) && eq size zeroF) (refuses beyond-reach 0) (sortedOf items)))
+        ≡ pick (leb 2 (countOf items) && isNone (andThen s L)) (refuses beyond-reach 0) (sortedOf items)
+    go (gives r) e = rw (log-gives r (ratio-said (lastOf items) e))
+    go (refuses n d) e = sym (sorted-refused items e) ∙ after-none (leb 2 (countOf items)) (refuses beyond-reach 0) (sortedOf items)

@@ -1,13 +1,13 @@
 -- The override of the period's entry in the columns, and the whole build. Assumes nothing.
-use mathlib.Core.Path.{_≡_, refl, sym, _∙_, ap, subst}
+use mathlib.Core.Path.{_≡_, sym, _∙_, ap}
 use mathlib.Core.Bool.{Bool, true, false}
 use mathlib.Core.Logic.{inl, inr}
 use mathlib.Core.List.{List}
-use Prim.Native.Nat.{ℕ, _+_, _-_, _≤_, _<_}
+use Prim.Native.Nat.{ℕ, _-_, _≤_, _<_}
 use native.Mathlib.Omega.{arith}
 use lib.Dec.{lit≤}
 use lib.IntN.{ℤ, pos}
-use lib.ListN.{length, getD, set, length-set}
+use lib.ListN.{length, set, length-set}
 use lib.Seq.{set-getD, getD-set-same, getD-set-other}
 use lib.Ieee.{Float, nan, le, div, binary64}
 use Rattle.base.specs.Said.{Said, gives, pick, andThen}
@@ -65,13 +65,6 @@ module _ (period : Float) (p : inReach period ≡ true) (rs : List Float) (ws : 
           ≡ gives (zip (from 0 n) (pick b (set rs (length rs - 1) period) (set rs 0 (div binary64 oneF period))) (pick b (set ws (length rs - 1) (pos 0)) (set ws 0 (pos 1))))
       go true = ap (λ (k : ℕ). gives (set (zip (from 0 n) rs ws) (k - 1) (entry (k - 1) period (pos 0)))) size ∙ ap gives (changed (n - 1) period (pos 0) (omega arith))
       go false = rw (turned period p) (ap gives (changed 0 (div binary64 oneF period) (pos 1) some))
-
-  length-after : length (ratiosAfter period rs) ≡ n
-  length-after = go (le oneF period)
-    where
-      go : (b : Bool) → length (pick b (set rs (length rs - 1) period) (set rs 0 (div binary64 oneF period))) ≡ n
-      go true = length-set rs (n - 1) period
-      go false = length-set rs 0 (div binary64 oneF period)
 
   kept : (i : ℕ) (r : Float) → i < n → inReach r ≡ true → AllInReach rs → AllInReach (set rs i r)
   kept i r h q a j l = elim (same? j i) [

@@ -1,6 +1,6 @@
 -- The sorted list of a scale: "Reduction, override of the period's entry, stable order, the repeat rule [..] are as in mod.rs"
 -- (document 01, "Scales and searches"): the Rust's `build_with_description`, step by step, over plain lists. Assumes nothing.
-use mathlib.Core.Bool.{Bool, false, _&&_}
+use mathlib.Core.Bool.{Bool, true, false, _&&_}
 use mathlib.Core.List.{List, [], _∷_}
 use Prim.Native.Nat.{ℕ, suc, _-_}
 use lib.Dec.{leb}
@@ -9,7 +9,7 @@ use lib.ListN.{length, getD, set}
 use lib.Ieee.{Float, le, eq}
 use Rattle.base.specs.Numbers.{too-large, beyond-reach}
 use Rattle.base.specs.Said.{Said, gives, refuses, pick, andThen}
-use Rattle.base.specs.Tables.{after}
+use Rattle.base.specs.Tables.{over}
 use Rattle.floats.specs.Floats.{zeroF, oneF}
 use Rattle.explog.specs.Rules.{L}
 use Rattle.pitch.specs.Ratios.{inverse}
@@ -77,6 +77,12 @@ isNone (refuses number detail) = false
 unfoldable pub isBeyond : ℕ → Item → Bool
 isBeyond count last = leb 2 count && isNone (andThen (ratioOf last) L)
 
+-- a value is said, no refusal
+abbrev pub isGiven : {A : Type 0} → Said A → Bool
+isGiven (gives a) = true
+isGiven (refuses number detail) = false
+
 -- the list's columns after a build: the entries that are said, and after them what was there; a refusal leaves them as they were
 abbrev pub afterList : Said (List Entry) → ListTable → ListTable
-afterList s t = record { places = after s placesOf (t .places); ratios = after s ratiosOf (t .ratios); wraps = after s wrapsOf (t .wraps) }
+afterList (gives es) t = record { places = over (t .places) (placesOf es); ratios = over (t .ratios) (ratiosOf es); wraps = over (t .wraps) (wrapsOf es) }
+afterList (refuses number detail) t = t

@@ -1,3 +1,3 @@
+pub mod Room
 pub mod Build
 pub mod Writing
-pub mod Room

@@ -20,9 +20,36 @@ ghost use Rattle.sorted.specs.Lent.{AllInReach, from, listTable};
 ghost use Rattle.scl.specs.Items.{isUsable, ratioOf};
 ghost use Rattle.scl.specs.Table.{itemOf, itemsOf, itemsIn, itemTable, areUsable, isItems, writtenAt};
 ghost use Rattle.reduction.specs.Reduce.{IsPeriod};
-ghost use Rattle.scl_tables.specs.Build.{entry, entryOf, entriesFrom, lastOf, sortedOf, isBeyond, afterList};
-ghost use Rattle.scl_tables.specs.Room.{shortest};
+ghost use Rattle.scl_tables.specs.Build.{entry, entryOf, entriesFrom, lastOf, sortedOf, isBeyond, isGiven, afterList};
+ghost use Rattle.scl_tables.specs.Room.{roomOf};
 ghost use Rattle.scl_tables.specs.Writing.{storedOf};
+
+// The lesser of two numbers.
+fn lesser(a: usize, b: usize) -> usize
+    ensures { λ r. ⌜ r ≡ min a b ⌝ }
+{
+    if a < b { a } else { b }
+}
+
+// The room of a scale's tables: the length of the shortest column.
+pub fn room_of(
+    kind: &[u8],
+    cents: &[f64],
+    numer: &[u32],
+    denom: &[u32],
+    place: &[u32],
+    ratio: &[f64],
+    wraps: &[i32],
+) -> usize
+    ensures { λ r. ⌜ r ≡ roomOf (itemTable (now (kind .entry)) (now (cents .entry)) (now (numer .entry)) (now (denom .entry))) (listTable (now (place .entry)) (now (ratio .entry)) (now (wraps .entry))) ⌝ }
+{
+    let items = lesser(
+        lesser(kind.len(), cents.len()),
+        lesser(numer.len(), denom.len()),
+    );
+    let list = lesser(lesser(place.len(), ratio.len()), wraps.len());
+    lesser(items, list)
+}
 
 // What stands in the four columns for an item.
 pub struct Stored {
@@ -187,7 +214,7 @@ fn build_whole(
     sorted::arrange(place, ratio, wraps);
 }
 
-// The sorted list of `count` usable items and place 0, in columns that may be longer: what they hold after it stays.
+// The sorted list of `count` usable items and place 0, in columns that may be longer: what they hold after it stays. 18 never arises.
 pub fn build_list(
     kind: &[u8],
     cents: &[f64],
@@ -200,9 +227,10 @@ pub fn build_list(
 )
     requires { ⌜ (isItems count (itemTable (now kind) (now cents) (now numer) (now denom)) ≡ true) × (count ≤ 65535)
         × (count < length (now place)) × (count < length (now ratio)) × (count < length (now wraps)) ⌝ }
-    ensures { λ _. ⌜ listTable (now (place .exit)) (now (ratio .exit)) (now (wraps .exit))
+    ensures { λ _. ⌜ (isGiven (sortedOf (itemsIn count (itemTable (now (kind .entry)) (now (cents .entry)) (now (numer .entry)) (now (denom .entry))))) ≡ true)
+        × (listTable (now (place .exit)) (now (ratio .exit)) (now (wraps .exit))
         ≡ afterList (sortedOf (itemsIn count (itemTable (now (kind .entry)) (now (cents .entry)) (now (numer .entry)) (now (denom .entry)))))
-        (listTable (now (place .entry)) (now (ratio .entry)) (now (wraps .entry))) ⌝ }
+        (listTable (now (place .entry)) (now (ratio .entry)) (now (wraps .entry)))) ⌝ }
 {
     let n = count + 1;
     build_whole(
@@ -227,27 +255,4 @@ pub fn is_beyond(last: Item, count: usize) -> bool
         return octaves == 0.0;
     }
     false
-}
-
-// The lesser of two numbers.
-fn lesser(a: usize, b: usize) -> usize
-    ensures { λ r. ⌜ r ≡ min a b ⌝ }
-{
-    if a < b { a } else { b }
-}
-
-// The room for a scale: the shortest of columns of these lengths.
-pub fn room_of(
-    kinds: usize,
-    cents: usize,
-    numers: usize,
-    denoms: usize,
-    places: usize,
-    ratios: usize,
-    wraps: usize,
-) -> usize
-    ensures { λ r. ⌜ r ≡ shortest kinds cents numers denoms places ratios wraps ⌝ }
-{
-    let items = lesser(lesser(kinds, cents), lesser(numers, denoms));
-    lesser(items, lesser(lesser(places, ratios), wraps))
 }

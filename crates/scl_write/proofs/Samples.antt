@@ -7,7 +7,7 @@ use lib.Ieee.{round, binary64, ofBits, le, lt, eq, neg}
 use Rattle.base.specs.Said.{gives, refuses}
 use Rattle.floats.specs.Floats.{zeroF}
 use Rattle.floats.specs.Units.{negative}
-use Rattle.text.specs.Utf8Machine.{leadOf, utf8Step, utf8From}
+use Rattle.utf8.specs.Utf8Machine.{leadOf, utf8Step, utf8From}
 use Rattle.writing.specs.Fitted.{fitted}
 use Rattle.writing.specs.Lines.{linesText}
 use Rattle.scl.specs.Table.{ItemTable, itemTable, itemsOf, areUsable}

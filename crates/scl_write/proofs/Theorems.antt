@@ -11,8 +11,8 @@ use Rattle.base.specs.Numbers.{unusable, no-room}
 use Rattle.base.specs.Said.{gives, refuses, pick, Numbered}
 use Rattle.base.specs.Tables.{after}
 use Rattle.base.proofs.Said.{One, one-result, no-value, numbered-pick}
-use Rattle.text.specs.Utf8Machine.{utf8From, fresh}
-use Rattle.text.proofs.Utf8Language.{accepts}
+use Rattle.utf8.specs.Utf8Machine.{utf8From, fresh}
+use Rattle.utf8.proofs.Utf8Language.{accepts}
 use Rattle.writing.specs.Answers.{saysSize}
 use Rattle.writing.specs.Fitted.{fitted, textLength}
 use Rattle.writing.proofs.Room.{fitted-full, fitted-gives, fitted-given, fitted-refuses, fitted-numbered}

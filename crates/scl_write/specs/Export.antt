@@ -10,8 +10,8 @@ use lib.Ieee.{nan}
 use Rattle.base.specs.Numbers.{unusable}
 use Rattle.base.specs.Said.{Said, refuses, pick}
 use Rattle.printing.specs.PrintText.{textOf, wholeText}
-use Rattle.text.specs.Characters.{Utf8}
-use Rattle.text.specs.Utf8Machine.{utf8From, fresh}
+use Rattle.utf8.specs.Characters.{Utf8}
+use Rattle.utf8.specs.Utf8Machine.{utf8From, fresh}
 use Rattle.writing.specs.Fitted.{fitted}
 use Rattle.writing.specs.Lines.{linesText, numberText}
 use Rattle.scl.specs.Table.{ItemTable, Items, itemOf, itemsIn, isItems}

@@ -2,7 +2,7 @@
 use scl::Denom;
 use scl::Item;
 use scl::Scl;
-use text::utf8::is_utf8;
+use utf8::is_utf8;
 use writing::SizeAnswer;
 use writing::line_length;
 use writing::write_decimal;

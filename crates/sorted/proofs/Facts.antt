@@ -1,60 +1,16 @@
--- What `first_not_below` asks holds of the ratios that `arrange` and `sort_entries` leave. Assumes nothing.
-use mathlib.Core.Path.{_≡_, refl, sym, _∙_, ap, subst}
-use mathlib.Core.Logic.{_⊎_, inl, inr}
-use mathlib.Core.Bool.{Bool, true, false}
-use Prim.Native.Nat.{ℕ, zero, suc, _+_, _≤_, _<_, suc-le-suc}
-use native.Mathlib.Nat.{le-of-suc-le-suc, not-suc-le-zero}
-use native.Mathlib.Omega.{arith}
+-- What order and the repeat rule leave: ratios that never fall, as many entries, each of them one that was there. Assumes nothing.
+use mathlib.Core.Path.{_≡_, refl, _∙_, ap}
+use mathlib.Core.Logic.{inl, inr}
+use Prim.Native.Nat.{suc}
 use mathlib.Core.List.{List, [], _∷_, map}
-use lib.Dec.{T}
-use lib.IntN.{ℤ}
-use lib.ListN.{length, getD}
-use lib.Ieee.{Float, nan, lt}
-use lib.Ieee.Positive.{positive}
-use Rattle.base.specs.Said.{pick}
-use Rattle.sorting.specs.Entries.{Entry, zip}
+use lib.ListN.{length}
+use Rattle.sorting.specs.Entries.{Entry}
 use Rattle.sorting.specs.Order.{lower, insertBy, sortBy}
 use Rattle.sorted.specs.Repeats.{near, keepFrom, keep}
-use Rattle.sorting.specs.Asked.{AllPositive}
-use Rattle.sorted.specs.Lent.{NeverFalls}
+use Rattle.sorting.specs.Stable.{NeverFalls}
 use Rattle.base.proofs.Integers.{bool-cases}
-use Rattle.sorting.proofs.Order.{clash, float-lel, float-asym}
+use Rattle.sorting.proofs.Stable.{Good, Over, Rises, over-self, sort-rises, never-falls}
 use Rattle.sorting.proofs.Work.{All, all-insert}
-
-abbrev pub Good : Entry → Type 0
-Good e = T (positive (e .ratio))
-
--- y is no lower than x
-abbrev Over : Entry → Entry → Type 0
-Over x y = Good y × (lower y x ≡ false)
-
-abbrev pub Rises : List Entry → Type 0
-Rises [] = Unit {0}
-Rises (x ∷ s) = Good x × All (Over x) s × Rises s
-
-over-trans : (x y z : Entry) → Good x → Over x y → Over y z → Over x z
-over-trans x y z g h k = elim (bool-cases (lower z x)) [
-  | inl e ↦ clash (float-lel (z .ratio) (y .ratio) (x .ratio) (k .0) (h .0) g (k .1) e) (h .1)
-  | inr e ↦ (k .0, e)
-]
-
-over-self : (x : Entry) → Good x → Over x x
-over-self x g = elim (bool-cases (lower x x)) [ inl e ↦ clash e (float-asym (x .ratio) (x .ratio) g g e) | inr e ↦ (g, e) ]
-
-all-over : (x y : Entry) (s : List Entry) → Good x → Over x y → All (Over y) s → All (Over x) s
-all-over x y [] g h a = a
-all-over x y (z ∷ s) g h a = (over-trans x y z g h (a .0), all-over x y s g h (a .1))
-
-insert-rises : (x : Entry) (s : List Entry) → Good x → Rises s → Rises (insertBy lower x s)
-insert-rises x [] g a = (g, tt, tt)
-insert-rises x (y ∷ s) g a = elim (bool-cases (lower y x)) [
-  | inl e ↦ simp e (a .0, all-insert (Over y) lower x s (g, float-asym (x .ratio) (y .ratio) g (a .0) e) (a .1), insert-rises x s g (a .2))
-  | inr e ↦ simp e (g, ((a .0, refl), all-over x y s g (a .0, e) (a .1)), a)
-]
-
-pub sort-rises : (s : List Entry) → All Good s → Rises (sortBy lower s)
-sort-rises [] a = tt
-sort-rises (x ∷ s) a = insert-rises x (sortBy lower s) (a .0) (sort-rises s (a .1))
 
 pub all-keep : (q : Entry → Type 0) (p : Entry) (s : List Entry) → q p → All q s → All q (keepFrom p s)
 all-keep q p [] h a = a
@@ -73,39 +29,6 @@ keep-from-rises p (x ∷ s) g h a = elim (bool-cases (near (x .ratio) (p .ratio)
 pub keep-rises : (s : List Entry) → Rises s → Rises (keep s)
 keep-rises [] a = a
 keep-rises (x ∷ s) a = keep-from-rises x (x ∷ s) (a .0) (over-self x (a .0), a .1) a
-
-pub all-good : (ps : List ℕ) (rs : List Float) (ws : List ℤ) → AllPositive rs → All Good (zip ps rs ws)
-all-good [] rs ws a = tt
-all-good (p ∷ ps) [] ws a = tt
-all-good (p ∷ ps) (r ∷ rs) [] a = tt
-all-good (p ∷ ps) (r ∷ rs) (w ∷ ws) a = (a 0 (omega arith), all-good ps rs ws (λ i h. a (suc i) (suc-le-suc h)))
-
--- ---- of entries that rise, the column of ratios is what a search asks for
-over-at : (x : Entry) (s : List Entry) (i : ℕ) → i < length (map (λ (e : Entry). e .ratio) s) → All (Over x) s → lt (getD (map (λ (e : Entry). e .ratio) s) i nan) (x .ratio) ≡ false
-over-at x [] i h a = absurd (not-suc-le-zero h)
-over-at x (y ∷ s) zero h a = a .0 .1
-over-at x (y ∷ s) (suc i) h a = over-at x s i (le-of-suc-le-suc h) (a .1)
-
-pub never-falls : (s : List Entry) → Rises s → NeverFalls (map (λ (e : Entry). e .ratio) s)
-never-falls [] a i j h k = absurd (not-suc-le-zero k)
-never-falls (x ∷ s) a i zero h k = absurd (not-suc-le-zero h)
-never-falls (x ∷ s) a zero (suc j) h k = over-at x s j (le-of-suc-le-suc k) (a .1)
-never-falls (x ∷ s) a (suc i) (suc j) h k = never-falls s (a .2) i j (le-of-suc-le-suc h) (le-of-suc-le-suc k)
-
-pub all-positive : (s : List Entry) → Rises s → AllPositive (map (λ (e : Entry). e .ratio) s)
-all-positive [] a i h = absurd (not-suc-le-zero h)
-all-positive (x ∷ s) a zero h = a .0
-all-positive (x ∷ s) a (suc i) h = all-positive s (a .2) i (le-of-suc-le-suc h)
-
--- so of what `arrange` leaves
-pub arranged-rises : (ps : List ℕ) (rs : List Float) (ws : List ℤ) → AllPositive rs → Rises (keep (sortBy lower (zip ps rs ws)))
-arranged-rises ps rs ws a = keep-rises (sortBy lower (zip ps rs ws)) (sort-rises (zip ps rs ws) (all-good ps rs ws a))
-
-pub searchable : (ps : List ℕ) (rs : List Float) (ws : List ℤ) {rs′ : List Float} → AllPositive rs → rs′ ≡ map (λ (e : Entry). e .ratio) (keep (sortBy lower (zip ps rs ws))) → AllPositive rs′ × NeverFalls rs′
-searchable ps rs ws a e =
-    let s = keep (sortBy lower (zip ps rs ws)) in
-    let up = arranged-rises ps rs ws a in
-    (subst AllPositive (sym e) (all-positive s up), subst NeverFalls (sym e) (never-falls s up))
 
 -- ---- what sorting and the repeat rule leave
 length-insert : (x : Entry) (s : List Entry) → length (insertBy lower x s) ≡ suc (length s)

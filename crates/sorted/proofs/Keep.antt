@@ -1,19 +1,17 @@
 -- The pass that keeps the first of repeats. Assumes nothing.
 use mathlib.Core.Path.{_≡_, refl, sym, _∙_, ap, subst}
-use mathlib.Core.Logic.{_⊎_, inl, inr}
+use mathlib.Core.Logic.{inl, inr}
 use mathlib.Core.Bool.{Bool, true, false}
-use Prim.Native.Nat.{ℕ, zero, suc, _+_, _≤_, _<_}
+use Prim.Native.Nat.{ℕ, suc, _+_, _≤_, _<_}
 use native.Mathlib.Numerals.{add-one}
 use native.Mathlib.Omega.{arith}
-use mathlib.Core.List.{List, [], _∷_, _++_, map, append-nil}
+use mathlib.Core.List.{List, [], _∷_, _++_, append-nil}
 use lib.IntN.{ℤ, pos}
 use lib.ListN.{length, take, drop, getD, set, length-set, drop-of-length-le}
 use lib.Seq.{take-suc, take-suc-set, drop-cons, append-snoc, take-all, drop-set-lt, set-getD, getD-set-other}
 use lib.Ieee.{Float, nan}
-use Rattle.base.specs.Said.{pick}
 use Rattle.sorting.specs.Entries.{Entry, zip, Columns}
 use Rattle.sorted.specs.Repeats.{near, keepFrom, keep}
-use Rattle.base.proofs.Integers.{bool-cases}
 use Rattle.sorting.proofs.Theory.{same?}
 use Rattle.sorting.proofs.Columns.{none, columns-zip, length-zip, zip-at, zip-set}
 

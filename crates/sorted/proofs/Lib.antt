@@ -6,3 +6,4 @@ pub mod Passes
 pub mod Usable
 pub mod Lists
 pub mod Samples
+pub mod Theorems

@@ -1,15 +1,14 @@
 -- The definitions at work: 3/2, 1, 3/2 and 5/4 sorted, and their repeats. Assumes nothing.
 use mathlib.Core.Path.{_≡_, refl}
-use mathlib.Core.Bool.{Bool, true, false}
+use mathlib.Core.Bool.{false}
 use mathlib.Core.List.{List, [], _∷_, map}
-use Prim.Native.Nat.{ℕ}
-use lib.IntN.{ℤ, pos, negsuc}
+use lib.IntN.{pos, negsuc}
 use lib.Count.{trailingZeros}
-use lib.Ieee.{Float, fin, lt, le, eq, div, round, units, binary64, ofBits, ofFields, odd, climb, span, size}
+use lib.Ieee.{fin, lt, le, eq, div, round, units, ofBits, ofFields, odd, climb, span, size}
 use Rattle.sorting.specs.Entries.{Entry, zip}
 use Rattle.sorting.specs.Order.{lower, sortBy}
 use Rattle.sorted.specs.Lent.{from}
-use Rattle.sorted.specs.Repeats.{keep, near}
+use Rattle.sorted.specs.Repeats.{keep}
 
 sample : List Entry
 sample = zip (from 0 4) (fin false 3 (negsuc 0) ∷ fin false 1 (pos 0) ∷ fin false 3 (negsuc 0) ∷ fin false 5 (negsuc 1) ∷ []) (pos 7 ∷ pos 8 ∷ pos 9 ∷ pos 10 ∷ [])

@@ -1,7 +1,7 @@
 -- The search by halving: its invariant, and that what it ends with is the first place that is not below. Assumes nothing.
 use mathlib.Core.Path.{_≡_, refl, sym, _∙_, ap}
-use mathlib.Core.Logic.{_⊎_, inl, inr}
-use mathlib.Core.Bool.{Bool, true, false, true≢false}
+use mathlib.Core.Logic.{inl, inr}
+use mathlib.Core.Bool.{true, false, true≢false}
 use Prim.Native.Nat.{ℕ, zero, suc, _+_, _≤_, _<_}
 use native.Mathlib.Nat.{eq-or-lt-of-le}
 use native.Mathlib.Omega.{arith}
@@ -11,7 +11,8 @@ use lib.ListN.{length, getD}
 use lib.Ieee.{Float, nan, lt}
 use lib.Ieee.Positive.{positive}
 use Rattle.sorting.specs.Asked.{AllPositive}
-use Rattle.sorted.specs.Lent.{NeverFalls, firstNotBelow}
+use Rattle.sorting.specs.Stable.{NeverFalls}
+use Rattle.sorted.specs.Lent.{firstNotBelow}
 use Rattle.base.proofs.Integers.{bool-cases}
 use Rattle.sorting.proofs.Order.{float-lel}
 

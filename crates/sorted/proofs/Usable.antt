@@ -1,15 +1,15 @@
 -- A lent list that passes the test is what a search asks for. Assumes nothing.
-use mathlib.Core.Path.{_≡_, refl, sym, _∙_, ap, subst}
-use mathlib.Core.Logic.{_⊎_, inl, inr, _↔_}
+use mathlib.Core.Path.{_≡_, refl, sym}
+use mathlib.Core.Logic.{inl, inr, _↔_}
 use mathlib.Core.Bool.{Bool, true, false, not, _&&_, true≢false}
-use Prim.Native.Nat.{ℕ, zero, suc, _+_, _*_, _≤_, _<_, suc-le-suc}
+use Prim.Native.Nat.{ℕ, zero, suc, _*_, _<_, suc-le-suc}
 use native.Mathlib.Nat.{le-of-suc-le-suc, not-suc-le-zero}
 use native.Mathlib.Omega.{arith}
 use mathlib.Core.List.{List, [], _∷_, map}
 use lib.Dec.{T, lt→ltb}
-use lib.IntN.{ℤ, pos}
+use lib.IntN.{pos}
 use lib.ListN.{length, getD}
-use lib.Ieee.{Float, nan, inf, fin, up, down, lt, binary64, ofBits, ofFields, odd, climb, span, size}
+use lib.Ieee.{Float, nan, inf, fin, up, down, lt, ofBits, ofFields, odd, climb, span, size}
 use lib.Ieee.Positive.{positive}
 use borrow.Author.Tests.{le-ltb}
 use Rattle.floats.specs.Floats.{zeroF}
@@ -19,11 +19,13 @@ use Rattle.sorting.specs.Entries.{Entry}
 use Rattle.sorting.specs.Order.{lower, sortBy}
 use Rattle.sorted.specs.Repeats.{keep}
 use Rattle.sorting.specs.Asked.{AllPositive}
-use Rattle.sorted.specs.Lent.{AllInReach, NeverFalls, goesOn, usableAfter, usable}
+use Rattle.sorting.specs.Stable.{NeverFalls}
+use Rattle.sorted.specs.Lent.{AllInReach, goesOn, usableAfter, usable}
 use Rattle.base.proofs.Integers.{bool-cases}
 use Rattle.sorting.proofs.Order.{clash, float-lel, float-asym}
 use Rattle.sorting.proofs.Work.{All}
-use Rattle.sorted.proofs.Facts.{Good, arranged-all, arranged-falls}
+use Rattle.sorting.proofs.Stable.{Good}
+use Rattle.sorted.proofs.Facts.{arranged-all, arranged-falls}
 
 nought : zeroF ≡ fin false 0 (pos 0)
 unfolding ofBits ofFields odd climb span size

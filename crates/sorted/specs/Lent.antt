@@ -1,7 +1,7 @@
 -- A lent list: "list ratios lie in 2^-900..2^900 and never fall, with places within the count" (document 01, "Scales and
 -- searches"); and where a search starts: "the first entry not below the target". Assumes nothing.
 use mathlib.Core.Path.{_≡_}
-use mathlib.Core.Bool.{Bool, true, false, not, _&&_}
+use mathlib.Core.Bool.{Bool, true, not, _&&_}
 use mathlib.Core.List.{List, [], _∷_, map}
 use Prim.Native.Nat.{ℕ, zero, suc, _+_, _≤_, _<_}
 use lib.Dec.{leb, ltb}
@@ -12,6 +12,7 @@ use Rattle.base.specs.Said.{pick}
 use Rattle.floats.specs.Floats.{zeroF}
 use Rattle.floats.specs.Ranges.{inReach}
 use Rattle.sorting.specs.Entries.{Entry, zip}
+use Rattle.sorting.specs.Stable.{NeverFalls}
 
 -- the columns of a list
 abbrev pub placesOf : List Entry → List ℕ
@@ -40,10 +41,6 @@ listIn count t = zip (take (count + 1) (t .places)) (take (count + 1) (t .ratios
 -- each ratio lies in 2^-900..2^900
 abbrev pub AllInReach : List Float → Type 0
 AllInReach rs = (i : ℕ) → i < length rs → inReach (getD rs i nan) ≡ true
-
--- no ratio is below one before it
-abbrev pub NeverFalls : List Float → Type 0
-NeverFalls rs = (i j : ℕ) → i < j → j < length rs → lt (getD rs j nan) (getD rs i nan) ≡ false
 
 -- each place is at most n
 abbrev pub AllAtMost : ℕ → List ℕ → Type 0

@@ -3,8 +3,7 @@
 //
 // An inner crate: what `arrange` and `first_not_below` ask of their columns, their callers have made sure of.
 ghost use mathlib.Core.Path.{_≡_};
-ghost use mathlib.Core.List.{List};
-ghost use Prim.Native.Nat.{ℕ, _≤_, _<_};
+ghost use Prim.Native.Nat.{_≤_, _<_};
 ghost use lib.ListN.{length, getD, set, take};
 ghost use lib.Ieee.{nan};
 ghost use lib.IntN.{pos};
@@ -13,7 +12,8 @@ ghost use lib.Ieee.Positive.{positive};
 ghost use Rattle.sorting.specs.Asked.{AllPositive};
 ghost use Rattle.sorting.specs.Entries.{zip, Columns};
 ghost use Rattle.sorted.specs.Repeats.{near, keep, arranged};
-ghost use Rattle.sorted.specs.Lent.{NeverFalls, goesOn, usable, areWithin, listTable, isList, firstNotBelow, from};
+ghost use Rattle.sorting.specs.Stable.{NeverFalls};
+ghost use Rattle.sorted.specs.Lent.{goesOn, usable, areWithin, listTable, isList, firstNotBelow, from};
 
 // Whether the quotient of two ratios is as good as 1.
 fn is_near(a: f64, c: f64) -> bool

@@ -1,6 +1,6 @@
 -- Three columns and their entries. Assumes nothing.
 use mathlib.Core.Path.{_≡_, refl, sym, _∙_, ap}
-use Prim.Native.Nat.{ℕ, zero, suc, _+_, _≤_, _<_}
+use Prim.Native.Nat.{ℕ, zero, suc, _<_}
 use native.Mathlib.Nat.{le-of-suc-le-suc, not-suc-le-zero}
 use native.Mathlib.Omega.{arith}
 use mathlib.Core.List.{List, [], _∷_, map}
@@ -60,3 +60,7 @@ zip-set (p′ ∷ ps) [] ws i p r w h k = absurd (omega arith)
 zip-set (p′ ∷ ps) (r′ ∷ rs) [] i p r w h k = absurd (omega arith)
 zip-set (p′ ∷ ps) (r′ ∷ rs) (w′ ∷ ws) zero p r w h k = refl
 zip-set (p′ ∷ ps) (r′ ∷ rs) (w′ ∷ ws) (suc i) p r w h k = ap (λ (l : List Entry). record { place = p′; ratio = r′; wraps = w′ } ∷ l) (zip-set ps rs ws i p r w (omega arith) (omega arith))
+
+-- the columns of a list are one: two results of the sort, or of an arrangement, are equal
+pub columns-one : (es : List Entry) {ps ps′ : List ℕ} {rs rs′ : List Float} {ws ws′ : List ℤ} → Columns es ps rs ws → Columns es ps′ rs′ ws′ → (ps ≡ ps′) × (rs ≡ rs′) × (ws ≡ ws′)
+columns-one es c d = (c .places ∙ sym (d .places), c .ratios ∙ sym (d .ratios), c .wraps ∙ sym (d .wraps))

@@ -5,3 +5,4 @@ pub mod Columns
 pub mod Work
 pub mod Turns
 pub mod InOrder
+pub mod Stable

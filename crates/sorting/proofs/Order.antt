@@ -1,15 +1,13 @@
 -- The order of entries by ratio and place is strict and total. Assumes nothing.
-use mathlib.Core.Path.{_≡_, refl, sym, _∙_, ap, subst}
-use mathlib.Core.Logic.{_⊎_, inl, inr}
+use mathlib.Core.Path.{_≡_, refl, sym, _∙_}
+use mathlib.Core.Logic.{inl, inr}
 use mathlib.Core.Bool.{Bool, true, false, true≢false}
 use Prim.Native.Nat.{ℕ, _*_, _≤_, _<_}
 use native.Mathlib.Omega.{arith}
-use mathlib.Core.List.{List}
 use lib.Dec.{T, ltb}
 use borrow.Author.Tests.{ltb-true, ltb-false, lt-ltb, le-ltb}
 use lib.Ieee.{Float, nan, inf, fin, lt}
 use lib.Ieee.Positive.{num, den, den-pos, positive, through}
-use Rattle.base.specs.Said.{pick}
 use Rattle.base.proofs.Integers.{bool-cases}
 use Rattle.sorting.specs.Heap.{comes, less}
 

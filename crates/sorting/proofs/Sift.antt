@@ -1,20 +1,19 @@
 -- A sift over the three columns, whatever the ratio and the wraps of a place are. Assumes nothing.
 use mathlib.Core.Path.{_≡_, refl, sym, _∙_, ap, subst}
-use mathlib.Core.Logic.{_⊎_, inl, inr, _≢_}
-use mathlib.Core.Bool.{Bool, true, false}
-use Prim.Native.Nat.{ℕ, zero, suc, _+_, _-_, _*_, _/_, _≤_, _<_}
-use native.Mathlib.Nat.{eq-or-lt-of-le, le-of-suc-le-suc, not-suc-le-zero}
+use mathlib.Core.Logic.{_≢_}
+use mathlib.Core.Bool.{false}
+use Prim.Native.Nat.{ℕ, zero, suc, _+_, _-_, _*_, _≤_, _<_}
+use native.Mathlib.Nat.{le-of-suc-le-suc, not-suc-le-zero}
 use native.Mathlib.Omega.{arith}
-use mathlib.Core.List.{List, [], _∷_, _++_, map}
+use mathlib.Core.List.{List, [], _∷_, map}
 use lib.Dec.{T}
 use lib.IntN.{ℤ, pos}
-use lib.ListN.{length, take, drop, getD, set, length-set, length-map}
+use lib.ListN.{length, take, drop, getD, set}
 use lib.Seq.{length-take-le}
 use lib.Ieee.{Float, nan}
 use lib.Ieee.Positive.{positive}
-use Rattle.base.specs.Said.{pick}
 use Rattle.sorting.specs.Order.{sortBy}
-use Rattle.sorting.specs.Heap.{comes, less, earlierAt, laterOf, topOf, swapped, Heap, Sifted, Sifts}
+use Rattle.sorting.specs.Heap.{less, earlierAt, laterOf, topOf, swapped, Heap, Sifted, Sifts}
 use Rattle.sorting.proofs.Order.{Strict, strict}
 use Rattle.sorting.proofs.Theory.{at, sort-swap, take-swapped, drop-swapped, length-swapped, later-same, later-below, top-below, top-child, top-self, top-kids, Sifting, sift-starts, sift-turn, sift-ends}
 

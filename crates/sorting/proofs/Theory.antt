@@ -1,21 +1,19 @@
 -- Under a strict total order the insertion sort of a list does not see its order; a heap's root is its last. Assumes nothing.
 use mathlib.Core.Path.{_≡_, refl, sym, _∙_, ap, subst}
 use mathlib.Core.Logic.{_⊎_, inl, inr, _≢_}
-use mathlib.Core.Bool.{Bool, true, false}
+use mathlib.Core.Bool.{Bool, false}
 use Prim.Native.Nat.{ℕ, zero, suc, _+_, _-_, _*_, _/_, _≤_, _<_}
 use native.Mathlib.Nat.{eq-or-lt-of-le, le-of-suc-le-suc, not-suc-le-zero}
-use native.Mathlib.Numerals.{add-one}
 use native.Mathlib.Omega.{arith}
-use mathlib.Core.List.{List, [], _∷_, _++_, map, append-assoc, append-nil}
-use lib.Dec.{T, ltb}
-use lib.ListN.{length, take, drop, getD, set, length-set, drop-of-length-le, length-append, length-drop, take-append-drop}
-use lib.Seq.{take-suc, drop-cons, getD-take, length-take-le, drop-set-lt, take-set-lt, getD-set-same, getD-set-other}
-use borrow.Author.Tests.{lt-ltb, le-ltb}
-use Rattle.base.specs.Said.{pick}
+use mathlib.Core.List.{List, [], _∷_, _++_}
+use lib.Dec.{ltb}
+use lib.ListN.{length, take, drop, getD, set, length-set}
+use lib.Seq.{getD-take, drop-set-lt, take-set-lt, getD-set-same, getD-set-other}
+use borrow.Author.Tests.{lt-ltb}
 use Rattle.sorting.specs.Order.{insertBy, sortBy}
 use Rattle.sorting.specs.Heap.{laterOf, topOf, swapped, Heap}
 use Rattle.base.proofs.Integers.{bool-cases}
-use Rattle.sorting.proofs.Order.{clash, Strict, irrefl, ge-trans}
+use Rattle.sorting.proofs.Order.{Strict, irrefl, ge-trans}
 
 -- two numbers are equal or not
 pub same? : (i j : ℕ) → (i ≡ j) ⊎ (i ≢ j)

@@ -1,16 +1,14 @@
 -- The sort's two loops over the three columns, and its order as the stable one by ratio. Assumes nothing.
 use mathlib.Core.Path.{_≡_, refl, sym, _∙_, ap, subst}
-use mathlib.Core.Logic.{_⊎_, inl, inr, _≢_}
-use mathlib.Core.Bool.{Bool, true, false}
-use Prim.Native.Nat.{ℕ, zero, suc, _+_, _-_, _*_, _/_, _≤_, _<_, suc-le-suc}
-use native.Mathlib.Nat.{eq-or-lt-of-le, le-of-suc-le-suc, not-suc-le-zero}
-use native.Mathlib.Numerals.{add-one}
+use mathlib.Core.Logic.{inl, inr}
+use mathlib.Core.Bool.{Bool, false}
+use Prim.Native.Nat.{ℕ, suc, _+_, _-_, _*_, _≤_, _<_, suc-le-suc}
 use native.Mathlib.Omega.{arith}
 use mathlib.Core.List.{List, [], _∷_, _++_, map, append-nil}
-use lib.Dec.{T, ltb, eqb}
+use lib.Dec.{T, eqb}
 use lib.IntN.{ℤ, pos}
-use lib.ListN.{length, take, drop, getD, set, length-map, take-append-drop, drop-of-length-le}
-use lib.Seq.{take-suc, take-suc-set, drop-cons, append-snoc, getD-take, length-take-le, take-all, ext-getD}
+use lib.ListN.{length, take, drop, getD, length-map, take-append-drop, drop-of-length-le}
+use lib.Seq.{take-suc, drop-cons, append-snoc, getD-take, length-take-le, take-all}
 use lib.Ieee.{Float, nan, fin, lt}
 use lib.Ieee.Positive.{positive}
 use borrow.Author.Tests.{le-ltb, eqb-true, eq-eqb, ne-eqb}
@@ -18,12 +16,12 @@ use Rattle.base.specs.Said.{pick}
 use Rattle.sorting.specs.Entries.{Entry, zip, Columns}
 use Rattle.sorting.specs.Order.{lower, insertBy, sortBy}
 use Rattle.sorting.specs.Asked.{AllPositive, Ascending}
-use Rattle.sorting.specs.Heap.{comes, less, swapped, Heap, Sifted, Sifts}
+use Rattle.sorting.specs.Heap.{comes, less, swapped, Heap, Sifts}
 use Rattle.base.proofs.Integers.{bool-cases}
-use Rattle.sorting.proofs.Order.{Strict, strict}
+use Rattle.sorting.proofs.Order.{strict}
 use Rattle.sorting.proofs.Theory.{same?, sort-swap, sort-last, root, swapped-left, swapped-right, swapped-other, length-swapped, take-swapped, drop-swapped}
 use Rattle.sorting.proofs.Sift.{map-swapped}
-use Rattle.sorting.proofs.Columns.{map-map, map-same, columns-zip, zip-columns}
+use Rattle.sorting.proofs.Columns.{map-map, map-same, columns-zip}
 
 -- the first k entries are still to be sorted, and are a heap from s on
 pub record Work (f : ℕ → Float) (g : ℕ → ℤ) (l₀ : List ℕ) (s k : ℕ) (ps : List ℕ) (rs : List Float) (ws : List ℤ) : Type 0 where

@@ -13,12 +13,12 @@ use Rattle.base.specs.Said.{pick}
 use Rattle.text.specs.Cut.{lines, cut}
 use Rattle.text.specs.Reading.{invalid, comment, content}
 use Rattle.text.specs.ReadLine.{tokenLength, Way, part, partMeaning, partAt, meaningBy, meanings, saidIn, lineBy, lineOf, shown, InText}
-use Rattle.text.specs.Trim.{run, trimBy}
+use Rattle.white.specs.Trim.{run, trimBy}
 use Rattle.text.specs.declared.line.LineSays.{LineSays}
 use Rattle.text.specs.declared.line.LineSays.the-variants.{NotUtf8, Comment, Content}
 use Rattle.text.specs.declared.lines.Ends.{Ends}
 use Rattle.text.proofs.Cuts.{turn}
-use Rattle.text.proofs.Runs.{run-le}
+use Rattle.white.proofs.Runs.{run-le}
 use Rattle.text.proofs.Tokens.{token-le}
 
 -- m stands at k in the text
@@ -116,3 +116,7 @@ line-turn w text at h {l} {r} p q =
 pub said-end : (text : List ℕ) (at : ℕ) → length text ≤ at → saidIn (drop at text) ≡ []
 unfolding lines meanings
 said-end text at h = rw (drop-of-length-le text h)
+
+-- the token of a line lies in the text
+pub token-within : (text : List ℕ) {x : LineSays} {a e t : ℕ} → InText text x → x ≡ Content a e t → (a ≤ t) × (t ≤ length text)
+token-within text h q = let w = rw q at h in (w .0, omega (arith, w .1, w .2))

@@ -13,12 +13,12 @@ use lib.ListN.{length-append}
 use lib.Ieee.{Float}
 use Rattle.base.specs.Said.{pick}
 use Rattle.floats.specs.Units.{negative}
-use Rattle.text.specs.Characters.{Each}
+use Rattle.utf8.specs.Characters.{Each}
 use Rattle.decimals.specs.DecimalText.{DecimalText}
 use Rattle.integers.specs.IntegerText.{Digits, IntText}
 use Rattle.printing.specs.PrintForm.{FixedText}
 use Rattle.printing.specs.PrintText.{limited, scaledOf, digitsOf, widthOf, signText, pointText, partsText, integerText, wholeText, textOf}
-use Rattle.decimals.proofs.Scans.{all-append}
+use Rattle.integers.proofs.Digits.{all-append}
 use Rattle.integers.proofs.Theorems.{one-value}
 use Rattle.printing.proofs.Form.{fixed-text, printed, reads-back}
 use Rattle.printing.proofs.Texts.{length-digits}

@@ -5,7 +5,7 @@ use mathlib.Core.List.{List, [], _∷_, _++_}
 use mathlib.Core.Logic.{_⊎_}
 use Prim.Native.Nat.{ℕ}
 use lib.IntN.{ℤ, pos, negℤ}
-use Rattle.text.specs.Characters.{Each}
+use Rattle.utf8.specs.Characters.{Each}
 use Rattle.integers.specs.IntegerText.{Digits}
 
 -- "A line whose first character (first position) is `!` is a comment"

@@ -1,7 +1,8 @@
 -- `found_in` meets its contract: a line with content is a required one, or gives its entry.
 -- No loop: one answer for each case.
 use borrow.Author.Needs.{needs}
-use Rattle.kbm_read.proofs.Takes.{token-within, found-step, found-required, found-entry}
+use Rattle.text.proofs.Shown.{token-within}
+use Rattle.kbm_read.proofs.Takes.{found-step, found-required, found-entry}
 use Rattle.kbm_read.proofs.found_in.Statement.{statement}
 use Rattle.kbm_read.proofs.found_in.Tie as tie
 

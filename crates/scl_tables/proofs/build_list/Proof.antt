@@ -1,11 +1,12 @@
 -- `build_list` meets its contract: the list is built in the first places of the columns (Parts.antt).
 -- Assumes nothing.
 use borrow.Author.Needs.{needs}
-use mathlib.Core.Path.{_≡_, sym, _∙_}
+use mathlib.Core.Path.{_≡_, sym, _∙_, ap}
 use Prim.Native.Nat.{_+_}
 use lib.ListN.{length, take}
 use Rattle.sorted.specs.Lent.{listTable}
 use Rattle.scl.specs.Table.{itemTable}
+use Rattle.scl_tables.specs.Build.{isGiven}
 use Rattle.scl_tables.proofs.Parts.{kinds-part, cents-part, numers-part, denoms-part, list-part, whole-asks, part-list}
 use Rattle.scl_tables.proofs.build_list.Statement.{statement}
 use Rattle.scl_tables.proofs.build_list.Tie as tie
@@ -67,8 +68,10 @@ returns c =
     let ws = b .last .1 .1 .1 .1 .1 .1 .0 in
     let lp : length ps ≡ length (take n (s .args .place .now)) = search needs in
     let lr : length rs ≡ length (take n (s .args .ratio .now)) = search needs in
-    let lw : length ws ≡ length (take n (s .args .wraps .now)) = search needs in
-    part-list n (listTable (s .args .place .now) (s .args .ratio .now) (s .args .wraps .now)) ps rs ws (lp ∙ list-part (s .args .count) (s .args .place .now) (s .pre .2)) (lr ∙ list-part (s .args .count) (s .args .ratio .now) (s .pre .3)) (lw ∙ list-part (s .args .count) (s .args .wraps .now) (s .pre .4)) (b .ensures)
+    let lw : length ws ≡ length (take n (s .args .wraps .now)) = search needs in (
+      ap isGiven (sym (b .ensures)),
+      part-list n (listTable (s .args .place .now) (s .args .ratio .now) (s .args .wraps .now)) ps rs ws (lp ∙ list-part (s .args .count) (s .args .place .now) (s .pre .2)) (lr ∙ list-part (s .args .count) (s .args .ratio .now) (s .pre .3)) (lw ∙ list-part (s .args .count) (s .args .wraps .now) (s .pre .4)) (b .ensures),
+    )
 
 pub build-list-spec : {M : Type 1} → statement M
 build-list-spec =

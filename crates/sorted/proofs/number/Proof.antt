@@ -1,11 +1,10 @@
 -- `number` meets its contract. The invariant: the first i places hold their own numbers.
 -- The measure is the number of places left.
-use mathlib.Core.Path.{_≡_, refl, sym, _∙_, ap}
+use mathlib.Core.Path.{_≡_, refl, _∙_}
 use Prim.Native.Nat.{_≤_, _-_}
 use native.Mathlib.Omega.{arith}
 use borrow.Author.Needs.{needs}
 use lib.ListN.{length, take, length-set}
-use lib.Seq.{take-all}
 use Rattle.sorted.specs.Lent.{from}
 use Rattle.sorted.proofs.Numbering.{numbered, number-done}
 use Rattle.sorted.proofs.number.Statement.{statement}

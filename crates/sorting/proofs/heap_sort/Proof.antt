@@ -1,12 +1,10 @@
 -- `heap_sort` meets its contract. First loop: the first n entries are a heap from s on. Second loop: what it has done, whatever the first one left.
 -- Both by one record, Work.antt; the measures are s and k.
-use mathlib.Core.Path.{_≡_, refl, sym, _∙_, ap}
+use mathlib.Core.Path.{_≡_, refl, sym, _∙_}
 use Prim.Native.Nat.{_≤_, _<_, _/_}
 use native.Mathlib.Omega.{arith}
 use borrow.Author.Needs.{needs}
 use lib.ListN.{length}
-use lib.Ieee.{nan}
-use lib.IntN.{pos}
 use Rattle.sorting.proofs.Work.{Sorting, Drains, sort-starts, sort-ends, sizes, one-sifted, one-taken}
 use Rattle.sorting.proofs.heap_sort.Statement.{statement}
 use Rattle.sorting.proofs.heap_sort.Tie as tie

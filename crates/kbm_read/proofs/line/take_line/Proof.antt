@@ -2,7 +2,8 @@
 -- No loop: one answer for each case.
 use borrow.Author.Needs.{needs}
 use mathlib.Core.Path.{_∙_}
-use Rattle.kbm_read.proofs.Takes.{token-within, meaning-step}
+use Rattle.text.proofs.Shown.{token-within}
+use Rattle.kbm_read.proofs.Takes.{meaning-step}
 use Rattle.kbm_read.proofs.line.take_line.Statement.{statement}
 use Rattle.kbm_read.proofs.line.take_line.Tie as tie
 
