@@ -25,7 +25,8 @@ use Rattle.kbm_read.proofs.Language.{accepted}
 use Rattle.kbm_read.proofs.Tables.{leaves-table}
 use Rattle.kbm_write.specs.Export.{lastOf, middleOf, exportText, exportOf}
 use Rattle.kbm_write.proofs.Bound.{never-no-room}
-use Rattle.kbm_write.proofs.Room.{Fitting, export-fitting}
+use Rattle.writing.proofs.Room.{Fitting}
+use Rattle.kbm_write.proofs.Room.{export-fitting}
 use Rattle.kbm_write.specs.Typed.{OfTypes}
 
 -- the key after the last

@@ -22,7 +22,7 @@ use Rattle.kbm_write.specs.Published as P
 use Rattle.kbm_write.specs.Typed.{Typed}
 use Rattle.kbm_write.proofs.Published.{export-published}
 use Rattle.integers.specs.IntegerText.{IntText}
-use Rattle.kbm_write.proofs.Plain.{Word}
+use Rattle.writing.proofs.Plain.{Word}
 use Rattle.text.specs.Reading.{strict, EachLine}
 use Rattle.text.proofs.LinesLanguage.{one-lines}
 use Rattle.kbm_formats.specs.Agree.{Agree}

@@ -18,7 +18,7 @@ use Rattle.kbm.specs.Table.{inI16}
 use Rattle.kbm.specs.declared.Kbm.{Kbm}
 use Rattle.kbm.proofs.Entries.{and-both}
 use Rattle.key.specs.Keys.{key}
-use Rattle.kbm_write.specs.Export.{linesText}
+use Rattle.writing.specs.Lines.{linesText}
 use Rattle.kbm_write.specs.Published as P
 use Rattle.utf8.specs.Characters.{Utf8}
 use Rattle.text.specs.Cut.{lines}

@@ -33,11 +33,13 @@ use Rattle.kbm_read.specs.Reader.{takeToken, walk, unread, mappingOf, readOf, g
 use Rattle.kbm_read.specs.Language.{blanks, MappingText}
 use Rattle.kbm_read.proofs.Language.{accepts}
 use Rattle.listing.specs.Reader.{walkLines}
-use Rattle.kbm_write.specs.Again.{nearestThree, ComesBack}
+use Rattle.writing.specs.Thousandths.{nearestThree}
+use Rattle.kbm_write.specs.Again.{ComesBack}
 use Rattle.kbm_write.specs.Export.{lastOf, middleOf, entryTexts, exportText}
 use Rattle.kbm_write.proofs.ExportLines.{exportTexts, export-found}
-use Rattle.kbm_write.proofs.Plain.{selves}
-use Rattle.kbm_write.proofs.Printed.{size-reads, reads-only, pitch-reads}
+use Rattle.writing.proofs.Plain.{selves}
+use Rattle.writing.proofs.Printed.{size-reads, reads-only}
+use Rattle.kbm_write.proofs.Printed.{pitch-reads}
 use Rattle.kbm_write.specs.Typed.{Typed}
 use Rattle.kbm_formats.proofs.Walk.{whole-value, headIs, head-read, entries-read, ends-read, entries-given, head-given}
 

@@ -29,7 +29,7 @@ use Rattle.kbm_read.specs.Reader.{afterRead}
 use Rattle.kbm_read.proofs.Fields.{readAs, read-gives}
 use Rattle.kbm_read.proofs.Language.{in-language}
 use Rattle.key.specs.Keys.{key}
-use Rattle.kbm_write.specs.Export.{linesText}
+use Rattle.writing.specs.Lines.{linesText}
 use Rattle.text.specs.Cut.{lines}
 use Rattle.text.specs.ReadLine.{tokenLength, meaningBy, meanings, saidIn}
 use Rattle.white.specs.Trim.{widthBy, run}

@@ -7,7 +7,7 @@ use Prim.Native.Nat.{ℕ, _≤_, _<_}
 use native.Mathlib.Omega.{arith}
 use Rattle.kbm_read.specs.Language.{Tokens}
 use Rattle.kbm_write.specs.Published as P
-use Rattle.kbm_write.proofs.Plain.{Plain, Word}
+use Rattle.writing.proofs.Plain.{Plain, Word}
 use Rattle.utf8.specs.Characters.{Each, inBytes, encode}
 use Rattle.text.specs.Reading.{Comment, strict, Splits, Stops, Meaning, invalid, comment, content, Line, EachLine}
 use Rattle.white.specs.White.{WhiteSpace, Trimmed}

@@ -17,7 +17,7 @@ use Rattle.decimals.specs.DecimalText.{OptionalSign, Form, FloatText, Unsupport
 use Rattle.integers.specs.Digits.{AllDigits}
 use Rattle.integers.specs.IntegerText.{Digits, IntText}
 use Rattle.decimals.proofs.Language.{gives-complete, leaves-complete, one-reading}
-use Rattle.kbm_write.proofs.Plain.{Plain, Word, each-append}
+use Rattle.writing.proofs.Plain.{Plain, Word, each-append}
 use Rattle.utf8.specs.Characters.{Each}
 use Rattle.kbm_formats.proofs.Standing.{Holds}
 

@@ -30,8 +30,8 @@ use Rattle.kbm_read.specs.declared.line.Due.the-variants as due
 use Rattle.kbm_read.specs.declared.line.EntryRead.the-variants as entry
 use Rattle.kbm_read.specs.declared.line.Head.{Head}
 use Rattle.kbm_write.specs.Export.{entryTexts}
-use Rattle.kbm_write.proofs.Plain.{selves}
-use Rattle.kbm_write.proofs.Printed.{signed-reads}
+use Rattle.writing.proofs.Plain.{selves}
+use Rattle.writing.proofs.Printed.{signed-reads}
 use Rattle.kbm.specs.Table.{AreI16}
 
 -- a printed integer of a type with a sign is read as that integer

@@ -18,7 +18,7 @@ use Rattle.kbm.specs.declared.Kbm.{Kbm}
 use Rattle.kbm_read.specs.Language.{MappingText}
 use Rattle.kbm_read.specs.Reader.{readOf, afterRead}
 use Rattle.kbm_write.specs.Again.{ComesBack}
-use Rattle.kbm_write.specs.Export.{linesText}
+use Rattle.writing.specs.Lines.{linesText}
 use Rattle.kbm_write.specs.Published as P
 use Rattle.kbm_write.specs.Typed.{Typed}
 use Rattle.key.specs.Keys.{key}

@@ -6,8 +6,8 @@ use kbm::KbmAnswer;
 use kbm::KbmRoot;
 use kbm::builder::BuilderAnswer;
 use kbm::builder::KbmBuilder;
-use kbm_write::SizeAnswer;
 use key::PianoKey;
+use writing::SizeAnswer;
 
 pub const NO_SUCH: Refusal = Refusal {
     number: 255,

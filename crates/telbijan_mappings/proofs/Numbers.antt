@@ -25,7 +25,8 @@ use Rattle.kbm.specs.declared.Kbm.{Kbm}
 use Rattle.kbm.specs.declared.builder.KbmBuilder.{KbmBuilder}
 use Rattle.kbm.specs.declared.builder.Octave.{Octave}
 use Rattle.kbm.specs.declared.builder.Octave.the-variants.{Given, Missing}
-use Rattle.kbm_write.specs.Export.{lastOf, middleOf, exportText, fitted, exportOf, textLength}
+use Rattle.writing.specs.Fitted.{fitted, textLength}
+use Rattle.kbm_write.specs.Export.{lastOf, middleOf, exportText, exportOf}
 
 held-numbered : (z : ℤ) → Numbered (held z)
 unfolding held

@@ -7,9 +7,9 @@ use borrow.Author.Needs.{needs}
 use mir.Facts.{toZ-ofZ}
 use mir.Syntax.{w32}
 use Rattle.printing.specs.PrintText.{wholeText, placed, written}
-use Rattle.kbm_write.proofs.Lines.{not-full, line-end, line-fits, line-written}
-use Rattle.kbm_write.proofs.write_line.Statement.{statement}
-use Rattle.kbm_write.proofs.write_line.Tie as tie
+use Rattle.writing.proofs.Lines.{not-full, line-end, line-fits, line-written}
+use Rattle.writing.proofs.write_line.Statement.{statement}
+use Rattle.writing.proofs.write_line.Tie as tie
 
 -- what `write_i32` said of z as the machine holds it, it said of z
 told : (c : tie.After-write-i32) → let s = c .before .before .before in c .write-i32 .result ≡ placed (now (s .args .out)) (s .args .at) (wholeText (s .args .z))

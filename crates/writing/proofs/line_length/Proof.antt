@@ -4,9 +4,9 @@ use native.Mathlib.Omega.{arith}
 use borrow.Author.Needs.{needs}
 use mir.Facts.{toZ-ofZ}
 use mir.Syntax.{w32}
-use Rattle.kbm_write.proofs.Lines.{whole-short}
-use Rattle.kbm_write.proofs.line_length.Statement.{statement}
-use Rattle.kbm_write.proofs.line_length.Tie as tie
+use Rattle.writing.proofs.Lines.{whole-short}
+use Rattle.writing.proofs.line_length.Statement.{statement}
+use Rattle.writing.proofs.line_length.Tie as tie
 
 slice-aggregate-write-line : tie.Need-slice-aggregate-write-line
 slice-aggregate-write-line c = search needs

@@ -1,4 +1,4 @@
--- Texts of plain bytes, as the export writes them: each is a line of its own, which says itself. Assumes nothing.
+-- Texts of plain bytes, as exports write them: each is a line of its own, which says itself. Assumes nothing.
 use mathlib.Core.Path.{_≡_, refl, sym, ap, subst}
 use mathlib.Core.Bool.{Bool, true, false, _&&_, _||_}
 use mathlib.Core.List.{List, [], _∷_, _++_, append-assoc, append-nil}
@@ -18,7 +18,7 @@ use Rattle.text.specs.Reading.{Comment, strict, Splits, Token, Meaning, content
 use Rattle.white.specs.White.{WhiteSpace, Trimmed}
 use Rattle.utf8.proofs.Encodings.{enc1, enc2, enc3, enc4, split}
 use Rattle.text.proofs.LineLanguage.{one-strict-text}
-use Rattle.kbm_write.specs.Export.{linesText}
+use Rattle.writing.specs.Lines.{linesText}
 
 -- a graphic character of ASCII after `!`
 abbrev pub Plain : ℕ → Type 0
