@@ -25,7 +25,7 @@ use Rattle.kbm_read.proofs.Ends.{length-added}
 use Rattle.kbm_read.proofs.Language.{in-language}
 use Rattle.kbm_read.proofs.Tables.{leaves-meaning}
 use Rattle.kbm_write.specs.Published as P
-use Rattle.text.specs.Characters.{Utf8}
+use Rattle.utf8.specs.Characters.{Utf8}
 use Rattle.text.specs.ReadLine.{strictly, meaningBy}
 use Rattle.text.specs.Reading.{strict, Meaning, invalid, blank, comment, content, Line, EachLine}
 use Rattle.text.proofs.LineLanguage.{strict-line}

@@ -30,7 +30,7 @@ use Rattle.kbm_read.proofs.Tables.{leaves-meaning}
 use Rattle.key.specs.declared.PianoKey.{PianoKey}
 use Rattle.kbm_formats.specs.KeysOfText.{entryTokens, lastKey, Inside, Outside, steps, Counts, NotMapped, MappedTo, Silent, TooFar, SaidOf}
 use Rattle.kbm_write.specs.Export.{lastOf}
-use Rattle.text.proofs.Encodings.{split}
+use Rattle.utf8.proofs.Encodings.{split}
 use Rattle.kbm_formats.proofs.Values.{letter-integer}
 use Rattle.kbm_formats.proofs.Range.{inside, inside-back, outside, outside-back}
 

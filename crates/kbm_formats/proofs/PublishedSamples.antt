@@ -20,12 +20,12 @@ use Rattle.kbm.proofs.Entries.{and-both}
 use Rattle.key.specs.Keys.{key}
 use Rattle.kbm_write.specs.Export.{linesText}
 use Rattle.kbm_write.specs.Published as P
-use Rattle.text.specs.Characters.{Utf8}
+use Rattle.utf8.specs.Characters.{Utf8}
 use Rattle.text.specs.Cut.{lines}
-use Rattle.text.specs.Utf8Machine.{leadOf, utf8Step}
-use Rattle.text.specs.Utf8Machine as utf8
+use Rattle.utf8.specs.Utf8Machine.{leadOf, utf8Step}
+use Rattle.utf8.specs.Utf8Machine as utf8
 use Rattle.text.proofs.LinesLanguage.{the-lines}
-use Rattle.text.proofs.Utf8Language.{accepts}
+use Rattle.utf8.proofs.Utf8Language.{accepts}
 use Rattle.kbm_formats.specs.Limits.{WithinLimits}
 use Rattle.kbm_formats.specs.Samples.{exampleLines, exampleText, middleText, exampleMapping, MiddleKeys}
 use Rattle.kbm_formats.proofs.SameKeys.{not-mapped}

@@ -32,9 +32,9 @@ use Rattle.key.specs.Keys.{key}
 use Rattle.kbm_write.specs.Export.{linesText}
 use Rattle.text.specs.Cut.{lines}
 use Rattle.text.specs.ReadLine.{tokenLength, meaningBy, meanings, saidIn}
-use Rattle.text.specs.Trim.{widthBy, run}
-use Rattle.text.specs.Utf8Machine.{leadOf, utf8Step}
-use Rattle.text.specs.Utf8Machine as utf8
+use Rattle.white.specs.Trim.{widthBy, run}
+use Rattle.utf8.specs.Utf8Machine.{leadOf, utf8Step}
+use Rattle.utf8.specs.Utf8Machine as utf8
 use Rattle.text.proofs.LineLanguage.{strict-text}
 use Rattle.kbm_formats.specs.KeysOfText.{Silent}
 use Rattle.kbm_formats.specs.Samples.{copyText, exampleKbm, exampleEntries, CopyKeys, farText, farKbm, FarKey, Back}

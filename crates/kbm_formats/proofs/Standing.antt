@@ -8,9 +8,10 @@ use native.Mathlib.Omega.{arith}
 use Rattle.kbm_read.specs.Language.{Tokens}
 use Rattle.kbm_write.specs.Published as P
 use Rattle.kbm_write.proofs.Plain.{Plain, Word}
-use Rattle.text.specs.Characters.{Each, inBytes, encode}
-use Rattle.text.specs.Reading.{WhiteSpace, Comment, strict, Trimmed, Splits, Stops, Meaning, invalid, comment, content, Line, EachLine}
-use Rattle.text.proofs.Encodings.{enc1, enc2, enc3, enc4, split}
+use Rattle.utf8.specs.Characters.{Each, inBytes, encode}
+use Rattle.text.specs.Reading.{Comment, strict, Splits, Stops, Meaning, invalid, comment, content, Line, EachLine}
+use Rattle.white.specs.White.{WhiteSpace, Trimmed}
+use Rattle.utf8.proofs.Encodings.{enc1, enc2, enc3, enc4, split}
 use Rattle.text.proofs.TokenLanguage.{one-token}
 
 -- no white character is a graphic one of ASCII

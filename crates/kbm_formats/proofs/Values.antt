@@ -18,7 +18,7 @@ use Rattle.integers.specs.Digits.{AllDigits}
 use Rattle.integers.specs.IntegerText.{Digits, IntText}
 use Rattle.decimals.proofs.Language.{gives-complete, leaves-complete, one-reading}
 use Rattle.kbm_write.proofs.Plain.{Plain, Word, each-append}
-use Rattle.text.specs.Characters.{Each}
+use Rattle.utf8.specs.Characters.{Each}
 use Rattle.kbm_formats.proofs.Standing.{Holds}
 
 -- digits do not start with a byte that is none

@@ -13,7 +13,7 @@ use Rattle.decimals.specs.DecimalText.{fromNonzero}
 use Rattle.floats.specs.Ranges.{inPitch}
 use Rattle.kbm.specs.Table.{inI16, AreI16}
 use Rattle.kbm_write.specs.Published as P
-use Rattle.text.specs.Characters.{Utf8}
+use Rattle.utf8.specs.Characters.{Utf8}
 
 -- each of the lines is UTF-8
 abbrev pub AllUtf8 : List (List ℕ) → Type 0

@@ -15,9 +15,9 @@ use Rattle.integers.specs.Integer.{scan, magnitudeOf, readSigned}
 use Rattle.listing.specs.Reader.{walkLines, givenAfter}
 use Rattle.text.specs.Cut.{lines}
 use Rattle.text.specs.ReadLine.{tokenLength, meaningBy, meanings}
-use Rattle.text.specs.Trim.{widthBy, run}
-use Rattle.text.specs.Utf8Machine.{leadOf, utf8Step}
-use Rattle.text.specs.Utf8Machine as utf8
+use Rattle.white.specs.Trim.{widthBy, run}
+use Rattle.utf8.specs.Utf8Machine.{leadOf, utf8Step}
+use Rattle.utf8.specs.Utf8Machine as utf8
 use Rattle.kbm_read.specs.Language.{blanks}
 use Rattle.kbm_read.specs.Reader.{entryIn, takeToken, finished, readOf, entriesIn}
 

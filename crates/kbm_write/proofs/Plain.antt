@@ -10,12 +10,13 @@ use lib.ListN.{length}
 use lib.Ieee.Bits.{is-true}
 use borrow.Author.Tests.{leb-true}
 use Rattle.floats.proofs.Ranges.{and-true}
-use Rattle.text.specs.Characters.{Each, inBytes, Span, span, Among, Scalar, encode}
+use Rattle.utf8.specs.Characters.{Each, inBytes, Span, span, Among, Scalar, encode}
 use Rattle.text.specs.Cut.{lines}
 use Rattle.text.specs.Lines.{NoLF, EndsCR, Lines}
 use Rattle.text.specs.ReadLine.{strictly, meanings}
-use Rattle.text.specs.Reading.{WhiteSpace, Comment, strict, Trimmed, Splits, Token, Meaning, content, Line, EachLine, Says}
-use Rattle.text.proofs.Encodings.{enc1, enc2, enc3, enc4, split}
+use Rattle.text.specs.Reading.{Comment, strict, Splits, Token, Meaning, content, Line, EachLine, Says}
+use Rattle.white.specs.White.{WhiteSpace, Trimmed}
+use Rattle.utf8.proofs.Encodings.{enc1, enc2, enc3, enc4, split}
 use Rattle.text.proofs.LineLanguage.{one-strict-text}
 use Rattle.kbm_write.specs.Export.{linesText}
 

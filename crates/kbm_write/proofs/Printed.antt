@@ -17,7 +17,7 @@ use Rattle.base.specs.Said.{pick}
 use Rattle.floats.specs.Ranges.{inPitch}
 use Rattle.floats.specs.Units.{negative}
 use Rattle.floats.proofs.Ranges.{Within, within-fin, pitch-says}
-use Rattle.text.specs.Characters.{Each}
+use Rattle.utf8.specs.Characters.{Each}
 use Rattle.integers.specs.Digits.{decimal}
 use Rattle.decimals.specs.DecimalText.{DecimalText}
 use Rattle.integers.specs.IntegerText.{Digits, IntText}

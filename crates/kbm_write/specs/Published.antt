@@ -8,7 +8,7 @@ use lib.IntN.{ℤ, pos, negℤ, _+ℤ_, _-ℤ_, _*ℤ_}
 use lib.ListN.{length, getD}
 use lib.Signed.{_≤ℤ_}
 use Rattle.base.specs.Integers.{Divides}
-use Rattle.text.specs.Characters.{Each}
+use Rattle.utf8.specs.Characters.{Each}
 use Rattle.text.specs.Lines.{Lines}
 use Rattle.decimals.specs.DecimalText as Decimal
 use Rattle.integers.specs.Digits.{decimal}

@@ -10,7 +10,7 @@ use lib.ListN.{length, getD, take, drop, drop-of-length-le, length-append}
 use lib.Seq.{drop-cons}
 use borrow.Author.Tests.{eq-eqb, ne-eqb, eqb-true, eqb-false}
 use Rattle.base.specs.Said.{pick}
-use Rattle.text.specs.Characters.{Each}
+use Rattle.utf8.specs.Characters.{Each}
 use Rattle.scl_item.specs.ItemText.{Has, Free}
 use Rattle.scl_item.specs.Tokens.{placeOf}
 

@@ -16,7 +16,7 @@ use Rattle.scl.specs.Items.{isUsableCents}
 use Rattle.scl.specs.declared.Denom.the-variants.{Given, Lacking}
 use Rattle.scl.specs.declared.Item.{Item}
 use Rattle.scl.specs.declared.Item.the-variants.{Cents, Fraction}
-use Rattle.text.specs.Characters.{Each}
+use Rattle.utf8.specs.Characters.{Each}
 
 -- a byte stands in t, or does not
 abbrev pub Has : ℕ → List ℕ → Type 0

@@ -11,14 +11,15 @@ use lib.ListN.{take}
 use borrow.Author.Tests.{eq-eqb, eqb-true}
 use Rattle.base.specs.Said.{pick}
 use Rattle.base.proofs.Pick.{true-not-false}
-use Rattle.text.specs.Characters.{Row}
+use Rattle.utf8.specs.Characters.{Row}
 use Rattle.text.specs.Cut.{lines}
-use Rattle.text.specs.Reading.{Reading, strict, Trimmed, Comment, Meaning, invalid, blank, comment, content, Line, EachLine, Says}
+use Rattle.text.specs.Reading.{Reading, strict, Comment, Meaning, invalid, blank, comment, content, Line, EachLine, Says}
+use Rattle.white.specs.White.{Trimmed}
 use Rattle.text.specs.ReadLine.{tokenLength, Way, strictly, partMeaning, meaningBy, meanings}
-use Rattle.text.specs.Trim.{trimBy}
+use Rattle.white.specs.Trim.{trimBy}
 use Rattle.text.proofs.LinesLanguage.{the-lines, one-lines}
-use Rattle.text.proofs.Utf8Language.{accepts}
-use Rattle.text.proofs.TrimLanguage.{trimmed, one-trimmed}
+use Rattle.utf8.proofs.Utf8Language.{accepts}
+use Rattle.white.proofs.TrimLanguage.{trimmed, one-trimmed}
 use Rattle.text.proofs.TokenLanguage.{token, one-token}
 
 -- the way w carries the reading R out

@@ -8,12 +8,12 @@ use native.Mathlib.Omega.{arith}
 use lib.ListN.{length, getD, take, drop, length-drop}
 use lib.Seq.{length-take-le, take-all}
 use borrow.Author.Tests.{ne-eqb}
-use Rattle.text.specs.Trim.{run, keepBy}
-use Rattle.text.specs.Utf8Machine.{utf8From}
+use Rattle.white.specs.Trim.{run, keepBy}
+use Rattle.utf8.specs.Utf8Machine.{utf8From}
 use Rattle.text.specs.ReadLine.{tokenLength, Way, strictly, part, partAt, lineBy, lineOf}
 use Rattle.text.specs.declared.line.LineSays.{LineSays}
 use Rattle.text.specs.declared.line.LineSays.the-variants.{NotUtf8, Blank, Comment, Content}
-use Rattle.text.proofs.Runs.{run-le}
+use Rattle.white.proofs.Runs.{run-le}
 use Rattle.text.proofs.Tokens.{token-le}
 
 -- n bytes, not none, by the first

@@ -5,8 +5,8 @@ use Prim.Native.Nat.{ℕ}
 use Rattle.text.specs.Cut.{lines}
 use Rattle.text.specs.Reading.{Meaning, invalid, blank, comment, content}
 use Rattle.text.specs.ReadLine.{tokenLength, strictly, meaningBy}
-use Rattle.text.specs.Trim.{widthBy, run}
-use Rattle.text.specs.Utf8Machine.{leadOf, utf8Step, utf8From}
+use Rattle.white.specs.Trim.{widthBy, run}
+use Rattle.utf8.specs.Utf8Machine.{leadOf, utf8Step, utf8From}
 
 -- what a line says
 abbrev says : List ℕ → Meaning

@@ -13,12 +13,12 @@ use Rattle.base.specs.Said.{pick}
 use Rattle.text.specs.Cut.{lines, cut}
 use Rattle.text.specs.Reading.{invalid, comment, content}
 use Rattle.text.specs.ReadLine.{tokenLength, Way, part, partMeaning, partAt, meaningBy, meanings, saidIn, lineBy, lineOf, shown, InText}
-use Rattle.text.specs.Trim.{run, trimBy}
+use Rattle.white.specs.Trim.{run, trimBy}
 use Rattle.text.specs.declared.line.LineSays.{LineSays}
 use Rattle.text.specs.declared.line.LineSays.the-variants.{NotUtf8, Comment, Content}
 use Rattle.text.specs.declared.lines.Ends.{Ends}
 use Rattle.text.proofs.Cuts.{turn}
-use Rattle.text.proofs.Runs.{run-le}
+use Rattle.white.proofs.Runs.{run-le}
 use Rattle.text.proofs.Tokens.{token-le}
 
 -- m stands at k in the text

@@ -12,7 +12,7 @@ use lib.Seq.{take-at}
 use borrow.Author.Tests.{eq-eqb, eqb-true}
 use Rattle.base.specs.Said.{pick}
 use Rattle.base.proofs.Pick.{true-not-false}
-use Rattle.text.specs.Characters.{Each, span, Among}
+use Rattle.utf8.specs.Characters.{Each, span, Among}
 use Rattle.text.specs.Reading.{Splits, Stops, Token}
 use Rattle.text.specs.ReadLine.{splits, tokenLength}
 

@@ -6,6 +6,7 @@ use Prim.Native.Nat.{ℕ, suc, _+_, _≤_, _<_}
 use native.Mathlib.Omega.{arith}
 use lib.Dec.{eqb}
 use lib.ListN.{length, getD, drop, drop-of-length-le}
+use borrow.Author.Tests.{ne-eqb}
 use Rattle.base.specs.Said.{pick}
 use Rattle.text.specs.ReadLine.{splits, tokenLength}
 use Rattle.text.proofs.Cuts.{drop-next}
@@ -41,3 +42,23 @@ token-le (b ∷ s) = go (splits b) (token-le s)
     go : (x : Bool) → tokenLength s ≤ length s → pick x 0 (suc (tokenLength s)) ≤ suc (length s)
     go true h = omega arith
     go false h = omega arith
+
+-- WHERE A TOKEN ENDS, test by test: space, tab, LF, form feed, CR
+module _ (b : ℕ) where
+  pub at-space : b ≡ 32 → true ≡ splits b
+  at-space e = rw e
+
+  module _ (space : b ≡ 32 → ⊥) where
+    pub at-tab : b ≡ 9 → true ≡ splits b
+    at-tab e = rw e
+
+    module _ (tab : b ≡ 9 → ⊥) where
+      pub at-lf : b ≡ 10 → true ≡ splits b
+      at-lf e = rw e
+
+      module _ (lf : b ≡ 10 → ⊥) where
+        pub at-ff : b ≡ 12 → true ≡ splits b
+        at-ff e = rw e
+
+        pub at-cr : (b ≡ 12 → ⊥) → eqb b 13 ≡ splits b
+        at-cr ff = rw (ne-eqb b 32 space, ne-eqb b 9 tab, ne-eqb b 10 lf, ne-eqb b 12 ff)

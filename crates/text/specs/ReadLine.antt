@@ -8,8 +8,8 @@ use lib.ListN.{length, take, drop}
 use Rattle.base.specs.Said.{pick}
 use Rattle.text.specs.Cut.{lines}
 use Rattle.text.specs.Reading.{Meaning, invalid, blank, comment, content}
-use Rattle.text.specs.Trim.{front, back, run, trimBy}
-use Rattle.text.specs.Utf8Machine.{fresh, utf8From}
+use Rattle.white.specs.Trim.{front, back, run, trimBy}
+use Rattle.utf8.specs.Utf8Machine.{fresh, utf8From}
 use Rattle.text.specs.declared.line.LineSays.{LineSays}
 use Rattle.text.specs.declared.line.LineSays.the-variants.{NotUtf8, Blank, Comment, Content}
 

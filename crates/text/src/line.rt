@@ -1,12 +1,12 @@
 // What a line says. Document 01, "Lines": it must be UTF-8, and is trimmed at both ends; it is then blank, a comment (starting with
 // `!`), or has its trimmed part and its token. Every part is a start and an end in the whole text.
-use crate::utf8::is_utf8;
-use crate::white::trim_end;
-use crate::white::trim_start;
+use utf8::is_utf8;
+use white::trim_end;
+use white::trim_start;
 ghost use mathlib.Core.Path.{_≡_};
 ghost use Prim.Native.Nat.{ℕ, _+_, _^_, _≤_, _<_};
 ghost use lib.ListN.{length};
-ghost use Rattle.text.specs.Trim.{back, keepBy};
+ghost use Rattle.white.specs.Trim.{back, keepBy};
 ghost use Rattle.text.specs.ReadLine.{splits, tokenLength, strictly, partAt, lineOf};
 
 // What a line says. Its content stands from `start` to `end`, and its token from `start` to `token_end`.
