@@ -4,8 +4,8 @@ use kbm::DegreeAnswer;
 use kbm::Kbm;
 use kbm::KbmAnswer;
 use kbm::KbmRoot;
-use kbm::builder::BuilderAnswer;
-use kbm::builder::KbmBuilder;
+use kbm_build::BuilderAnswer;
+use kbm_build::KbmBuilder;
 use key::PianoKey;
 use writing::SizeAnswer;
 

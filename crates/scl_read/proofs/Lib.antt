@@ -6,3 +6,6 @@ pub mod Ends
 pub mod Language
 pub mod Describes
 pub mod Leaves
+pub mod Theorems
+pub mod Samples
+pub mod Numbers

@@ -7,8 +7,9 @@ use lib.Dec.{leb}
 use lib.Ieee.{Float, le, lt, eq}
 use Rattle.base.specs.Said.{Numbered}
 use Rattle.base.proofs.Said.{numbered-pick, numbered-then}
-use Rattle.floats.specs.Floats.{zeroF, oneF, leastI32, pastI32, count, remEuclid, divEuclid}
+use Rattle.floats.specs.Floats.{zeroF, oneF, leastI32, pastI32, count}
 use Rattle.floats.specs.Ranges.{negligible}
+use Rattle.remainder.specs.Euclid.{remEuclid, divEuclid}
 use Rattle.scl.specs.declared.Item.{Item}
 use Rattle.scl.proofs.Numbers.{log-numbered, from-octaves-numbered, inverse-numbered, as-ratio-numbered}
 use Rattle.reduction.specs.Reduce.{reducedBy}

@@ -10,15 +10,15 @@ use lib.ListN.{length}
 use borrow.Author.Tests.{le-leb}
 use Rattle.base.specs.Said.{gives}
 use Rattle.key.specs.Keys.{key}
-use Rattle.kbm.specs.Builder.{builderOf, withOctave, fitsTable, Built, pushedAll, Appended, built, mapping, empty}
+use Rattle.kbm_build.specs.Builder.{builderOf, withOctave, fitsTable, Built, pushedAll, Appended, built, mapping, empty}
 use Rattle.kbm.specs.Root.{isRoot}
 use Rattle.kbm.specs.Table.{AreI16, areEntries, entriesOf, isTable, tableOf}
 use Rattle.kbm.specs.declared.Entry.{Entry}
 use Rattle.kbm.specs.declared.KbmRoot.{KbmRoot}
-use Rattle.kbm.specs.declared.builder.KbmBuilder.{KbmBuilder}
-use Rattle.kbm.specs.declared.builder.Octave.the-variants.{Given, Missing}
-use Rattle.kbm.proofs.Appends.{run-appends}
-use Rattle.kbm.proofs.Pushes.{fitting}
+use Rattle.kbm_build.specs.declared.KbmBuilder.{KbmBuilder}
+use Rattle.kbm_build.specs.declared.Octave.the-variants.{Given, Missing}
+use Rattle.kbm_build.proofs.Appends.{run-appends}
+use Rattle.kbm_build.proofs.Pushes.{fitting}
 
 module _ (root : KbmRoot) (map : List ℤ) where
   pub new-is-empty : isRoot root ≡ true → builderOf root map ≡ gives (empty root map)

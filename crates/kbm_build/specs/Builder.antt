@@ -13,14 +13,14 @@ use Rattle.base.specs.Numbers.{unusable, no-room, too-large, formal-octave-miss
 use Rattle.base.specs.Said.{Said, gives, refuses, pick, andThen}
 use Rattle.key.specs.Keys.{key}
 use Rattle.key.specs.declared.PianoKey.{PianoKey}
 use Rattle.kbm.specs.Root.{isRoot}
 use Rattle.kbm.specs.Table.{isTable, tableOf, numberOf}
 use Rattle.kbm.specs.declared.Entry.{Entry}
 use Rattle.kbm.specs.declared.Kbm.{Kbm}
 use Rattle.kbm.specs.declared.KbmRoot.{KbmRoot}
-use Rattle.kbm.specs.declared.builder.KbmBuilder.{KbmBuilder}
-use Rattle.kbm.specs.declared.builder.Octave.{Octave}
-use Rattle.kbm.specs.declared.builder.Octave.the-variants.{Given, Missing}
+use Rattle.kbm_build.specs.declared.KbmBuilder.{KbmBuilder}
+use Rattle.kbm_build.specs.declared.Octave.{Octave}
+use Rattle.kbm_build.specs.declared.Octave.the-variants.{Given, Missing}
 
 -- a builder with nothing pushed: keys 0..127, no formal octave, and the table's room
 abbrev pub empty : KbmRoot → List ℤ → KbmBuilder

@@ -9,10 +9,10 @@ use lib.ListN.{length}
 use borrow.Author.Tests.{eq-eqb, ne-eqb, lt-ltb, le-ltb, le-leb, lt-leb}
 use Rattle.base.specs.Numbers.{unusable, no-room}
 use Rattle.base.specs.Said.{Said, gives, refuses}
-use Rattle.kbm.specs.Builder.{fitsTable, withOneMore, pushed, setWhere, afterPush}
+use Rattle.kbm_build.specs.Builder.{fitsTable, withOneMore, pushed, setWhere, afterPush}
 use Rattle.kbm.specs.Table.{numberOf}
 use Rattle.kbm.specs.declared.Entry.{Entry}
-use Rattle.kbm.specs.declared.builder.KbmBuilder.{KbmBuilder}
+use Rattle.kbm_build.specs.declared.KbmBuilder.{KbmBuilder}
 
 module _ (b : KbmBuilder) (map : List ℤ) where
   -- the state of another table

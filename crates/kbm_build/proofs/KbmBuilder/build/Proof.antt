@@ -5,9 +5,9 @@ use borrow.Author.Tests.{lt-ltb, le-ltb}
 use mathlib.Core.Path.{sym, _∙_}
 use mir.Facts.{toZ-ofZ}
 use mir.Syntax.{w16}
-use Rattle.kbm.specs.Builder.{built}
-use Rattle.kbm.proofs.builder.KbmBuilder.build.Statement.{statement}
-use Rattle.kbm.proofs.builder.KbmBuilder.build.Tie as tie
+use Rattle.kbm_build.specs.Builder.{built}
+use Rattle.kbm_build.proofs.KbmBuilder.build.Statement.{statement}
+use Rattle.kbm_build.proofs.KbmBuilder.build.Tie as tie
 
 is-ready-requires : tie.Need-is-ready-requires
 is-ready-requires c κs = search needs

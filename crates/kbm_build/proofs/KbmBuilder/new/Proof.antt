@@ -2,8 +2,8 @@
 -- Assumes nothing.
 use borrow.Author.Needs.{needs}
 use mathlib.Core.Path.{sym, _∙_}
-use Rattle.kbm.proofs.builder.KbmBuilder.new.Statement.{statement}
-use Rattle.kbm.proofs.builder.KbmBuilder.new.Tie as tie
+use Rattle.kbm_build.proofs.KbmBuilder.new.Statement.{statement}
+use Rattle.kbm_build.proofs.KbmBuilder.new.Tie as tie
 
 is-root-requires : tie.Need-is-root-requires
 is-root-requires c κs = search needs

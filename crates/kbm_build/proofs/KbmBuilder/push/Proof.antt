@@ -4,9 +4,9 @@ use borrow.Author.Needs.{needs}
 use mathlib.Core.Path.{sym}
 use mir.Facts.{toZ-ofZ}
 use mir.Syntax.{w32}
-use Rattle.kbm.proofs.Pushes.{push-other, push-past, push-full, push-more, after-push}
-use Rattle.kbm.proofs.builder.KbmBuilder.push.Statement.{statement}
-use Rattle.kbm.proofs.builder.KbmBuilder.push.Tie as tie
+use Rattle.kbm_build.proofs.Pushes.{push-other, push-past, push-full, push-more, after-push}
+use Rattle.kbm_build.proofs.KbmBuilder.push.Statement.{statement}
+use Rattle.kbm_build.proofs.KbmBuilder.push.Tie as tie
 
 number-of-requires : tie.Need-number-of-requires
 number-of-requires c κs = search needs

@@ -2,8 +2,8 @@
 -- Assumes nothing.
 use borrow.Author.Needs.{needs}
 use mir.Facts.{toZ-ofZ}
-use Rattle.kbm.proofs.builder.KbmBuilder.push_mapped_key.Statement.{statement}
-use Rattle.kbm.proofs.builder.KbmBuilder.push_mapped_key.Tie as tie
+use Rattle.kbm_build.proofs.KbmBuilder.push_mapped_key.Statement.{statement}
+use Rattle.kbm_build.proofs.KbmBuilder.push_mapped_key.Tie as tie
 
 push-requires : tie.Need-push-requires
 push-requires c κs = search needs

@@ -2,9 +2,9 @@
 -- Assumes nothing.
 use borrow.Author.Needs.{needs}
 use mathlib.Core.Path.{sym, _∙_}
-use Rattle.kbm.proofs.Pushes.{fitting, not-fitting, too-full}
-use Rattle.kbm.proofs.builder.KbmBuilder.is_ready.Statement.{statement}
-use Rattle.kbm.proofs.builder.KbmBuilder.is_ready.Tie as tie
+use Rattle.kbm_build.proofs.Pushes.{fitting, not-fitting, too-full}
+use Rattle.kbm_build.proofs.KbmBuilder.is_ready.Statement.{statement}
+use Rattle.kbm_build.proofs.KbmBuilder.is_ready.Tie as tie
 
 is-table-requires : tie.Need-is-table-requires
 is-table-requires c κs = search needs

@@ -3,8 +3,8 @@
 use borrow.Author.Needs.{needs}
 use borrow.Author.Tests.{le-leb, lt-leb}
 use mir.Facts.{toZ-ofZ}
-use Rattle.kbm.proofs.builder.KbmBuilder.finish.Statement.{statement}
-use Rattle.kbm.proofs.builder.KbmBuilder.finish.Tie as tie
+use Rattle.kbm_build.proofs.KbmBuilder.finish.Statement.{statement}
+use Rattle.kbm_build.proofs.KbmBuilder.finish.Tie as tie
 
 cast-t8 : tie.Need-cast-t8
 cast-t8 c = search needs

@@ -15,13 +15,13 @@ use borrow.Author.Tests.{eqb-true, leb-true, ltb-true, ltb-false, le-leb}
 use Rattle.base.specs.Numbers.{no-room}
 use Rattle.base.specs.Said.{gives, refuses}
 use Rattle.base.proofs.Integers.{bool-cases}
-use Rattle.kbm.specs.Builder.{fitsTable, withOneMore, withCount, Built, pushedAll, Appended}
+use Rattle.kbm_build.specs.Builder.{fitsTable, withOneMore, withCount, Built, pushedAll, Appended}
 use Rattle.kbm.specs.Table.{numberOf, numbersOf, IsI16, AreI16, isEntry, areEntries, entriesOf, isTable, tableOf}
 use Rattle.kbm.specs.declared.Entry.{Entry}
-use Rattle.kbm.specs.declared.builder.KbmBuilder.{KbmBuilder}
+use Rattle.kbm_build.specs.declared.KbmBuilder.{KbmBuilder}
 use Rattle.kbm.proofs.Entries.{and-both}
 use Rattle.kbm.proofs.Table.{table-entries, entry-back, numbers-usable}
-use Rattle.kbm.proofs.Pushes.{fitting, push-full, push-more}
+use Rattle.kbm_build.proofs.Pushes.{fitting, push-full, push-more}
 
 entries-append : (xs ys : List ℤ) → entriesOf (xs ++ ys) ≡ entriesOf xs ++ entriesOf ys
 unfolding entriesOf

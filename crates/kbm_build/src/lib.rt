@@ -3,16 +3,17 @@
 // The state goes by value. It fits a table of `room` places, of which it has filled `count`; with any other table it is
 // refused (10). A refused push leaves the table as it was. `new(root, &map)`, then `push_mapped_key(&mut map, 0)`, then
 // `formal_octave(12)`, then `build(&map)` is a mapping of one entry, 0, for keys 0..127.
-use crate::Entry;
-use crate::Kbm;
-use crate::KbmAnswer;
-use crate::KbmRoot;
 use base::Refusal;
+use kbm::Entry;
+use kbm::Kbm;
+use kbm::KbmAnswer;
+use kbm::KbmRoot;
 use key::PianoKey;
 ghost use mathlib.Core.Path.{_≡_};
-ghost use Rattle.kbm.specs.Answers.{saysBuilder, saysKbm};
-ghost use Rattle.kbm.specs.Builder.{builderOf, withRange, withOctave, pushed, afterPush, isReady, kbmWith, built};
+ghost use Rattle.kbm.specs.Answers.{saysKbm};
 ghost use Rattle.kbm.specs.declared.Entry.the-variants.{Mapped, Unmapped};
+ghost use Rattle.kbm_build.specs.Answers.{saysBuilder};
+ghost use Rattle.kbm_build.specs.Builder.{builderOf, withRange, withOctave, pushed, afterPush, isReady, kbmWith, built};
 
 // A formal octave, where one was given.
 pub enum Octave {
@@ -57,7 +58,7 @@ impl KbmBuilder {
     pub fn new(root: KbmRoot, map: &[i32]) -> BuilderAnswer
         ensures { λ r. ⌜ saysBuilder r ≡ builderOf root (now (map .entry)) ⌝ }
     {
-        if crate::is_root(root) {
+        if kbm::is_root(root) {
             return BuilderAnswer::Is(KbmBuilder {
                 root,
                 start: PianoKey(0),
@@ -67,7 +68,7 @@ impl KbmBuilder {
                 count: 0,
             });
         }
-        BuilderAnswer::Refused(crate::NOT_USABLE)
+        BuilderAnswer::Refused(kbm::NOT_USABLE)
     }
 
     // The same for keys from `start` up to, not including, `end`.
@@ -104,7 +105,7 @@ impl KbmBuilder {
         let count = self.count;
         if room == map.len() {
             if count < room {
-                map[count] = crate::number_of(entry);
+                map[count] = kbm::number_of(entry);
                 self.count = count + 1;
                 return BuilderAnswer::Is(self);
             }
@@ -112,7 +113,7 @@ impl KbmBuilder {
                 return BuilderAnswer::Refused(NO_PLACE);
             }
         }
-        BuilderAnswer::Refused(crate::NOT_USABLE)
+        BuilderAnswer::Refused(kbm::NOT_USABLE)
     }
 
     // One mapped entry more; 10, 12.
@@ -137,8 +138,8 @@ impl KbmBuilder {
         let count = self.count;
         if room == map.len() {
             if count <= room {
-                if crate::is_table(map, count) {
-                    return crate::is_root(self.root);
+                if kbm::is_table(map, count) {
+                    return kbm::is_root(self.root);
                 }
             }
         }
@@ -181,6 +182,6 @@ impl KbmBuilder {
                 }
             };
         }
-        KbmAnswer::Refused(crate::NOT_USABLE)
+        KbmAnswer::Refused(kbm::NOT_USABLE)
     }
 }
