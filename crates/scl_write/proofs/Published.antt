@@ -41,7 +41,7 @@ cents-text c h =
       some = omega (arith, f .some);
       writes = signed (negative c) (f .whole ++ 46 ∷ f .part) (f .text);
       value = sym (f .value);
-      length-is = sym (f .places);
+      places = sym (f .places);
     }
   where
     signed : (minus : Bool) (body : List ℕ) {t : List ℕ} → t ≡ signText minus false ++ body → ((minus ≡ false) × (t ≡ body)) ⊎ ((minus ≡ true) × (t ≡ 45 ∷ body))

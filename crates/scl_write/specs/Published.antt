@@ -17,13 +17,13 @@ use Rattle.scl.specs.Items.{denomOf}
 use Rattle.scl.specs.declared.Item.{Item}
 use Rattle.scl.specs.declared.Item.the-variants.{Cents, Fraction}
 
--- what a pitch value is: n / 10^places cents, with its sign, or the ratio of two numbers
+-- what a pitch value is: n / 10^k cents, with its sign, or the ratio of two numbers
 pub data Pitch : Type 0 where
-  cents : (minus : Bool) (n places : ℕ) → Pitch
+  cents : (minus : Bool) (n k : ℕ) → Pitch
   ratio : (numer denom : ℕ) → Pitch
 
 -- "With a period in it, it is cents"; "Negative cents are allowed"
-pub record CentsText (t : List ℕ) (minus : Bool) (n places : ℕ) : Type 0 where
+pub record CentsText (t : List ℕ) (minus : Bool) (n k : ℕ) : Type 0 where
   pub whole : List ℕ
   pub part : List ℕ
   pub first : AllDigits whole
@@ -31,12 +31,12 @@ pub record CentsText (t : List ℕ) (minus : Bool) (n places : ℕ) : Type 0 whe
   pub some : 0 < length whole + length part
   pub writes : ((minus ≡ false) × (t ≡ whole ++ 46 ∷ part)) ⊎ ((minus ≡ true) × (t ≡ 45 ∷ whole ++ 46 ∷ part))
   pub value : n ≡ decimal (whole ++ part)
-  pub length-is : places ≡ length part
+  pub places : k ≡ length part
 
 -- "else a ratio. A ratio has one slash; a whole number with neither period nor slash, as `2`, means `2/1`." Ratios are of numbers above
 -- 0: "Negative ratios are a read error"
 pub data Value (t : List ℕ) : Pitch → Type 0 where
-  cents : {minus : Bool} {n places : ℕ} → CentsText t minus n places → Value t (Pitch.cents minus n places)
+  cents : {minus : Bool} {n k : ℕ} → CentsText t minus n k → Value t (Pitch.cents minus n k)
   ratio : (a b : List ℕ) (n d : ℕ) → t ≡ a ++ 47 ∷ b → Digits a n → Digits b d → 0 < n → 0 < d → Value t (Pitch.ratio n d)
   whole : (n : ℕ) → Digits t n → 0 < n → Value t (Pitch.ratio n 1)
 

@@ -13,9 +13,9 @@ use borrow.Author.Tests.{le-leb}
 use Rattle.floats.specs.Units.{negative}
 use Rattle.printing.specs.PrintText.{scaledOf, textOf, wholeText, integerText, widthOf, room, placed, written}
 use Rattle.printing.specs.declared.Placed.{Placed}
-use Rattle.printing.specs.declared.Placed.the-variants.{At, Full}
+use Rattle.printing.specs.declared.Placed.the-variants.{At}
 use Rattle.printing.proofs.Texts.{sets-append, parts-length, width-le, sign-le, point-le}
-use Rattle.writing.specs.Lines.{line, linesText, numberText}
+use Rattle.writing.specs.Lines.{line, linesText, numberText, placeReached}
 
 -- a line is one byte longer than its text
 pub length-line : (t : List ℕ) → length (line t) ≡ length t + 1
@@ -26,36 +26,30 @@ module _ (l : List ℕ) (at : ℕ) (t : List ℕ) (b : ℕ) {p : Placed} (told :
   roomy : room l at t ≡ true
   roomy = le-leb (at + length t) (length l) (omega (arith, length-append t (b ∷ []), h))
 
-  -- so there was room
-  pub not-full : p ≡ Full → ⊥
-  not-full e =
-      let q : At (at + length t) ≡ Full = rw roomy at (sym told ∙ e) in
-      let z : _≡_ {A = ℕ} 0 1 = cc in
-      omega arith
+  -- so the place after the text is reached
+  reached : p ≡ At (at + length t)
+  reached = rw roomy at told
 
-  -- the next place is the one after the text
-  pub reached : {next : ℕ} → p ≡ At next → next ≡ at + length t
-  reached {next} e =
-      let q : At (at + length t) ≡ At next = rw roomy at (sym told ∙ e) in
-      cc
-
-  pub line-end : {next : ℕ} → p ≡ At next → next + 1 ≡ at + length (t ++ (b ∷ []))
-  line-end e = omega (arith, reached e, length-append t (b ∷ []))
+  place-is : placeReached p ≡ at + length t
+  place-is = ap placeReached reached
 
   module _ {m : List ℕ} (w : m ≡ written l at t) where
     text-written : m ≡ sets l at t
     text-written = rw roomy at w
 
-    pub length-kept : length m ≡ length l
+    length-kept : length m ≡ length l
     length-kept = rw text-written (length-sets l at t)
 
     -- the last byte has its place there
-    pub line-fits : {next : ℕ} → p ≡ At next → next < length m
-    line-fits e = omega (arith, length-kept, reached e, length-append t (b ∷ []), h)
+    pub end-fits : (p ≡ At (placeReached p)) × (placeReached p < length m)
+    end-fits = (reached ∙ ap At (sym place-is), omega (arith, length-kept, place-is, length-append t (b ∷ []), h))
 
-    -- and with it the line is written
-    pub line-written : {next : ℕ} → p ≡ At next → set m next b ≡ sets l at (t ++ (b ∷ []))
-    line-written {next} e = rw text-written (sets-append l at next t (b ∷ []) (reached e))
+    -- and with it the text is ended
+    pub ended : {r : ℕ} {o : List ℕ} → r ≡ placeReached p + 1 → o ≡ set m (placeReached p) b → (r ≡ at + length (t ++ (b ∷ []))) × (o ≡ sets l at (t ++ (b ∷ [])))
+    ended e f = (
+      omega (arith, e, place-is, length-append t (b ∷ [])),
+      f ∙ rw text-written (sets-append l at (placeReached p) t (b ∷ []) place-is),
+    )
 
 -- how long the line of a number is at most
 pub whole-short : (z : ℤ) → length (line (wholeText z)) ≤ 32

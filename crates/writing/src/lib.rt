@@ -3,12 +3,13 @@ use base::Refusal;
 use printing::Placed;
 ghost use mathlib.Core.Path.{_≡_};
 ghost use mathlib.Core.Bool.{false};
-ghost use Prim.Native.Nat.{_+_, _≤_};
+ghost use Prim.Native.Nat.{_+_, _≤_, _<_};
 ghost use lib.Dec.{T};
-ghost use lib.ListN.{length};
+ghost use lib.ListN.{length, set};
 ghost use lib.Seq.{sets};
 ghost use Rattle.printing.specs.PrintText.{limited, textOf, wholeText};
-ghost use Rattle.writing.specs.Lines.{line, numberText};
+ghost use Rattle.printing.specs.declared.Placed.the-variants.{At};
+ghost use Rattle.writing.specs.Lines.{line, numberText, placeReached};
 
 // How many bytes were written.
 pub enum SizeAnswer {
@@ -31,17 +32,27 @@ pub const NO_ROOM: Refusal = Refusal {
 // Room for the line of any one number, or of two with a byte between them.
 pub const LINE: usize = 40;
 
+// The byte `end` at the place reached; the next place.
+fn end_text(reached: Placed, end: u8, out: &mut [u8]) -> usize
+    requires { ⌜ (reached ≡ At (placeReached reached)) × (placeReached reached < length (now out)) ⌝ }
+    ensures { λ r. ⌜ r ≡ placeReached reached + 1 ⌝ }
+    ensures { λ r. ⌜ now (out .exit) ≡ set (now (out .entry)) (placeReached reached) end ⌝ }
+{
+    let Placed::At(next) = reached else {
+        return 0;
+    };
+    out[next] = end;
+    next + 1
+}
+
 // n and the byte `end` at `at`; the next place.
 pub fn write_number(n: u32, end: u8, out: &mut [u8], at: usize) -> usize
     requires { ⌜ at + length (numberText n end) ≤ length (now out) ⌝ }
     ensures { λ r. ⌜ r ≡ at + length (numberText n end) ⌝ }
     ensures { λ r. ⌜ now (out .exit) ≡ sets (now (out .entry)) at (numberText n end) ⌝ }
 {
-    let Placed::At(next) = printing::write_u32(n, out, at) else {
-        return at;
-    };
-    out[next] = end;
-    next + 1
+    let reached = printing::write_u32(n, out, at);
+    end_text(reached, end, out)
 }
 
 // z and LF at `at`; the next place.
@@ -50,11 +61,8 @@ pub fn write_line(z: i32, out: &mut [u8], at: usize) -> usize
     ensures { λ r. ⌜ r ≡ at + length (line (wholeText z)) ⌝ }
     ensures { λ r. ⌜ now (out .exit) ≡ sets (now (out .entry)) at (line (wholeText z)) ⌝ }
 {
-    let Placed::At(next) = printing::write_i32(z, out, at) else {
-        return at;
-    };
-    out[next] = b'\n';
-    next + 1
+    let reached = printing::write_i32(z, out, at);
+    end_text(reached, b'\n', out)
 }
 
 // x with d decimals and LF at `at`; the next place.
@@ -63,11 +71,8 @@ pub fn write_decimal(x: f64, d: u64, out: &mut [u8], at: usize) -> usize
     ensures { λ r. ⌜ r ≡ at + length (line (textOf d false x)) ⌝ }
     ensures { λ r. ⌜ now (out .exit) ≡ sets (now (out .entry)) at (line (textOf d false x)) ⌝ }
 {
-    let Placed::At(next) = printing::write_fixed(x, d, false, out, at) else {
-        return at;
-    };
-    out[next] = b'\n';
-    next + 1
+    let reached = printing::write_fixed(x, d, false, out, at);
+    end_text(reached, b'\n', out)
 }
 
 // The bytes `text` as they are, and LF, at `at`; the next place.
