@@ -16,7 +16,9 @@ use Rattle.integers.specs.AtLine.{intAt}
 use Rattle.integers.specs.Integer.{Int, value, none, readInt}
 use Rattle.listing.specs.Reader.{walkLines}
 use Rattle.scl.specs.Items.{isUsable}
+use Rattle.scl.specs.declared.Denom.the-variants.{Given, Lacking}
 use Rattle.scl.specs.declared.Item.{Item}
+use Rattle.scl.specs.declared.Item.the-variants.{Cents, Fraction}
 use Rattle.scl_item.specs.Tokens.{placeOf, usableItem, centsIn, overDenom, fractionIn, wholeIn, slashedIn, itemIn}
 use Rattle.scl_item.specs.declared.ItemRead.{ItemRead}
 use Rattle.scl_item.specs.declared.ItemRead.the-variants.{Is, IsNot}
@@ -33,20 +35,20 @@ abbrev Known : ItemRead → Type 0
 Known (Is i) = Unit {0}
 Known (IsNot n) = (1 ≤ n) × (n ≤ 18)
 
+pick-known : (b : Bool) (x y : ItemRead) → Known x → Known y → Known (pick b x y)
+pick-known true x y h k = h
+pick-known false x y h k = k
+
 usable-known : (i : Item) → Known (usableItem i)
-usable-known i = go (isUsable i)
-  where
-    go : (b : Bool) → Known (pick b (Is i) (IsNot unusable))
-    go true = tt
-    go false = (omega arith, omega arith)
+usable-known i = pick-known (isUsable i) (Is i) (IsNot unusable) tt (omega arith, omega arith)
 
 cents-known : (x : DecimalAnswer) → Known (centsIn x)
-cents-known (decimal.Is v) = usable-known _
+cents-known (decimal.Is v) = usable-known (Cents v)
 cents-known decimal.Unsupported = (omega arith, omega arith)
 cents-known decimal.Bad = (omega arith, omega arith)
 
 denom-known : (n : ℕ) (d : Int) → Known (overDenom n d)
-denom-known n (value z) = usable-known _
+denom-known n (value z) = usable-known (Fraction n (Given (natAbs z)))
 denom-known n none = (omega arith, omega arith)
 
 fraction-known : (n d : Int) → Known (fractionIn n d)
@@ -54,19 +56,20 @@ fraction-known (value z) d = denom-known (natAbs z) d
 fraction-known none d = (omega arith, omega arith)
 
 whole-known : (n : Int) → Known (wholeIn n)
-whole-known (value z) = usable-known _
+whole-known (value z) = usable-known (Fraction (natAbs z) Lacking)
 whole-known none = (omega arith, omega arith)
 
-pick-known : (b : Bool) {x y : ItemRead} → Known x → Known y → Known (pick b x y)
-pick-known true h k = h
-pick-known false h k = k
+slashed-known : (t : List ℕ) (k : ℕ) → Known (slashedIn t k)
+slashed-known t k =
+    let n = readInt false (2 ^ 32) (take k t) in
+    let d = readInt false (2 ^ 32) (drop (k + 1) t) in
+    let w = readInt false (2 ^ 32) t in
+    pick-known (ltb k (length t)) (fractionIn n d) (wholeIn w) (fraction-known n d) (whole-known w)
 
 item-known : (t : List ℕ) → Known (itemIn t)
 unfolding itemIn
 item-known t =
-    pick-known (ltb (placeOf 46 t) (length t)) (cents-known (readDecimal t))
-    (pick-known (ltb (placeOf 47 t) (length t)) (fraction-known (readInt false (2 ^ 32) (take (placeOf 47 t) t)) (readInt false (2 ^ 32) (drop (placeOf 47 t + 1) t)))
-    (whole-known (readInt false (2 ^ 32) t)))
+    pick-known (ltb (placeOf 46 t) (length t)) (centsIn (readDecimal t)) (slashedIn t (placeOf 47 t)) (cents-known (readDecimal t)) (slashed-known t (placeOf 47 t))
 
 -- ---- a line
 int-numbered : (k : ℕ) (i : Int) → Numbered (intAt int-value k i)
@@ -105,5 +108,5 @@ walk-numbered places k s [] = finished-numbered s
 walk-numbered places k s (m ∷ ms) = numbered-then (meaning-numbered places k m s) (λ s′. walk-numbered places (k + 1) s′ ms)
 
 pub read-scl-numbered : (room : ℕ) (text : List ℕ) → Numbered (readOf room text)
-read-scl-numbered zero text = Numbered.number (omega arith) (omega arith)
+read-scl-numbered zero text = Numbered.number {n = 12} (omega arith) (omega arith)
 read-scl-numbered (suc places) text = numbered-then (walk-numbered places 1 unread (saidIn text)) (λ n. Numbered.value (scaleRead n text))

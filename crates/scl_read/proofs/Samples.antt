@@ -3,11 +3,12 @@ use mathlib.Core.Path.{_≡_, refl}
 use mathlib.Core.Bool.{false}
 use mathlib.Core.List.{List, [], _∷_, _++_}
 use Prim.Native.Nat.{ℕ}
-use lib.Ieee.{binary64, round, le, size, ofBits, neg}
-use Rattle.base.specs.Said.{Said, gives, refuses}
+use lib.Ieee.{binary64, round, neg, div, le, ofInt, ofBits}
+use Rattle.base.specs.Said.{gives, refuses}
 use Rattle.floats.specs.Units.{negative}
+use Rattle.explog.specs.Exp.{pOf}
 use Rattle.explog.specs.Log.{bOf, yOf}
-use Rattle.explog.specs.Rules.{L, logOf, logAt, ratioOf}
+use Rattle.explog.specs.Rules.{E, L, floorOf, timesPower, powerOf, logOf, logAt, ratioOf}
 use Rattle.decimals.specs.DecimalScan.{readDecimal}
 use Rattle.integers.specs.Integer.{scan, magnitudeOf, readSigned}
 use Rattle.listing.specs.Reader.{walkLines, givenAfter}
@@ -70,7 +71,7 @@ pub record Samples : Type 0 where
   pub no-count : readOf 8 (120 ∷ 10 ∷ 33 ∷ 10 ∷ []) ≡ refuses 2 2
 
 pub samples : Samples
-unfolding lines meaningBy meanings lineBy startsFrom placedBy tokenLength widthBy run leadOf utf8Step utf8From scan magnitudeOf readSigned runOf spelled scanOf readDecimal placeOf itemIn takeToken finished walkLines givenAfter descriptionIn isBeyond L logOf logAt ratioOf bOf yOf le round size ofBits neg negative
+unfolding lines meaningBy meanings lineBy startsFrom placedBy tokenLength widthBy run leadOf utf8Step utf8From scan magnitudeOf readSigned runOf spelled scanOf readDecimal placeOf itemIn takeToken finished walkLines givenAfter descriptionIn isBeyond E L floorOf timesPower powerOf logOf logAt ratioOf pOf bOf yOf le div round ofInt ofBits neg negative
 samples =
     record {
       scale = refl;
