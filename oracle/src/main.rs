@@ -9,6 +9,7 @@
 mod bench;
 mod differences;
 mod differences_kbm;
+mod differences_scl;
 mod ffi;
 mod ffi_kbm;
 mod ffi_scl;

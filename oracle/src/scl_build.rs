@@ -170,16 +170,20 @@ pub fn shapes(items: usize) -> Vec<Vec<Push>> {
     found
 }
 
-fn builds(tally: &mut Tally) {
+/// Random scales of up to eleven items, and scales of every shape.
+pub fn scales() -> impl Iterator<Item = ([usize; 7], Vec<Push>)> {
     let mut random = Random::new(27);
-    for k in 0..40_000 {
+    let random = (0..40_000).map(move |k| {
         let run = random_run(&mut random, 1 + k % 12);
-        one_build(tally, run.lengths, &run.taken());
-    }
-    for items in [0, 1, 2, 3, 4, 5, 12, 31, 64, 100, 331] {
-        for pushes in shapes(items) {
-            one_build(tally, [items + 1 + items % 3; 7], &pushes);
-        }
+        (run.lengths, run.taken())
+    });
+    let sizes = [0, 1, 2, 3, 4, 5, 12, 31, 64, 100, 331].into_iter();
+    random.chain(sizes.flat_map(|items| shapes(items).into_iter().map(move |pushes| ([items + 1 + items % 3; 7], pushes))))
+}
+
+fn builds(tally: &mut Tally) {
+    for (lengths, pushes) in scales() {
+        one_build(tally, lengths, &pushes);
     }
     for (k, pushes) in shapes(4_096).into_iter().enumerate() {
         if k % 3 == 0 {
