@@ -5,18 +5,17 @@ use mathlib.Core.Bool.{true}
 use mathlib.Core.List.{List, []}
 use Prim.Native.Nat.{_+_, _≤_}
 use native.Mathlib.Omega.{arith}
-use lib.IntN.{ℤ, pos}
+use lib.IntN.{ℤ}
 use lib.ListN.{length}
 use borrow.Author.Tests.{le-leb}
 use Rattle.base.specs.Said.{gives}
-use Rattle.key.specs.Keys.{key}
 use Rattle.kbm_build.specs.Builder.{builderOf, withOctave, fitsTable, Built, pushedAll, Appended, built, mapping, empty}
 use Rattle.kbm.specs.Root.{isRoot}
 use Rattle.kbm.specs.Table.{AreI16, areEntries, entriesOf, isTable, tableOf}
 use Rattle.kbm.specs.declared.Entry.{Entry}
 use Rattle.kbm.specs.declared.KbmRoot.{KbmRoot}
 use Rattle.kbm_build.specs.declared.KbmBuilder.{KbmBuilder}
-use Rattle.kbm_build.specs.declared.Octave.the-variants.{Given, Missing}
+use Rattle.kbm_build.specs.declared.Octave.the-variants.{Given}
 use Rattle.kbm_build.proofs.Appends.{run-appends}
 use Rattle.kbm_build.proofs.Pushes.{fitting}
 

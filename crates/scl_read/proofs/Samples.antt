@@ -13,7 +13,7 @@ use Rattle.decimals.specs.DecimalScan.{readDecimal}
 use Rattle.integers.specs.Integer.{scan, magnitudeOf, readSigned}
 use Rattle.listing.specs.Reader.{walkLines, givenAfter}
 use Rattle.numerals.specs.Scan.{runOf, spelled, scanOf}
-use Rattle.scl.specs.declared.Denom.the-variants.{Given, Lacking}
+use Rattle.scl.specs.declared.Denom.the-variants.{Given}
 use Rattle.scl.specs.declared.Item.the-variants.{Cents, Fraction}
 use Rattle.scl_item.specs.Tokens.{placeOf, itemIn}
 use Rattle.scl_tables.specs.Build.{isBeyond}
