@@ -1,0 +1,3 @@
+pub mod ItemsBack
+pub mod Described
+pub mod RoundTrip
