@@ -1,3 +1,4 @@
 pub mod ItemsBack
 pub mod Described
 pub mod RoundTrip
+pub mod Samples

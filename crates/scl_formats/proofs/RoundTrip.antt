@@ -65,7 +65,7 @@ module _ (d : List ℕ) (is : List Item) (list : List Entry) where
       }
 
   -- and what it says has come back
-  items-came : areUsable is ≡ true → ScaleText s d is list → Described d → ItemsBack is
+  pub items-came : areUsable is ≡ true → ScaleText s d is list → Described d → ItemsBack is
   unfolding selves
   items-came h t b =
       let e : t .says ≡ exportSays d is = sym (one-strict-text s (t .says) (t .text)) ∙ one-strict-text s (exportSays d is) (export-says d is b) in
