@@ -44,7 +44,7 @@ cents-dot c h =
     (signText (negative c) false ++ f .whole, f .part, f .text ∙ sym (append-assoc (signText (negative c) false) (f .whole) (46 ∷ f .part)))
 
 -- a printed number is a u32 without dot and slash
-free-digits : (b : ℕ) (t : List ℕ) → b < 48 → AllDigits t → Free b t
+pub free-digits : (b : ℕ) (t : List ℕ) → b < 48 → AllDigits t → Free b t
 free-digits b [] l a = tt
 free-digits b (c ∷ t) l a = (λ e. omega (arith, e, l, a .0), free-digits b t l (a .1))
 

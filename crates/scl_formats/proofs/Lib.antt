@@ -2,3 +2,5 @@ pub mod ItemsBack
 pub mod Described
 pub mod RoundTrip
 pub mod Samples
+pub mod Values
+pub mod Accepted
