@@ -47,7 +47,7 @@ use Rattle.scl_formats.proofs.Values.{value-word, value-item}
 
 -- ---- LINES of UTF-8 say their values
 -- each of the lines says its word
-abbrev AllSay : List (List ℕ) → List Line → Type 0
+abbrev pub AllSay : List (List ℕ) → List Line → Type 0
 AllSay [] [] = Unit {0}
 AllSay [] (w ∷ ws) = ⊥
 AllSay (l ∷ ls) [] = ⊥
@@ -108,7 +108,7 @@ notes (l ∷ ls) (p ∷ ps) u v w =
     record { words = record { whole = m; token = t } ∷ r .words; items = i ∷ r .items; say = (k, r .say); are = (x, r .are); same = (y, r .same) }
 
 -- there are as many items, and the last sounds as the last pitch value
-same-length : (ps : List P.Pitch) (is : List Item) → AllSame ps is → length is ≡ length ps
+pub same-length : (ps : List P.Pitch) (is : List Item) → AllSame ps is → length is ≡ length ps
 same-length [] [] s = refl
 same-length [] (i ∷ is) s = absurd s
 same-length (p ∷ ps) [] s = absurd s
@@ -131,7 +131,7 @@ ratio-at i j [] (x ∷ is) e s (suc k) = absurd s
 ratio-at i j (p ∷ ps) [] e s (suc k) = absurd s
 ratio-at i j (p ∷ ps) (x ∷ is) e s (suc k) = ratio-at x (heard p) ps is (same-ratio p x (s .0)) (s .1) k
 
-last-ratio : (ps : List P.Pitch) (is : List Item) → AllSame ps is → ratioOf (lastOf (implicit ∷ is)) ≡ ratioOf (lastOf (implicit ∷ allHeard ps))
+pub last-ratio : (ps : List P.Pitch) (is : List Item) → AllSame ps is → ratioOf (lastOf (implicit ∷ is)) ≡ ratioOf (lastOf (implicit ∷ allHeard ps))
 last-ratio ps is s =
     let e : length (implicit ∷ is) - 1 ≡ length (implicit ∷ allHeard ps) - 1 = omega (arith, same-length ps is s, heard-length ps) in
     rw e (ratio-at implicit implicit ps is refl s (length (implicit ∷ allHeard ps) - 1))

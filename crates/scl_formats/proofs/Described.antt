@@ -29,13 +29,13 @@ use Rattle.writing.proofs.Plain as plain
 use Rattle.scl_formats.specs.Again.{Described}
 
 -- ---- FROM A TEXT: what a line says of its trimmed part
-abbrev Part : List ℕ → Meaning → Type 0
+abbrev pub Part : List ℕ → Meaning → Type 0
 Part l invalid = Unit {0}
 Part l blank = Unit {0}
 Part l comment = Unit {0}
 Part l (content m t) = Trimmed WhiteSpace encode l m × (m ≡ [] → ⊥) × (Comment m → ⊥)
 
-part-of : (l : List ℕ) (x : Meaning) → reading.Line strict l x → Part l x
+pub part-of : (l : List ℕ) (x : Meaning) → reading.Line strict l x → Part l x
 part-of l x (reading.Line.not-text n e) = subst (Part l) (sym e) tt
 part-of l x (reading.Line.is-blank r t e) = subst (Part l) (sym e) tt
 part-of l x (reading.Line.is-comment r m t c e) = subst (Part l) (sym e) tt

@@ -4,3 +4,4 @@ pub mod RoundTrip
 pub mod Samples
 pub mod Values
 pub mod Accepted
+pub mod Agree
