@@ -117,7 +117,7 @@ stands-firm {l} {t} w s x y = elim (value-line l t x w s y) [
   | inr e ↦ inr (e .0, t, e .1)
 ]
 
-stands-token : {l t : List ℕ} {v : Line} → Word t → Stands l t → reading.Line strict l (content (v .whole) (v .token)) → v .token ≡ t
+pub stands-token : {l t : List ℕ} {v : Line} → Word t → Stands l t → reading.Line strict l (content (v .whole) (v .token)) → v .token ≡ t
 stands-token {l} {t} {v} w s y = elim (value-line l t (content (v .whole) (v .token)) w s y) [
   | inl e ↦ let z : _≡_ {A = ℕ} 0 1 = cc in absurd (omega arith)
   | inr e ↦ let q = e .1 in cc

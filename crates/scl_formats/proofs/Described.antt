@@ -72,23 +72,27 @@ left-trimmed : (l m : List ℕ) → Trimmed WhiteSpace encode l m → Trimmed Wh
 unfolding inBytes
 left-trimmed l m t = record { before = []; after = []; white-before = tt; white-after = tt; whole = sym (append-nil m); starts = t .starts; ends = t .ends }
 
--- so a description of the language that is UTF-8 is one that comes back
-pub text-described : {s d : List ℕ} {is : List Item} {list : List Entry} → ScaleText s d is list → Utf8 d → Described d
-text-described {s} {d} t u = go (t .lines .first) (t .lines .rest) (t .lines .words) (t .lines .values)
+-- the line of the description
+pub text-line : {s d : List ℕ} {is : List Item} {list : List Entry} → ScaleText s d is list → (l t : List ℕ) × NoLF l × Part l (content d t)
+text-line {s} {d} t = go (t .lines .first) (t .lines .rest) (t .lines .words) (t .lines .values)
   where
-    go : (first rest : List Line) → Words scale (t .says) (first ++ rest) → GiveAll scale required first (t .values) → Described d
+    go : (first rest : List Line) → Words scale (t .says) (first ++ rest) → GiveAll scale required first (t .values) → (l k : List ℕ) × NoLF l × Part l (content d k)
     go [] rest w g = absurd g
     go (v ∷ first) rest w g =
-        let (l, n, (r, b, c)) = first-content (t .text .parts) (t .says) v (first ++ rest) (t .text .each) (lines-free (t .text .lines)) w in
-        let e : v .whole ≡ d = sym (t .described ∙ g .0) in
-        let x : NoLF (v .whole) = free-part (inBytes encode (r .before)) (v .whole) (inBytes encode (r .after)) (subst NoLF (r .whole) n) in
-        record {
-          utf8 = u;
-          not-blank = subst (λ (k : List ℕ). k ≡ [] → ⊥) e b;
-          trimmed = subst (λ (k : List ℕ). Trimmed WhiteSpace encode k k) e (left-trimmed l (v .whole) r);
-          no-lf = subst NoLF e x;
-          no-mark = subst (λ (k : List ℕ). Comment k → ⊥) e c;
-        }
+        let (l, n, r) = first-content (t .text .parts) (t .says) v (first ++ rest) (t .text .each) (lines-free (t .text .lines)) w in
+        (l, v .token, n, subst (λ (x : List ℕ). Part l (content x (v .token))) (sym (t .described ∙ g .0)) r)
+
+-- so a description of the language that is UTF-8 is one that comes back
+pub text-described : {s d : List ℕ} {is : List Item} {list : List Entry} → ScaleText s d is list → Utf8 d → Described d
+text-described {s} {d} t u =
+    let (l, k, n, r) = text-line t in
+    record {
+      utf8 = u;
+      not-blank = r .1;
+      trimmed = left-trimmed l d (r .0);
+      no-lf = free-part (inBytes encode (r .0 .before)) d (inBytes encode (r .0 .after)) (subst NoLF (r .0 .whole) n);
+      no-mark = r .2;
+    }
 
 -- ---- TO A TEXT: a line of an export
 cr-last : (d : List ℕ) → EndsCR d → (t : List ℕ) × (d ≡ t ++ (13 ∷ []))

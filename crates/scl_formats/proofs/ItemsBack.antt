@@ -72,11 +72,11 @@ item-back (Fraction n Lacking) f h b =
     ItemText.whole (number-free n (f .0) 46 (omega arith)) (number-free n (f .0) 47 (omega arith)) n (number-reads n (f .0)) (p .0)
 
 -- and the other way round
-abbrev Decimal : List ℕ → Item → Type 0
+abbrev pub Decimal : List ℕ → Item → Type 0
 Decimal t (Cents c) = DecimalText t c
 Decimal t (Fraction n d) = Unit {0}
 
-decimal-of : {t : List ℕ} {i : Item} → ItemText t i → Decimal t i
+pub decimal-of : {t : List ℕ} {i : Item} → ItemText t i → Decimal t i
 decimal-of (ItemText.cents h v d u) = d
 decimal-of (ItemText.fraction a b s n d u v p q) = tt
 decimal-of (ItemText.whole f g n u p) = tt

@@ -5,3 +5,4 @@ pub mod Samples
 pub mod Values
 pub mod Accepted
 pub mod Agree
+pub mod Limits
