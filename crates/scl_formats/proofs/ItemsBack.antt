@@ -56,7 +56,7 @@ module _ (n : ℕ) (h : n < 2 ^ 32) where
   number-free b l = free-digits b (wholeText (pos n)) l (number-digits n (omega (arith, h)) .each)
 
 -- the item that comes back is the one that its text is
-item-back : (i : Item) → Held i → isUsable i ≡ true → ItemBack i → ItemText (itemText i) i
+pub item-back : (i : Item) → Held i → isUsable i ≡ true → ItemBack i → ItemText (itemText i) i
 item-back (Cents c) f h b = ItemText.cents (cents-dot c h) c (subst (DecimalText (textOf 3 false c)) b (cents-reads c h)) h
 item-back (Fraction n (Given d)) f h b =
     let p = usable-fraction n (Given d) h in

@@ -6,3 +6,5 @@ pub mod Values
 pub mod Accepted
 pub mod Agree
 pub mod Limits
+pub mod Both
+pub mod Parting

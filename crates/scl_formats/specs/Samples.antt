@@ -10,6 +10,7 @@ use Rattle.scl.specs.declared.Item.{Item}
 use Rattle.scl.specs.declared.Item.the-variants.{Cents, Fraction}
 use Rattle.scl_read.specs.Language.{ScaleText}
 use Rattle.scl_write.specs.Export.{scaleText}
+use Rattle.scl_write.specs.Published as P
 use Rattle.sorting.specs.Entries.{Entry}
 
 -- `a b`
@@ -38,3 +39,16 @@ pub record Back : Type 0 where
   pub space-lost : Again (97 ∷ 32 ∷ []) fifths → ⊥
   pub lf-lost : Again (97 ∷ 10 ∷ 98 ∷ []) fifths → ⊥
   pub mark-lost : Again (33 ∷ 97 ∷ []) fifths → ⊥
+
+-- A BLANK DESCRIPTION: nothing, `2`, `1`, `3/2`, each with LF. As published two notes, 1 and 3/2
+abbrev pub blankText : List ℕ
+blankText = 10 ∷ 50 ∷ 10 ∷ 49 ∷ 10 ∷ 51 ∷ 47 ∷ 50 ∷ 10 ∷ []
+
+abbrev pub blankScale : P.Scale
+blankScale = record { description = []; pitches = P.Pitch.ratio 1 1 ∷ P.Pitch.ratio 3 2 ∷ [] }
+
+-- THE PARTING: by document 01 the same text has the description `2` and one note, 3/2
+pub record Parting : Type 0 where
+  pub published : P.PublishedText blankText blankScale
+  pub list : List Entry
+  pub here : ScaleText blankText (50 ∷ []) (Fraction 3 (Given 2) ∷ []) list
