@@ -2,14 +2,12 @@
 -- one, trimmed. It is read where the tables have a place for each note and place 0. Assumes nothing.
 use mathlib.Core.Path.{_≡_, refl, sym, ap, _∙_, subst}
 use mathlib.Core.Bool.{Bool, true, false}
-use mathlib.Core.List.{List, [], _∷_, _++_}
-use mathlib.Core.Logic.{_⊎_, inl, inr}
+use mathlib.Core.List.{List, [], _∷_}
+use mathlib.Core.Logic.{inl, inr}
 use Prim.Native.Nat.{ℕ, zero, suc, _-_, _≤_, _<_}
 use native.Mathlib.Omega.{arith}
-use lib.IntN.{pos}
 use lib.ListN.{length, getD}
-use Rattle.base.specs.Numbers.{beyond-reach}
-use Rattle.base.specs.Said.{Said, gives, refuses, pick}
+use Rattle.base.specs.Said.{gives}
 use Rattle.floats.specs.Floats.{oneF}
 use Rattle.kbm_formats.specs.Limits.{AllUtf8}
 use Rattle.kbm_formats.proofs.Accepted.{is-text, whole-size}
@@ -25,7 +23,7 @@ use Rattle.scl_read.specs.Reader.{scaleRead, readOf, afterItems, afterSorted}
 use Rattle.scl_read.proofs.Ends.{lines-usable, lines-held, lines-sorted}
 use Rattle.scl_read.proofs.Language.{Reading, accepts}
 use Rattle.scl_read.proofs.Leaves.{leaves-items, leaves-list}
-use Rattle.scl_tables.specs.Build.{countOf, lastOf, sortedOf, scaleOf, isBeyond, afterList}
+use Rattle.scl_tables.specs.Build.{countOf, lastOf, scaleOf, isBeyond, afterList}
 use Rattle.scl_tables.specs.Room.{roomOf}
 use Rattle.scl_tables.proofs.Beyond.{scale-looks}
 use Rattle.scl_tables.proofs.Theorems.{beyond-reach-is}
@@ -39,7 +37,6 @@ use Rattle.text.proofs.LineLanguage.{strict-line}
 use Rattle.utf8.specs.Characters.{Utf8, encode}
 use Rattle.white.specs.White.{WhiteSpace, Trimmed}
 use Rattle.writing.specs.PublishedLines.{Kept, Stands}
-use Rattle.writing.specs.PublishedLines as published
 use Rattle.writing.proofs.Plain.{Word}
 use Rattle.scl_formats.specs.Agree.{Same, AllSame, Agree}
 use Rattle.scl_formats.specs.Limits.{AllWithin, heard, allHeard, WithinLimits}

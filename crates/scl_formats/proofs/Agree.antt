@@ -1,7 +1,7 @@
 -- TWO READINGS OF ONE TEXT: where a text of the published format, whose description is not blank and no comment after white space, is a
 -- scale file of document 01, both have the same notes, and 01 the description trimmed. Assumes nothing.
-use mathlib.Core.Path.{_≡_, refl, sym, ap, _∙_, subst}
-use mathlib.Core.Bool.{Bool, true, false}
+use mathlib.Core.Path.{_≡_, refl, sym, _∙_, subst}
+use mathlib.Core.Bool.{Bool, false}
 use mathlib.Core.List.{List, [], _∷_, _++_}
 use mathlib.Core.Logic.{_⊎_, inl, inr}
 use Prim.Native.Nat.{ℕ, _^_}
@@ -11,11 +11,11 @@ use lib.IntN.{pos}
 use Rattle.decimals.specs.DecimalText.{Form, Unsupported, DecimalText}
 use Rattle.decimals.proofs.Language.{gives-complete, leaves-complete, one-reading}
 use Rattle.integers.specs.IntegerText.{Digits}
-use Rattle.kbm_formats.proofs.Standing.{value-line, comment-line, no-cons}
+use Rattle.kbm_formats.proofs.Standing.{value-line, comment-line}
 use Rattle.kbm_formats.proofs.Values.{whole-agrees, whole-word}
 use Rattle.listing.specs.Listing.{Words, GiveAll, Entries}
 use Rattle.scl.specs.declared.Item.{Item}
-use Rattle.scl_item.specs.ItemText.{Has, Free, U32Text, Split, ItemText}
+use Rattle.scl_item.specs.ItemText.{Has, Free, U32Text, ItemText}
 use Rattle.scl_read.specs.Language.{Line, required, scale, Values, ScaleText}
 use Rattle.scl_write.specs.Published as P
 use Rattle.sorting.specs.Entries.{Entry}

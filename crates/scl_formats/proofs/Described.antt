@@ -10,7 +10,7 @@ use lib.ListN.{length, take}
 use Rattle.listing.specs.Listing.{Words, GiveAll}
 use Rattle.printing.specs.PrintText.{wholeText}
 use Rattle.scl.specs.declared.Item.{Item}
-use Rattle.scl_read.specs.Language.{Line, required, scale, Values, descriptionOf, ScaleText}
+use Rattle.scl_read.specs.Language.{Line, required, scale, ScaleText}
 use Rattle.scl_write.specs.Export.{itemTexts, scaleTexts, scaleText}
 use Rattle.scl_write.specs.Published.{OneLine}
 use Rattle.scl_write.proofs.ExportLines.{after-words, export-lines}
@@ -115,17 +115,17 @@ unfolding selves
 words-themselves [] w = tt
 words-themselves (t ∷ ts) w = (word-line t (w .0), words-themselves ts (w .1))
 
-module _ (d : List ℕ) (is : List Item) where
-  -- the description's token
-  abbrev pub tokenOf : List ℕ
-  tokenOf = take (tokenLength d) d
+-- the description's token
+abbrev pub tokenOf : List ℕ → List ℕ
+tokenOf d = take (tokenLength d) d
 
+module _ (d : List ℕ) (is : List Item) where
   abbrev after : List (List ℕ)
   after = wholeText (pos (length is)) ∷ itemTexts is
 
   -- what the lines say: the description, the count, the items
   abbrev pub exportSays : List Meaning
-  exportSays = content d tokenOf ∷ selves after
+  exportSays = content d (tokenOf d) ∷ selves after
 
   pub export-says : Described d → Says strict (scaleText d is) exportSays
   unfolding selves
@@ -133,5 +133,5 @@ module _ (d : List ℕ) (is : List Item) where
       record {
         parts = scaleTexts d is;
         lines = export-lines d is (one-line d b);
-        each = (reading.Line.says (b .utf8) d tokenOf (b .trimmed) (b .not-blank) (b .no-mark) (token d) refl, words-themselves after (after-words is));
+        each = (reading.Line.says (b .utf8) d (tokenOf d) (b .trimmed) (b .not-blank) (b .no-mark) (token d) refl, words-themselves after (after-words is));
       }

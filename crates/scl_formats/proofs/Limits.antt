@@ -1,15 +1,14 @@
 -- THE LIMITS ARE NEEDED: a published text that is in document 01's language with that meaning is within them; so the limits are exact.
 -- Assumes nothing.
-use mathlib.Core.Path.{_≡_, refl, sym, ap, _∙_, subst}
-use mathlib.Core.Bool.{Bool, true}
+use mathlib.Core.Path.{_≡_, sym, _∙_, subst}
+use mathlib.Core.Bool.{Bool}
 use mathlib.Core.List.{List, [], _∷_, _++_}
 use mathlib.Core.Logic.{_↔_}
-use Prim.Native.Nat.{ℕ, _^_, _≤_, _<_}
+use Prim.Native.Nat.{ℕ, _^_, _<_}
 use native.Mathlib.Omega.{arith}
 use lib.ListN.{length}
 use Rattle.base.proofs.Said.{no-value}
 use Rattle.decimals.specs.DecimalText.{Unsupported, fromNonzero}
-use Rattle.integers.specs.IntegerText.{IntText}
 use Rattle.kbm_formats.specs.Limits.{AllUtf8}
 use Rattle.kbm_formats.proofs.Limits.{no-minus, at-most}
 use Rattle.kbm_formats.proofs.Values.{whole-word}
@@ -31,7 +30,7 @@ use Rattle.text.proofs.LinesLanguage.{one-lines}
 use Rattle.utf8.specs.Characters.{Utf8, encode}
 use Rattle.white.specs.White.{WhiteSpace, Trimmed}
 use Rattle.white.proofs.TrimLanguage.{one-trimmed}
-use Rattle.scl_formats.specs.Agree.{Same, AllSame, Agree}
+use Rattle.scl_formats.specs.Agree.{Same, Agree}
 use Rattle.scl_formats.specs.Limits.{ValueWithin, AllWithin, WithinLimits}
 use Rattle.scl_formats.proofs.Accepted.{AllSay, same-length, last-ratio, published-accepted}
 use Rattle.scl_formats.proofs.Agree.{cents-supported, value-agrees, stands-token, words-read}

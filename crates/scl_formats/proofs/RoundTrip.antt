@@ -18,7 +18,7 @@ use Rattle.scl.specs.Table.{ItemTable, implicit, itemsIn, areUsable, isItems}
 use Rattle.scl.specs.declared.Item.{Item}
 use Rattle.scl.specs.declared.Scl.{Scl}
 use Rattle.scl.proofs.Table.{items-are}
-use Rattle.scl_read.specs.Language.{Line, required, scale, Values, ScaleText}
+use Rattle.scl_read.specs.Language.{Line, required, scale, ScaleText}
 use Rattle.scl_read.specs.Reader.{scaleRead, readOf, afterItems, afterSorted}
 use Rattle.scl_read.proofs.Language.{Reading, accepts}
 use Rattle.scl_read.proofs.Leaves.{leaves-items, leaves-list}
@@ -52,7 +52,7 @@ module _ (d : List ℕ) (is : List Item) (list : List Entry) where
         text = export-says d is (c .described);
         values = (d, (length is, tt));
         lines = record {
-          first = record { whole = d; token = tokenOf d is } ∷ record { whole = wholeText (pos (length is)); token = wholeText (pos (length is)) } ∷ [];
+          first = record { whole = d; token = tokenOf d } ∷ record { whole = wholeText (pos (length is)); token = wholeText (pos (length is)) } ∷ [];
           rest = wordsOf (itemTexts is);
           words = (refl, (refl, words-of (itemTexts is)));
           values = (refl, (size-reads (2 ^ 16) (length is) (omega (arith, l)) (lit< tt), tt));

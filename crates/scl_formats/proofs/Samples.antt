@@ -1,34 +1,32 @@
 -- The samples of the round trip, by the theorem and computation. Assumes nothing.
 use mathlib.Core.Path.{_≡_, refl, sym, _∙_, ap}
 use mathlib.Core.Bool.{true, false}
-use mathlib.Core.List.{List, [], _∷_, _++_}
+use mathlib.Core.List.{List, [], _∷_}
 use mathlib.Core.Logic.{inl, inr}
 use Prim.Native.Nat.{ℕ}
 use native.Mathlib.Omega.{arith}
 use lib.Dec.{lit<, lit≤}
 use lib.Ieee.{Float, binary64, round, size, ofBits, ofInt, div, le, lt, eq, neg, fits}
-use lib.ListN.{length}
 use Rattle.base.specs.Said.{gives}
 use Rattle.floats.specs.Units.{negative}
 use Rattle.explog.specs.Log.{bOf, yOf}
 use Rattle.explog.specs.Rules.{L, logOf, logAt, ratioOf}
 use Rattle.scl.specs.Items.{AllHeld}
 use Rattle.scl.specs.Table.{implicit, areUsable}
-use Rattle.scl.specs.declared.Item.{Item}
 use Rattle.scl_read.proofs.Usable.{implicit-usable, implicit-held}
 use Rattle.scl_tables.specs.Build.{scaleOf, isBeyond}
 use Rattle.scl_tables.proofs.Beyond.{scale-looks}
 use Rattle.scl_tables.proofs.Theorems.{list-given}
 use Rattle.scl_write.specs.Export.{itemTexts}
 use Rattle.sorting.specs.Entries.{Entry}
-use Rattle.utf8.specs.Characters.{Utf8, encode}
+use Rattle.utf8.specs.Characters.{Utf8}
 use Rattle.utf8.specs.Utf8Machine.{leadOf, utf8Step, utf8From}
 use Rattle.utf8.proofs.Utf8Language.{accepts}
 use Rattle.utf8.proofs.Encodings.{enc1}
 use Rattle.white.specs.Trim.{widthBy, run}
 use Rattle.white.proofs.TrimLanguage.{trimmed}
 use Rattle.writing.specs.Lines.{linesText}
-use Rattle.scl_formats.specs.Again.{Described, ComesBack}
+use Rattle.scl_formats.specs.Again.{Described}
 use Rattle.scl_formats.specs.Samples.{words, fifths, sixteenth, Again, Back}
 use Rattle.scl_formats.proofs.RoundTrip.{items-came, round-trip}
 use Rattle.scl_formats.proofs.Described.{text-described}

@@ -1,14 +1,13 @@
 -- PITCH VALUES AS PUBLISHED, read by document 01: each is a word, and within the limits it is the item that it says. Assumes nothing.
-use mathlib.Core.Path.{_≡_, refl, sym, ap, _∙_, subst}
+use mathlib.Core.Path.{_≡_, refl, sym, subst}
 use mathlib.Core.Bool.{Bool, true, false}
-use mathlib.Core.List.{List, [], _∷_, _++_}
+use mathlib.Core.List.{List, _∷_, _++_}
 use mathlib.Core.Logic.{_⊎_, inl, inr}
-use Prim.Native.Nat.{ℕ, _^_, _≤_, _<_}
+use Prim.Native.Nat.{ℕ, _^_, _≤_}
 use native.Mathlib.Omega.{arith}
-use lib.Ieee.{Float, round, binary64}
-use lib.IntN.{pos}
+use lib.Ieee.{round, binary64}
 use lib.ListN.{length, length-append}
-use Rattle.decimals.specs.DecimalText.{OptionalSign, DottedDigits, Form, FloatText, Unsupported, DecimalText, fromNonzero}
+use Rattle.decimals.specs.DecimalText.{OptionalSign, Form, FloatText, Unsupported, DecimalText, fromNonzero}
 use Rattle.integers.specs.Digits.{AllDigits}
 use Rattle.integers.specs.IntegerText.{Digits, IntText}
 use Rattle.kbm_formats.proofs.Values.{digits-plain}
