@@ -47,7 +47,7 @@ not-comment : {A : Type 0} → _≡_ {A = Meaning} invalid comment → A
 not-comment e = let z : _≡_ {A = ℕ} 0 1 = cc in absurd (omega arith)
 
 -- UTF-8 is text
-is-text : (l : List ℕ) (x : Meaning) → Utf8 l → Line strict l x → x ≡ invalid → ⊥
+pub is-text : (l : List ℕ) (x : Meaning) → Utf8 l → Line strict l x → x ≡ invalid → ⊥
 is-text l x u (Line.not-text n e) p = n u
 is-text l x u (Line.is-blank r y e) p = not-blank (sym p ∙ e)
 is-text l x u (Line.is-comment r m y d e) p = not-comment (sym p ∙ e)
@@ -90,7 +90,7 @@ whole-integer {z = z} top most l h (P.Whole.minus u (suc n) q d e) =
     let c : n ≤ most = leb-true n most (is-true _ (rw e at b)) in
     IntText.minus u (suc n) refl q d (omega arith) e
 
-whole-size : {t : List ℕ} {n : ℕ} → n ≤ 65535 → ((u : List ℕ) → t ≡ 45 ∷ u → ⊥) → P.Whole t (pos n) → IntText false (2 ^ 16) t (pos n)
+pub whole-size : {t : List ℕ} {n : ℕ} → n ≤ 65535 → ((u : List ℕ) → t ≡ 45 ∷ u → ⊥) → P.Whole t (pos n) → IntText false (2 ^ 16) t (pos n)
 whole-size {n = n} h f (P.Whole.plain k d e) = let c : n ≡ k = cc in IntText.plain k d (omega arith) e
 whole-size h f (P.Whole.minus u k q d e) = absurd (f u q)
 

@@ -38,7 +38,7 @@ all-text (l ∷ ls) (x ∷ xs) e ts t = go x (e .0) ts t (λ us u. all-text ls x
     go y (Line.says r m v a o n w q) (c ∷ us) u more = (r, more us (subst (λ (z : Meaning). Tokens (z ∷ xs) (c ∷ us)) q u .1))
 
 -- an integer without a sign has no `-`
-no-minus : {t u : List ℕ} {top : ℕ} {z : ℤ} → IntText false top t z → t ≡ 45 ∷ u → ⊥
+pub no-minus : {t u : List ℕ} {top : ℕ} {z : ℤ} → IntText false top t z → t ≡ 45 ∷ u → ⊥
 no-minus (IntText.plain n d h e) q = not-digits (λ a b. omega arith) q d
 no-minus (IntText.plus v n s d h e) q = let x : _≡_ {A = ℕ} 43 45 = cc in omega arith
 no-minus (IntText.minus v n g s d h e) q = let x : _≡_ {A = ℕ} 0 1 = cc in omega arith
@@ -49,7 +49,7 @@ small {n = n} (IntText.plain k d h e) = let x : n ≡ k = cc in omega arith
 small {n = n} (IntText.plus v k s d h e) = let x : n ≡ k = cc in omega arith
 small (IntText.minus v k g s d h e) = let x : _≡_ {A = ℕ} 0 1 = cc in absurd (omega arith)
 
-at-most : (a b : ℕ) → (b < a → ⊥) → a ≤ b
+pub at-most : (a b : ℕ) → (b < a → ⊥) → a ≤ b
 at-most a b f = elim (split b a) [
   | inl h ↦ absurd (f h)
   | inr h ↦ h

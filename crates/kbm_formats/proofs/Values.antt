@@ -80,7 +80,7 @@ degree-agrees t e f (P.Degree.degree z w) (EntryText.large q) = absurd (letter-w
 degree-agrees t e f (P.Degree.degree z w) (EntryText.degree y i) = ap Mapped (whole-agrees true (2 ^ 15) t z y w i)
 
 -- VALUES ARE WORDS
-digits-plain : (s : List ℕ) → AllDigits s → Each Plain s
+pub digits-plain : (s : List ℕ) → AllDigits s → Each Plain s
 digits-plain [] d = tt
 digits-plain (b ∷ s) d = ((omega (arith, d .0), omega (arith, d .0)), digits-plain s (d .1))
 
