@@ -83,7 +83,7 @@ split-at t a b e x y = record {
 pub value-item : {t : List ℕ} {p : P.Pitch} (v : P.Value t p) → ValueWithin v → (i : Item) × ItemText t i × Same p i
 value-item (P.Value.cents {minus} {n} {k} x) w =
     let c = round binary64 minus n (10 ^ k) in
-    (Cents c, ItemText.cents (cents-dot x) c (cents-decimal x (w .0) (w .1)) (w .2), refl)
+    (Cents c, ItemText.cents (cents-dot x) c (cents-decimal x (w .0) (omega (arith, w .1))) (w .2), refl)
 value-item {t} (P.Value.ratio a b n d e x y p q) w =
     (Fraction n (Given d), ItemText.fraction a b (split-at t a b e x y) n d (IntText.plain n x (w .0) refl) (IntText.plain d y (w .1) refl) p q, (refl, refl))
 value-item {t} (P.Value.whole n x p) w =
