@@ -28,7 +28,7 @@ fn shortest(calls: &mut [&mut dyn FnMut()]) -> Vec<Duration> {
 /// A line: what it is, the time of one call of ours, and ours over each of the others.
 fn line(name: &str, calls: usize, times: &[Duration], others: &[&str]) {
     let ours = times[0].as_secs_f64();
-    print!("{name:<34} {:>9.1} ns a call", ours * 1e9 / calls as f64);
+    print!("{name:<40} {:>9.1} ns a call", ours * 1e9 / calls as f64);
     for (time, other) in times[1..].iter().zip(others) {
         print!("   {:>5.2} x {other}", ours / time.as_secs_f64());
     }

@@ -17,6 +17,7 @@ mod floats;
 mod freeze;
 mod freeze_kbm;
 mod freeze_numbers;
+mod freeze_scl;
 mod freeze_text;
 mod inputs;
 mod kbm_build;
