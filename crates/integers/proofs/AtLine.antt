@@ -12,9 +12,9 @@ use borrow.Author.Tests.{le-leb}
 use Rattle.base.specs.Said.{Said, gives, refuses, andThen}
 use Rattle.base.proofs.Pick.{true-not-false}
 use Rattle.base.proofs.Said.{same-value, no-value, no-refusal, same-refuses}
-use Rattle.integers.specs.AtLine.{NoInteger, intAt}
+use Rattle.integers.specs.AtLine.{intAt}
 use Rattle.integers.specs.Integer.{Int, value, none, readInt}
-use Rattle.integers.specs.IntegerText.{IntText}
+use Rattle.integers.specs.IntegerText.{IntText, NoInteger}
 use Rattle.integers.proofs.Language.{sound, complete}
 use Rattle.integers.proofs.Theorems.{refused}
 

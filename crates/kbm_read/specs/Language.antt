@@ -15,8 +15,7 @@ use Rattle.kbm.specs.declared.Entry.the-variants.{Mapped, Unmapped}
 use Rattle.kbm.specs.declared.Kbm.{Kbm}
 use Rattle.key.specs.Keys.{key}
 use Rattle.decimals.specs.DecimalText.{Form, FloatText, UnsupportedText, DecimalText}
-use Rattle.integers.specs.AtLine.{NoInteger}
-use Rattle.integers.specs.IntegerText.{IntText}
+use Rattle.integers.specs.IntegerText.{IntText, NoInteger}
 use Rattle.listing.specs.Listing.{Format}
 use Rattle.listing.specs.Listing as listing
 use Rattle.text.specs.Reading.{Meaning, Says, strict}

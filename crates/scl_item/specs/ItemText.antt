@@ -10,8 +10,7 @@ use lib.Ieee.{Float}
 use lib.IntN.{ℤ, pos}
 use Rattle.base.specs.Numbers.{int-value, cents-value, numer-value, denom-value, unsupported-numeral, unusable}
 use Rattle.decimals.specs.DecimalText.{Form, FloatText, UnsupportedText, DecimalText}
-use Rattle.integers.specs.AtLine.{NoInteger}
-use Rattle.integers.specs.IntegerText.{IntText}
+use Rattle.integers.specs.IntegerText.{IntText, NoInteger}
 use Rattle.scl.specs.Items.{isUsableCents}
 use Rattle.scl.specs.declared.Denom.the-variants.{Given, Lacking}
 use Rattle.scl.specs.declared.Item.{Item}

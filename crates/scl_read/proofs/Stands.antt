@@ -13,9 +13,9 @@ use Rattle.base.specs.Numbers.{int-value, line-missing, no-room, too-large, inc
 use Rattle.base.specs.Said.{Said, gives, refuses, pick, andThen}
 use Rattle.base.proofs.Said.{same-value, no-value, no-refusal, same-refuses}
 use Rattle.integers.proofs.AtLine.{int-gives, gives-int, refuses-int, int-wrong, unsigned}
-use Rattle.integers.specs.AtLine.{NoInteger, intAt}
+use Rattle.integers.specs.AtLine.{intAt}
 use Rattle.integers.specs.Integer.{Int, value, none, readInt}
-use Rattle.integers.specs.IntegerText.{IntText}
+use Rattle.integers.specs.IntegerText.{IntText, NoInteger}
 use Rattle.listing.proofs.Given.{Alike}
 use Rattle.listing.proofs.Given as walks
 use Rattle.listing.proofs.Language.{atStart}

@@ -9,8 +9,7 @@ use lib.IntN.{pos}
 use lib.ListN.{length}
 use Rattle.base.specs.Numbers.{int-value, no-room, too-large, inconsistent-count, beyond-reach}
 use Rattle.base.specs.Said.{gives, refuses}
-use Rattle.integers.specs.AtLine.{NoInteger}
-use Rattle.integers.specs.IntegerText.{IntText}
+use Rattle.integers.specs.IntegerText.{IntText, NoInteger}
 use Rattle.listing.specs.Listing.{Format}
 use Rattle.listing.specs.Listing as listing
 use Rattle.scl.specs.Table.{implicit}
