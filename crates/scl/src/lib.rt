@@ -94,7 +94,7 @@ impl Item {
         }
     }
 
-    // The item as a ratio; 18 for one that is not usable, never for one that is.
+    // The item as a ratio; 18 where that is out of reach, never for an item that can be used.
     pub fn as_ratio(self) -> RatioAnswer
         ensures { λ r. ⌜ saysRatio r ≡ ratioOf self ⌝ }
     {
