@@ -46,6 +46,18 @@ extern "C" {
 #define TELBIJAN_UNMAPPED_KEY 17 /* the key is unmapped */
 #define TELBIJAN_BEYOND_REACH 18 /* a computed pitch or ratio is outside 2^-900..2^900 */
 
+/* A scale is seven columns, each lent with its length, and `count` beside them. Four columns hold the items, place for place: `kind`,
+ * `cents`, `numer`, `denom`. Place 0 holds the implicit 0.0 cents, item j stands at place j, and the last item is the period. The
+ * kind says which numbers count; the others are stored as 0. Cents are usable from -38400 to 38400, a numerator and a denominator
+ * from 1 on; a table with any other item or kind among its `count` + 1 first places is refused (10).
+ * Three columns hold the sorted list: `place`, `ratio`, `wraps`. It has `count` + 1 entries in the order of their ratios: the place of
+ * the item, its ratio reduced by the period, and how many periods that took away. The shortest of the seven columns is the
+ * room of a scale, place 0 counted: for n items each column needs n + 1 places.
+ */
+#define TELBIJAN_CENTS 0    /* the item `cents` */
+#define TELBIJAN_FRACTION 1 /* the item `numer` / `denom` */
+#define TELBIJAN_WHOLE 2    /* the item `numer`, an integer: a fraction whose denominator is lacking */
+
 /* A mapping is a table of entries, `map`, lent with its length, and numbers beside it: `count` entries from the table's first
  * place on; keys from `start` up to, not including, `end` (the last key is end - 1); the `reference` key, and its pitch `hz`;
  * `offset`, the middle key minus the reference key; `octave`, how many degrees make a formal octave. An entry is the degree of
@@ -154,6 +166,39 @@ uint64_t telbijan_ratio_total_cmp(double value, double other, int32_t *order);
 /* The nearest fraction that the walk finds within the odd limit, octaves taken off: numer, denom, deviation and octaves are
    stored; 10 outside 2^-64..2^64. */
 uint64_t telbijan_ratio_nearest_fraction(double value, uint16_t limit, uint16_t *numer, uint16_t *denom, double *deviation, int32_t *octaves);
+
+/* ---- Scales for C: seven lent columns, the items' four and the sorted list's three, and beside them the count of items. */
+
+/* The ratio of an item, stored: 18 for an unknown kind, and where the ratio lies outside 2^-900..2^900; never for a usable item. */
+uint64_t telbijan_item_as_ratio(uint8_t kind, double cents, uint32_t numer, uint32_t denom, double *ratio);
+
+/* A scale file, read: its items go to the places after place 0, which gets the implicit 0.0 cents, and their sorted list to the
+   first places of the list; the places behind keep their values. Stored are the count of items, and where the description starts
+   and ends in the text. The refusals are 1, 3, 4, 5, 6, 9, 10 and 12 with their line; 2 with which required line is missing (1
+   description, 2 count); 13, 14 and 18 with 0, after the last line; and 12 with 0, first, where a column has no place. */
+uint64_t telbijan_read_scl(const uint8_t *text, size_t text_length, uint8_t *kind, size_t kind_length, double *cents, size_t cents_length, uint32_t *numer, size_t numer_length, uint32_t *denom, size_t denom_length, uint32_t *place, size_t place_length, double *ratio, size_t ratio_length, int32_t *wraps, size_t wraps_length, uint16_t *count, size_t *start, size_t *end);
+
+/* A builder with nothing pushed: place 0 gets the implicit 0.0 cents, and the room is stored, the places of the shortest column; the
+   count is 0. 12 where a column has no place. The list's columns are only measured. */
+uint64_t telbijan_new_scl(uint8_t *kind, size_t kind_length, double *cents, size_t cents_length, uint32_t *numer, size_t numer_length, uint32_t *denom, size_t denom_length, const uint32_t *place, size_t place_length, const double *ratio, size_t ratio_length, const int32_t *wraps, size_t wraps_length, size_t *room);
+
+/* One item in cents more, at place `count` + 1 of columns of `room` places; the new count is stored. 10 for a room or count that is
+   not the columns', and for cents outside -38400..38400; 12 with no place left. */
+uint64_t telbijan_push_cents(uint8_t *kind, size_t kind_length, double *cents, size_t cents_length, uint32_t *numer, size_t numer_length, uint32_t *denom, size_t denom_length, size_t room, size_t count, double value, size_t *after);
+
+/* One ratio more, kept as its cents, in the same way; 10 for a ratio outside 2^-900..2^900 too. */
+uint64_t telbijan_push_ratio(uint8_t *kind, size_t kind_length, double *cents, size_t cents_length, uint32_t *numer, size_t numer_length, uint32_t *denom, size_t denom_length, size_t room, size_t count, double value, size_t *after);
+
+/* One integer more, a fraction whose denominator is lacking, in the same way; 10 for 0. */
+uint64_t telbijan_push_int(uint8_t *kind, size_t kind_length, double *cents, size_t cents_length, uint32_t *numer, size_t numer_length, uint32_t *denom, size_t denom_length, size_t room, size_t count, uint32_t value, size_t *after);
+
+/* One fraction more, in the same way; 10 where either number is 0. */
+uint64_t telbijan_push_fraction(uint8_t *kind, size_t kind_length, double *cents, size_t cents_length, uint32_t *numer, size_t numer_length, uint32_t *denom, size_t denom_length, size_t room, size_t count, uint32_t above, uint32_t below, size_t *after);
+
+/* The scale of the items that were pushed: its sorted list goes to the first `count` + 1 places of the list, and the count of items
+   is stored; the items stay. 10 for a state or an item that cannot be used, 13 over 65,535 items, 18 where two or more items
+   have the period 1.0. */
+uint64_t telbijan_build_scl(const uint8_t *kind, size_t kind_length, const double *cents, size_t cents_length, const uint32_t *numer, size_t numer_length, const uint32_t *denom, size_t denom_length, uint32_t *place, size_t place_length, double *ratio, size_t ratio_length, int32_t *wraps, size_t wraps_length, size_t room, size_t count, uint16_t *items);
 
 /* ---- Keyboard mappings for C: a lent table of entries, and beside it the mapping's numbers. An entry is a degree from -32768 to 32767, or -2147483648 for none. */
 

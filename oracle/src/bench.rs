@@ -3,7 +3,8 @@
 
 use crate::lent::Float;
 use crate::probe;
-use crate::{ffi, ffi_kbm};
+use crate::ffi_scl::{self, Columns, Push};
+use crate::{ffi, ffi_kbm, rust_scl, scl_read};
 use crate::inputs::Random;
 use std::hint::black_box;
 use std::time::{Duration, Instant};
@@ -27,7 +28,7 @@ fn shortest(calls: &mut [&mut dyn FnMut()]) -> Vec<Duration> {
 /// A line: what it is, the time of one call of ours, and ours over each of the others.
 fn line(name: &str, calls: usize, times: &[Duration], others: &[&str]) {
     let ours = times[0].as_secs_f64();
-    print!("{name:<34} {:>9.1} ns a call", ours * 1e9 / calls as f64);
+    print!("{name:<40} {:>9.1} ns a call", ours * 1e9 / calls as f64);
     for (time, other) in times[1..].iter().zip(others) {
         print!("   {:>5.2} x {other}", ours / time.as_secs_f64());
     }
@@ -180,11 +181,77 @@ fn mappings() {
     line("write a mapping, an entry of 65,535", 65_535, &times, &["the Rust"]);
 }
 
+/// The Rust on the second E and L, and with its own exp2 and log2.
+fn untouched(call: impl FnOnce()) {
+    powers::use_untouched(true);
+    call();
+    powers::use_untouched(false);
+}
+
+const RUSTS: [&str; 2] = ["the Rust on E and L with u128", "the Rust untouched"];
+
+/// Reading a scale file, a note: one as in use, many times over, and the longest.
+fn scale_files() {
+    let small = scl_read::FILES[0].as_bytes().to_vec();
+    let few = scl_read::FILES[2].as_bytes().to_vec();
+    for (name, text, notes, times) in [("read a scale of 12 notes", small, 12, 1000), ("read a scale of 13 notes, in cents", few, 13, 1000), ("read a scale, a note of 65,535", scl_read::long(65_535, 65_535), 65_535, 1)] {
+        let mut columns = Columns::new([notes + 1; 7]);
+        let read = || drop(black_box(tune::scala::Scl::import(&text[..]).unwrap()));
+        let took = shortest(&mut [
+            &mut || (0..times).for_each(|_| { black_box(ffi_scl::read_scl(&text, &mut columns)); }),
+            &mut || (0..times).for_each(|_| read()),
+            &mut || untouched(|| (0..times).for_each(|_| read())),
+        ]);
+        line(name, if times == 1 { notes } else { times }, &took, &RUSTS);
+    }
+}
+
+/// Orders in which items come: as they sort, and ways to make that hard.
+fn orders(items: usize) -> [(&'static str, Vec<Push>); 5] {
+    let n = items as f64;
+    let all = |at: &dyn Fn(usize) -> usize| (1..=items).map(|k| if k == items { Push::Int(2) } else { Push::Cents(1200.0 * at(k) as f64 / n) }).collect::<Vec<_>>();
+    [
+        ("in order", all(&|k| k)),
+        ("descending", all(&|k| items - k)),
+        ("interleaved", all(&|k| if k % 2 == 0 { k / 2 } else { items - 1 - k / 2 })),
+        ("one out of order", all(&|k| if k == 1 { items - 1 } else { k - 1 })),
+        ("at random", all(&|k| k * 40_503 % 65_537 * items / 65_537)),
+    ]
+}
+
+fn builds() {
+    for items in [4_096, 16_384, 65_535] {
+        for (order, pushes) in orders(items) {
+            let mut columns = Columns::new([items + 1; 7]);
+            let mut ready = columns.clone();
+            let fill = |columns: &mut Columns| {
+                let (_, room) = ffi_scl::new_scl(columns);
+                pushes.iter().enumerate().for_each(|(k, &push)| { black_box(ffi_scl::push(columns, room, k, push)); });
+                room
+            };
+            let room = fill(&mut ready);
+            let build = || drop(black_box(rust_scl::pushes(&pushes).build_with_description("").unwrap()));
+            let took = shortest(&mut [
+                &mut || {
+                    let room = fill(&mut columns);
+                    black_box(ffi_scl::build_scl(&mut columns, room, items));
+                },
+                &mut || build(),
+                &mut || untouched(build),
+                &mut || { black_box(ffi_scl::build_scl(&mut ready, room, items)); },
+            ]);
+            line(&format!("build {items}, {order}, an item"), items, &took, &[RUSTS[0], RUSTS[1], "its build without the pushes"]);
+        }
+    }
+}
+
 pub fn bench() {
     exponents_and_values();
     fractions();
     texts();
     comments();
+    scale_files();
+    builds();
     degrees();
     mappings();
 }

@@ -2,6 +2,7 @@
 //! does. `oracle differences` prints the rows as a table. The Rust runs with its own exp2 and log2 here.
 
 use crate::differences_kbm::mappings;
+use crate::differences_scl::scales;
 use crate::ffi::{self, one, two};
 use crate::lent::Float;
 use crate::pitch::ratio;
@@ -160,7 +161,7 @@ fn our_fraction(x: f64, limit: u16) -> String {
 }
 
 fn rows() -> Vec<Row> {
-    [integers(), powers(), made(), of_zero(), of_two(), alike(), mappings()].into_iter().flatten().collect()
+    [integers(), powers(), made(), of_zero(), of_two(), alike(), scales(), mappings()].into_iter().flatten().collect()
 }
 
 pub fn compare(all: &mut Report) {

@@ -1,10 +1,10 @@
-//! Freezes answers into the lists that the programs `replay`, `replay_pitch`, `replay_text` and `replay_kbm` compare with the proved
+//! Freezes answers into the lists that the programs `replay` and `replay_..` compare with the proved
 //! library, so that `rt ci` needs no Rust: `oracle freeze CRATES` writes stdin and stdout of each. The crate `frozen` says how a
 //! line is written, and reads it.
 
 use crate::lent::Float;
 use crate::tally::{Code, Said, Who};
-use crate::{freeze_kbm, freeze_numbers, freeze_text};
+use crate::{freeze_kbm, freeze_numbers, freeze_scl, freeze_text};
 use std::fs;
 use std::io::{Error, Result};
 
@@ -71,6 +71,7 @@ pub fn freeze(crates: &str) -> Result<()> {
         ("replay", freeze_numbers::integers as fn(&mut List)),
         ("replay_pitch", freeze_numbers::pitches),
         ("replay_text", freeze_text::texts),
+        ("replay_scl", freeze_scl::scales),
         ("replay_kbm", freeze_kbm::mappings),
     ] {
         let mut list = List { lines: Vec::new() };

@@ -26,7 +26,8 @@ fn lines(list: &mut List) {
             let said = texts::their_line(&text, from, to);
             let shown = match (said.code, said.value) {
                 (Code::ACCEPTED, Line::Content { start, end, token }) => format!("{start} {end} {token}"),
-                (Code::ACCEPTED, Line::None) => "dropped".to_string(),
+                (Code::ACCEPTED, Line::Blank) => "blank".to_string(),
+                (Code::ACCEPTED, Line::Comment) => "comment".to_string(),
                 _ => "not_utf8".to_string(),
             };
             list.push(&format!("says {} {from} {to}", hex(&text)), Said::gives(said.who, shown), |shown| shown);

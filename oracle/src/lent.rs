@@ -21,6 +21,15 @@ thread_local! {
     static TURN: Cell<usize> = const { Cell::new(0) };
 }
 
+/// So many patterns for a lent column of floats, the first of them another one each time.
+pub fn column(length: usize) -> Vec<u64> {
+    let from = TURN.with(|turn| {
+        turn.set((turn.get() + 1) % OLD.len());
+        turn.get()
+    });
+    (0..length).map(|k| OLD[(from + k) % OLD.len()]).collect()
+}
+
 /// What stands where a float was lent.
 #[derive(Clone, Copy, Debug, Eq, PartialEq)]
 pub enum Float {

@@ -32,10 +32,12 @@ pub fn next_line(source: &[u8], at: usize) -> (usize, usize) {
     (end, next)
 }
 
-/// What a line says: nothing where it is dropped or no UTF-8.
+/// What a line says: nothing where it is no UTF-8.
 #[derive(Debug, Eq, PartialEq)]
 pub enum Line {
     None,
+    Blank,
+    Comment,
     Content { start: usize, end: usize, token: usize },
 }
 
@@ -44,8 +46,11 @@ const OLD: usize = 0x5AA5_A55A;
 pub fn read_line(source: &[u8], from: usize, to: usize) -> (Code, Line) {
     let (mut start, mut end, mut token) = (OLD, OLD, OLD);
     let says = unsafe { probe_read_line(source.as_ptr(), source.len(), from, to, &mut start, &mut end, &mut token) };
+    let kept = (start, end, token) == (OLD, OLD, OLD);
     match says {
-        0 | 1 if (start, end, token) == (OLD, OLD, OLD) => (Code(1 - u64::from(says)), Line::None),
+        0 if kept => (Code(1), Line::None),
+        1 if kept => (Code::ACCEPTED, Line::Blank),
+        2 if kept => (Code::ACCEPTED, Line::Comment),
         _ => (Code::ACCEPTED, Line::Content { start, end, token }),
     }
 }

@@ -77,8 +77,11 @@ pub fn their_line(text: &[u8], from: usize, to: usize) -> Said<Line> {
         return Said::refused(Who::Rust, 1, 0, Line::None);
     };
     let trimmed = line.trim();
-    if trimmed.is_empty() || trimmed.starts_with('!') {
-        return Said::gives(Who::Rust, Line::None);
+    if trimmed.is_empty() {
+        return Said::gives(Who::Rust, Line::Blank);
+    }
+    if trimmed.starts_with('!') {
+        return Said::gives(Who::Rust, Line::Comment);
     }
     let start = trimmed.as_ptr() as usize - text.as_ptr() as usize;
     let token = trimmed.split_ascii_whitespace().next().unwrap_or("");

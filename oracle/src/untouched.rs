@@ -3,7 +3,7 @@
 
 use crate::pitch::{self, ONES, One, TWOS, Two, ratio};
 use crate::tally::Code;
-use crate::{lent::Float, powers};
+use crate::{lent::Float, powers, rules_scl, rust_scl, scl_build};
 use tune::powers::use_untouched;
 
 /// How far answers are apart: the most in absolute terms, relative to ours, and in units of the last place.
@@ -78,6 +78,28 @@ fn nearest() {
     println!("nearest_fraction: another fraction or other octaves in {others} of {cases}; the line above is the deviations of the rest");
 }
 
+/// The sorted lists of the comparison's scales: entry for entry where places and wraparounds are the same, else the whole list counts as
+/// another one. Left out is what is 18.
+fn scales() {
+    let (mut apart, mut cases, mut others) = (Apart::new(), 0, 0);
+    for (_, pushes) in scl_build::scales() {
+        let Some(Ok(ours)) = rust_scl::build(&pushes) else { continue };
+        if rules_scl::beyond(&ours.items) {
+            continue;
+        }
+        let Some(Ok(theirs)) = untouched(|| rust_scl::build(&pushes)) else { continue };
+        cases += 1;
+        let places = |list: &[crate::ffi_scl::Entry]| list.iter().map(|&(place, _, wraps)| (place, wraps)).collect::<Vec<_>>();
+        if places(&ours.list) == places(&theirs.list) {
+            ours.list.iter().zip(&theirs.list).for_each(|(ours, theirs)| apart.add(f64::from_bits(ours.1), f64::from_bits(theirs.1)));
+        } else {
+            others += 1;
+        }
+    }
+    apart.print("SclBuilder::build, ratios");
+    println!("SclBuilder::build: other places or wraparounds in {others} of {cases} lists; the line above is the ratios of the rest");
+}
+
 pub fn report() {
     println!("the Rust's own exp2 and log2 beside E and L:");
     println!("{:<26} {:>9} {:>9} {:>12} {:>12} {:>20} {:>6}", "function", "cases", "differ", "most apart", "relative", "last places", "unlike");
@@ -108,4 +130,5 @@ pub fn report() {
         apart.print(name);
     }
     nearest();
+    scales();
 }

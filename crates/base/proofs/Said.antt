@@ -30,6 +30,17 @@ same-refusal r s e =
 pub same-value : {A : Type 0} (x y : A) → gives x ≡ gives y → x ≡ y
 same-value x y e = cc
 
+-- a refusal is no value, nor a value a refusal
+pub no-value : {A B : Type 0} {a : A} {n d : ℕ} → refuses n d ≡ gives a → B
+no-value e = let z : _≡_ {A = ℕ} 0 1 = cc in absurd (omega arith)
+
+pub no-refusal : {A B : Type 0} {a : A} {n d : ℕ} → gives a ≡ refuses n d → B
+no-refusal e = no-value (sym e)
+
+-- two refusals are one
+pub same-refuses : {A : Type 0} {a b c d : ℕ} → _≡_ {A = Said A} (refuses a b) (refuses c d) → (a ≡ c) × (b ≡ d)
+same-refuses e = (cc, cc)
+
 -- a value is no refusal
 value-or-refusal : {A : Type 0} {a : A} {r : Refusal} → gives a ≡ refusal r → ⊥
 value-or-refusal e = let no : _≡_ {A = ℕ} 0 1 = cc in omega arith

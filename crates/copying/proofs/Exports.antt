@@ -19,20 +19,15 @@ use Rattle.kbm.specs.declared.Entry.{Entry}
 use Rattle.kbm.specs.declared.Kbm.{Kbm}
 use Rattle.kbm_read.specs.Language.{Required, required, Value, Values, Gives, GiveAll, sizeOf, mappingFrom, MappingText}
 use Rattle.kbm_read.specs.Reader.{readOf, entriesIn, afterRead}
+use Rattle.integers.proofs.AtLine.{typed-int}
 use Rattle.kbm_read.proofs.Ends.{small-size}
 use Rattle.kbm_read.proofs.Language.{accepted}
 use Rattle.kbm_read.proofs.Tables.{leaves-table}
 use Rattle.kbm_write.specs.Export.{lastOf, middleOf, exportText, exportOf}
 use Rattle.kbm_write.proofs.Bound.{never-no-room}
-use Rattle.kbm_write.proofs.Room.{Fitting, export-fitting}
+use Rattle.writing.proofs.Room.{Fitting}
+use Rattle.kbm_write.proofs.Room.{export-fitting}
 use Rattle.kbm_write.specs.Typed.{OfTypes}
-
--- a number that was read is within a type that holds its own
-within-type : (top most : ℕ) {t : List ℕ} {z : ℤ} → top ≤ suc most → IntText true top t z → leZ (negsuc most) z && leZ z (pos most) ≡ true
-within-type top most l (IntText.plain n d h e) = rw (e, le-leb n most (omega arith))
-within-type top most l (IntText.plus u n p d h e) = rw (e, le-leb n most (omega arith))
-within-type top most l (IntText.minus u zero g p d h e) = rw (e, le-leb 0 most (omega arith))
-within-type top most l (IntText.minus u (suc n) g p d h e) = rw (e, le-leb n most (omega arith))
 
 -- the key after the last
 pos-next : (n : ℕ) → n < 2 ^ 31 → (pos n ≡ pos 2147483647 → ⊥) → inI32 (pos n +ℤ pos 1) ≡ true
@@ -57,12 +52,12 @@ Known Required.octave z = inI16 z ≡ true
 
 known : (f : Required) (t : List ℕ) (v : Value f) → Gives f t v → Known f v
 known Required.size t n g = tt
-known Required.first t z g = within-type (2 ^ 31) 2147483647 (lit≤ tt) g
-known Required.last t z g = (within-type (2 ^ 31) 2147483647 (lit≤ tt) (g .0), after-last (g .0) (g .1))
-known Required.middle t z g = within-type (2 ^ 15) 2147483647 (lit≤ tt) g
-known Required.reference t z g = within-type (2 ^ 15) 2147483647 (lit≤ tt) g
+known Required.first t z g = typed-int (2 ^ 31) 2147483647 (lit≤ tt) g
+known Required.last t z g = (typed-int (2 ^ 31) 2147483647 (lit≤ tt) (g .0), after-last (g .0) (g .1))
+known Required.middle t z g = typed-int (2 ^ 15) 2147483647 (lit≤ tt) g
+known Required.reference t z g = typed-int (2 ^ 15) 2147483647 (lit≤ tt) g
 known Required.pitch t v g = g .1
-known Required.octave t z g = within-type (2 ^ 15) 32767 (lit≤ tt) g
+known Required.octave t z g = typed-int (2 ^ 15) 32767 (lit≤ tt) g
 
 abbrev AllKnown : (fs : List Required) → Values fs → Type 0
 AllKnown [] vs = Unit {0}

@@ -6,7 +6,7 @@ use native.Mathlib.Omega.{arith}
 use lib.ListN.{length}
 use Rattle.base.specs.Said.{Said, gives, refuses}
 use Rattle.base.specs.Tables.{over, after}
-use Rattle.kbm_write.specs.Export.{textLength}
+use Rattle.writing.specs.Fitted.{textLength}
 
 module _ {s : Said (List ℕ)} {t : List ℕ} (g : s ≡ gives t) where
   pub given-size : {n : ℕ} → gives n ≡ textLength s → n ≡ length t

@@ -1,25 +1,14 @@
 -- The line of a refusal: its parts, its length, and where it stands. Assumes nothing.
 use mathlib.Core.Path.{_≡_, refl, ap, _∙_}
-use mathlib.Core.List.{List, [], _∷_, _++_}
+use mathlib.Core.List.{List, _++_}
 use Prim.Native.Nat.{ℕ, _+_, _≤_}
-use native.Mathlib.Nat.{zero-add}
 use native.Mathlib.Omega.{arith}
-use lib.IntN.{pos}
-use lib.ListN.{length, drop, length-append}
-use lib.Seq.{sets, sets-eq}
-use Rattle.base.specs.Tables.{over}
-use Rattle.kbm_write.proofs.Lines.{whole-short}
-use Rattle.printing.specs.PrintText.{wholeText}
+use lib.ListN.{length, length-append}
+use lib.Seq.{sets}
+use Rattle.writing.specs.Lines.{numberText}
+use Rattle.writing.proofs.Lines.{number-short}
 use Rattle.printing.proofs.Texts.{sets-append}
-use Rattle.copying.specs.Copy.{wordText, numberText, refusedText}
-
--- a text written from the first byte on
-pub sets-over : (l t : List ℕ) → length t ≤ length l → sets l 0 t ≡ over l t
-sets-over l t h = sets-eq t l 0 (omega (arith, h)) ∙ ap (λ (n : ℕ). t ++ drop n l) (zero-add (length t))
-
--- a number has few digits
-pub number-short : (n end : ℕ) → length (numberText n end) ≤ 32
-number-short n end = omega (arith, length-append (wholeText (pos n)) (end ∷ []), length-append (wholeText (pos n)) (10 ∷ []), whole-short (pos n))
+use Rattle.copying.specs.Copy.{wordText, refusedText}
 
 module _ (number detail : ℕ) where
   pub refused-length : length (refusedText number detail) ≡ 8 + (length (numberText number 32) + length (numberText detail 10))

@@ -3,18 +3,13 @@
 use mathlib.Core.List.{List, [], _∷_, _++_}
 use Prim.Native.Nat.{ℕ}
 use lib.Dec.{ltb}
-use lib.IntN.{pos}
 use lib.ListN.{length}
 use Rattle.base.specs.Numbers.{no-room}
 use Rattle.base.specs.Said.{Said, gives, refuses, pick}
-use Rattle.printing.specs.PrintText.{wholeText}
+use Rattle.writing.specs.Lines.{numberText}
 use Rattle.kbm.specs.declared.Kbm.{Kbm}
 use Rattle.kbm_read.specs.Reader.{readOf, entriesIn}
 use Rattle.kbm_write.specs.Export.{exportText}
-
--- a number, and a byte after it
-abbrev pub numberText : ℕ → ℕ → List ℕ
-numberText n end = wholeText (pos n) ++ (end ∷ [])
 
 -- `refused `
 abbrev pub wordText : List ℕ

@@ -2,17 +2,17 @@
 // Document 01, "Writing".
 use kbm::Kbm;
 use kbm::KbmAnswer;
-use kbm_write::SizeAnswer;
-use printing::Placed;
+use writing::SizeAnswer;
+use writing::write_number;
 ghost use mathlib.Core.Path.{_≡_};
-ghost use Prim.Native.Nat.{_+_, _^_, _≤_, _<_};
+ghost use Prim.Native.Nat.{_^_, _≤_, _<_};
 ghost use lib.ListN.{length, take};
 ghost use lib.Seq.{sets};
 ghost use Rattle.base.specs.Said.{gives};
 ghost use Rattle.base.specs.Tables.{over};
 ghost use Rattle.kbm.specs.Table.{tableOf};
 ghost use Rattle.kbm_write.specs.Export.{exportOf, exportText};
-ghost use Rattle.copying.specs.Copy.{wordText, numberText, refusedText, copyText, printed};
+ghost use Rattle.copying.specs.Copy.{wordText, refusedText, copyText, printed};
 
 // The longest text that is read: "input over 65,536 bytes gives `refused 12 0`".
 const LONGEST: usize = 65536;
@@ -41,19 +41,6 @@ fn write_word(out: &mut [u8]) -> usize
     out[6] = b'd';
     out[7] = b' ';
     8
-}
-
-// n and the byte `end` at `at`; the next place.
-fn write_number(n: u32, end: u8, out: &mut [u8], at: usize) -> usize
-    requires { ⌜ at + length (numberText n end) ≤ length (now out) ⌝ }
-    ensures { λ r. ⌜ r ≡ at + length (numberText n end) ⌝ }
-    ensures { λ r. ⌜ now (out .exit) ≡ sets (now (out .entry)) at (numberText n end) ⌝ }
-{
-    let Placed::At(next) = printing::write_u32(n, out, at) else {
-        return at;
-    };
-    out[next] = end;
-    next + 1
 }
 
 // The line of a refusal from the first byte on; the next place.

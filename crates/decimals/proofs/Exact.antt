@@ -1,20 +1,20 @@
 -- One division is one rounding: the quotient of two whole numbers that are f64 values is the f64 nearest to their fraction.
 -- Assumes nothing.
 use mathlib.Core.Path.{_≡_, refl, sym, ap, _∙_}
-use mathlib.Core.Bool.{Bool, true, false, cond}
+use mathlib.Core.Bool.{false}
 use Prim.Native.Nat.{ℕ, zero, suc, _+_, _*_, _^_, _≤_, _<_}
 use native.Mathlib.Nat.{mul-one, mul-assoc, mul-comm, mul-pos, mul-right-comm, mul-mul-mul-comm, pow-succ', pow-le-pow-right, lt-of-le-of-lt, lt-of-lt-of-le}
 use native.Mathlib.Omega.{arith}
-use lib.Dec.{lit<, lit≤, eqb}
-use lib.IntN.{ℤ, pos}
-use lib.Pow.{pow-add, pow-pos, pow-mono, shl-lt}
+use lib.Dec.{lit<, eqb}
+use lib.IntN.{pos}
+use lib.Pow.{pow-add, pow-mono, shl-lt}
 use lib.Ieee.{Float, nan, inf, fin, binary64, up, down, round, div, ofInt}
 use lib.Ieee.Back.{round-whole}
 use lib.Ieee.Fits.{down-pos}
 use lib.Ieee.Exact.{HasValue, round-exact}
 use lib.Ieee.Scale.{round-same}
 use borrow.Author.Tests.{ne-eqb}
-use Rattle.decimals.proofs.Tens.{ten-pos}
+use Rattle.integers.proofs.Tens.{ten-pos}
 
 -- 10 ^ k is 5 ^ k with k zero bits after it
 tens : (k : ℕ) → 10 ^ k ≡ 5 ^ k * 2 ^ k

@@ -13,13 +13,14 @@ use borrow.Author.Tests.{le-leb, lt-leb, leb-false}
 use Rattle.base.specs.Said.{pick}
 use Rattle.decimals.specs.DecimalText.{fromNonzero, Form, FloatText, Unsupported, UnsupportedText, DecimalText}
 use Rattle.integers.specs.Digits.{decimal}
-use Rattle.decimals.specs.DecimalScan.{scanOf, supported, valued, judged, readDecimal}
-use Rattle.decimals.specs.declared.Numeral.{Numeral}
-use Rattle.decimals.specs.declared.Scanned.{Scanned}
-use Rattle.decimals.specs.declared.Scanned.the-variants as scanned
+use Rattle.numerals.specs.Scan.{scanOf}
+use Rattle.decimals.specs.DecimalScan.{supported, valued, judged, readDecimal}
+use Rattle.numerals.specs.declared.Numeral.{Numeral}
+use Rattle.numerals.specs.declared.Scanned.{Scanned}
+use Rattle.numerals.specs.declared.Scanned.the-variants as scanned
 use Rattle.decimals.specs.declared.DecimalAnswer.the-variants as answer
 use Rattle.decimals.proofs.Answers.{supported-says}
-use Rattle.decimals.proofs.Scans.{SeenPlain, Seen, complete, sound}
+use Rattle.numerals.proofs.Scans.{SeenPlain, Seen, complete, sound}
 
 -- THE FOUR CAUSES
 not-both : {p : Bool} → p ≡ true → p ≡ false → ⊥

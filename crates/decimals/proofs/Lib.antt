@@ -1,12 +1,4 @@
-pub mod Runs
-pub mod Bounds
 pub mod Answers
-pub mod Tens
-pub mod Values
-pub mod Places
-pub mod Words
-pub mod Numbers
-pub mod Scans
 pub mod Language
 pub mod Samples
 pub mod Exact

@@ -3,7 +3,8 @@
 use mathlib.Core.Path.{_≡_, refl}
 use mathlib.Core.List.{[], _∷_}
 use lib.Ieee.{ofBits, round, binary64}
-use Rattle.decimals.specs.DecimalScan.{runOf, spelled, scanOf, readDecimal}
+use Rattle.numerals.specs.Scan.{runOf, spelled, scanOf}
+use Rattle.decimals.specs.DecimalScan.{readDecimal}
 use Rattle.decimals.specs.declared.DecimalAnswer.the-variants.{Is, Unsupported, Bad}
 
 -- numerals that 9 is given for

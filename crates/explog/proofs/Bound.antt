@@ -5,14 +5,12 @@ use Prim.Native.Nat.{ℕ, zero, suc, _+_, _-_, _*_, _/_, _%_, _^_, _≤_, _<_}
 use native.Mathlib.Nat.{div-div-eq-div-mul, mul-zero, mul-one, le-antisymm, le-trans, le-of-eq, le-of-lt, lt-of-le-of-lt, mul-comm, mul-assoc, mul-left-comm, mul-right-comm, mul-le-mul-left, mul-le-mul-right, le-of-mul-le-mul-right, le-div-iff-mul-le, div-mul-le-self, mul-div-cancel}
 use native.Mathlib.Numerals.{add-one}
 use native.Mathlib.Omega.{arith}
-use mathlib.Core.List.{List}
-use lib.ListN.{getD}
 use lib.Dec.{T, leb, eqb, leb→le, lit<, lit≤}
 use lib.Pow.{pow-add, pow-pos}
 use Rattle.base.specs.Said.{pick}
 use Rattle.explog.specs.Root.{root, rootFrom}
 use Rattle.explog.specs.Exp.{tOf, pOf, stepE}
-use Rattle.explog.specs.Inner.{Factors, Factor, Power}
+use Rattle.explog.specs.Inner.{IsFactor, Factor, Power}
 use Rattle.explog.proofs.Entries.{t-above}
 
 -- the root's square is at most the number
@@ -71,15 +69,14 @@ step-is true p t = refl
 step-is false p t = mul-div-cancel p (pow-pos 62)
 
 -- the place k * bit holds the factor of the bit
-module _ (t : List ℕ) (h : Factors t) where
-  at-bit : (c k : ℕ) → c < 2 → 1 ≤ k → k ≤ 52 → (getD t (k * c) 0 ≡ pick (eqb c 1) (tOf k) (2 ^ 62)) × (getD t (k * c) 0 < 2 ^ 63)
-  at-bit c zero b low high = absurd (omega arith)
-  at-bit zero (suc k) b low high = rw (mul-zero (suc k)) (let e = h .entry 0 (omega arith) in (e .is, e .below))
-  at-bit (suc zero) (suc k) b low high = rw (mul-one (suc k)) (let e = h .entry (suc k) (omega arith) in (e .is, e .below))
-  at-bit (suc (suc c)) (suc k) b low high = absurd (omega arith)
+at-bit : (c k r : ℕ) → c < 2 → 1 ≤ k → IsFactor (k * c) r → (r ≡ pick (eqb c 1) (tOf k) (2 ^ 62)) × (r < 2 ^ 63)
+at-bit c zero r b low e = absurd (omega arith)
+at-bit zero (suc k) r b low e = let f : IsFactor 0 r = subst (λ (z : ℕ). IsFactor z r) (mul-zero (suc k)) e in (f .is, f .below)
+at-bit (suc zero) (suc k) r b low e = let f : IsFactor (suc k) r = subst (λ (z : ℕ). IsFactor z r) (mul-one (suc k)) e in (f .is, f .below)
+at-bit (suc (suc c)) (suc k) r b low e = absurd (omega arith)
 
-  pub chosen : (b k : ℕ) → 1 ≤ k → k ≤ 52 → Factor b k (getD t (k * (b / 2 ^ (52 - k) % 2)) 0)
-  chosen b k low high = let a = at-bit (b / 2 ^ (52 - k) % 2) k (omega arith) low high in record { is = a .0; below = a .1 }
+pub chosen : (b k r : ℕ) → 1 ≤ k → IsFactor (k * (b / 2 ^ (52 - k) % 2)) r → Factor b k r
+chosen b k r low e = let a = at-bit (b / 2 ^ (52 - k) % 2) k r (omega arith) low e in record { is = a .0; below = a .1 }
 
 -- and it is a place of the table
 pub place : (b k : ℕ) → k ≤ 52 → k * (b / 2 ^ (52 - k) % 2) ≤ 52

@@ -1,5 +1,5 @@
 -- The table as a list, its rule at each entry by one test that antt computes, and what it says of T_k. Assumes nothing.
-use mathlib.Core.Path.{subst}
+use mathlib.Core.Path.{_≡_, sym, subst}
 use mathlib.Core.List.{List, [], _∷_}
 use mathlib.Core.Bool.{Bool, _&&_}
 use Prim.Native.Nat.{ℕ, zero, suc, _+_, _-_, _^_, _≤_, _<_}
@@ -9,7 +9,7 @@ use lib.ListN.{getD}
 use lib.Ieee.Fits.{and-l, and-r}
 use Rattle.explog.specs.Root.{root, rootFrom}
 use Rattle.explog.specs.Exp.{tOf}
-use Rattle.explog.specs.Inner.{IsFactor, Factors, factorAt}
+use Rattle.explog.specs.Inner.{IsFactor, factorAt}
 use Rattle.explog.proofs.Every.{every, at-each}
 
 -- the table of src/, as a list
@@ -39,8 +39,9 @@ entry k h =
       below = ltb→lt x (2 ^ 63) (and-r a (ltb x (2 ^ 63)) u);
     }
 
-pub table-holds : Factors entries
-table-holds = record { entry = entry }
+-- an arm of the code's table
+pub entry-at : (i k : ℕ) → i ≡ k → k < 53 → IsFactor i (getD entries k 0)
+entry-at i k e h = subst (λ (z : ℕ). IsFactor z (getD entries k 0)) (sym e) (entry k h)
 
 -- T_k from the table: above 2 ^ 62, and below 2 ^ 63 but for T_0
 pub t-above : (k : ℕ) → k ≤ 52 → 2 ^ 62 < tOf k

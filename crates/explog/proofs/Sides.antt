@@ -20,7 +20,7 @@ use lib.Ieee.Bits.{is-true}
 use lib.Ieee.Positive.{positive, cross→le}
 use Rattle.floats.specs.Floats.{abs}
 use Rattle.floats.proofs.Sign.{abs-positive, abs-neg, finite-neg, round-neg}
-use Rattle.floats.proofs.Power.{ratio-positive, ratio-finite}
+use Rattle.rounding.proofs.Power.{ratio-positive, ratio-finite}
 use Rattle.floats.proofs.Ranges.{Within, within-fin}
 use Rattle.explog.specs.Rules.{logOf}
 use Rattle.explog.proofs.Plain.{plainLog}

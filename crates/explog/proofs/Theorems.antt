@@ -17,7 +17,7 @@ use Rattle.floats.specs.Ranges.{inReach, negligible}
 use Rattle.floats.specs.Answers.{saysFloat}
 use Rattle.floats.specs.Units.{unitsOf, negative}
 use Rattle.floats.proofs.Theorems.{float-one}
-use Rattle.floats.proofs.Power.{power-finite}
+use Rattle.rounding.proofs.Power.{power-finite}
 use Rattle.floats.proofs.Ranges.{reach-says}
 use Rattle.floats.proofs.Value.{unique}
 use Rattle.explog.specs.Root.{root}

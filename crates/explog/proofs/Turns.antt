@@ -7,6 +7,7 @@ use native.Mathlib.Numerals.{add-one}
 use native.Mathlib.Omega.{arith}
 use lib.Dec.{T, leb, nleb→lt}
 use lib.Pow.{pow-mono}
+use borrow.Author.Tests.{le-leb, lt-leb}
 use Rattle.base.specs.Said.{pick}
 use Rattle.explog.specs.Log.{squared, halved, yOf, bOf}
 use Rattle.explog.specs.Inner.{Bits, topBit}
@@ -36,6 +37,13 @@ halved-below s h = go (leb (2 ^ 63) s) (nleb→lt (2 ^ 63) s)
     go : (b : Bool) → (T (not b) → s < 2 ^ 63) → pick b (s / 2) s < 2 ^ 63
     go true f = omega arith
     go false f = f tt
+
+-- the bit's two ways
+pub bit-set : (s : ℕ) → 2 ^ 63 ≤ s → 1 ≡ topBit s
+bit-set s h = rw (le-leb (2 ^ 63) s h)
+
+pub bit-clear : (s : ℕ) → s < 2 ^ 63 → 0 ≡ topBit s
+bit-clear s h = rw (lt-leb (2 ^ 63) s h)
 
 pub bit-small : (s : ℕ) → topBit s ≤ 1
 bit-small s = go (leb (2 ^ 63) s)

@@ -1,9 +1,7 @@
 -- What the inner functions ensure, as the code computes it; E and L themselves are in Rules.antt. Assumes nothing.
 use mathlib.Core.Path.{_≡_}
-use mathlib.Core.List.{List}
 use Prim.Native.Nat.{ℕ, zero, suc, _+_, _-_, _*_, _/_, _%_, _≤_, _<_, _^_}
 use lib.Dec.{leb, eqb}
-use lib.ListN.{getD}
 use Rattle.base.specs.Said.{pick}
 use Rattle.explog.specs.Exp.{tOf, pOf}
 use Rattle.explog.specs.Log.{bOf}
@@ -18,10 +16,6 @@ pub record IsFactor (k r : ℕ) : Type 0 where
   pub is : r ≡ factorAt k
   pub above : 2 ^ 62 < r + (1 - k)
   pub below : r < 2 ^ 63
-
--- t is the list of what E's steps multiply by
-pub record Factors (t : List ℕ) : Type 0 where
-  pub entry : (k : ℕ) → k < 53 → IsFactor k (getD t k 0)
 
 -- r is T_k where b's bit of weight 2 ^ (52 - k) is set, else 2 ^ 62
 pub record Factor (b k r : ℕ) : Type 0 where

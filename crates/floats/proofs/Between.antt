@@ -19,8 +19,8 @@ use Rattle.floats.specs.Ranges.{inReach, inSearch, inGenerator}
 use Rattle.floats.proofs.Ranges.{Within, within-fin, and-true}
 use borrow.Author.Tests.{ne-eqb}
 use Rattle.floats.specs.Floats.{oneF}
-use Rattle.floats.proofs.Compare.{le-pos, le-neg}
-use Rattle.floats.proofs.Sized.{Sized, sized, or-left, or-right}
+use Rattle.floats.proofs.Compare.{le-pos, le-neg, or-left, or-right}
+use Rattle.floats.proofs.Sized.{Sized, sized}
 
 -- ---- a fraction between two powers of two rounds to a number between them
 module _ (a : ℕ) (small : a ≤ 1000) where

@@ -43,3 +43,12 @@ le-neg m n e d t =
 pub lt-pos : (m n : ℕ) (e d : ℤ) → T (lt (fin false m e) (fin false n d)) → m * up e * down d < n * up d * down e
 unfolding lt
 lt-pos m n e d t = ltb→lt (m * up e * down d) (n * up d * down e) t
+
+-- a comparison that one of two tests decides
+pub or-left : (a b : Bool) → T a → T (a || b)
+or-left true b t = tt
+or-left false b t = absurd t
+
+pub or-right : (a b : Bool) → T b → T (a || b)
+or-right true b t = tt
+or-right false b t = t

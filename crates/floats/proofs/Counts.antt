@@ -1,6 +1,6 @@
 -- From -2 ^ 31 up to 2 ^ 31: the machine's whole part is an i32. Assumes nothing.
 use mathlib.Core.Path.{_≡_, sym, ap, subst}
-use mathlib.Core.Bool.{Bool, true, false, _||_}
+use mathlib.Core.Bool.{true, false}
 use Prim.Native.Nat.{ℕ, _+_, _-_, _*_, _/_, _^_, _≤_, _<_, min}
 use native.Mathlib.Nat.{div-lt-iff-lt-mul}
 use native.Mathlib.Omega.{arith}
@@ -9,7 +9,7 @@ use lib.Dec.{T, ltb, lt→ltb}
 use lib.Ieee.{Float, nan, inf, fin, up, down, lt, le, eq, toSigned}
 use lib.Ieee.Fits.{down-pos}
 use borrow.Author.Tests.{ltb-true}
-use Rattle.floats.proofs.Compare.{le-neg}
+use Rattle.floats.proofs.Compare.{le-neg, or-left}
 
 -- from -2 ^ 31 up to 2 ^ 31
 pub data In31 : Float → Type 0 where
@@ -24,10 +24,6 @@ in31 (inf false) h g = absurd (subst T (sym g) tt)
 in31 (inf true) h g = absurd (subst T (sym h) tt)
 in31 (fin false m e) h g = pin m e (omega (arith, ltb-true (m * up e * 1) (1 * 2 ^ 31 * down e) g))
 in31 (fin true m e) h g = nin m e (omega (arith, le-neg 1 m (pos 31) e (subst T (sym h) tt)))
-
-or-left : (a b : Bool) → T a → T (a || b)
-or-left true b t = tt
-or-left false b t = absurd t
 
 -- so the machine's conversion to 64 bits is defined
 pub in63 : {x : Float} → In31 x → T (le (fin true 1 (pos 63)) x) × T (lt x (fin false 1 (pos 63)))

@@ -1,31 +1,25 @@
 -- How large an f64 is: |x| is at most a whole number, and what the float steps keep of that. Assumes nothing.
-use mathlib.Core.Path.{_≡_, refl, sym, ap, _∙_, subst}
-use mathlib.Core.Bool.{Bool, true, false, not, _&&_, _||_, Bool·beq, cond, true≢false}
+use mathlib.Core.Path.{_≡_, sym, ap, _∙_, subst}
+use mathlib.Core.Bool.{Bool, true, false, not, _&&_, Bool·beq, cond, true≢false}
 use Prim.Native.Nat.{ℕ, zero, suc, _+_, _-_, _*_, _/_, _%_, _^_, _≤_, _<_, compare, min}
-use native.Mathlib.Nat.{le-trans, le-of-eq, mul-one, mul-comm, mul-assoc, mul-left-comm, mul-right-comm, add-mul, mul-pos, mul-le-mul, mul-le-mul-right, le-of-mul-le-mul-right, mod-le, div-le-of-le-mul, div-lt-iff-lt-mul}
+use native.Mathlib.Nat.{le-trans, le-of-eq, mul-one, mul-comm, mul-assoc, mul-right-comm, add-mul, mul-pos, mul-le-mul, mul-le-mul-right, le-of-mul-le-mul-right, div-le-of-le-mul, div-lt-iff-lt-mul}
 use native.Mathlib.Omega.{arith}
 use lib.Dec.{T, ltb, lt→ltb, lit<}
 use lib.IntN.{ℤ, pos, negℤ}
 use borrow.Author.Tests.{ne-eqb}
-use lib.Ieee.{Float, inf, fin, binary64, up, down, size, nearest, odd, units, round, neg, sum, add, sub, div, rem, lt, le, eq, unlike, ofBits, ofInt, toSigned}
+use lib.Ieee.{Float, inf, fin, binary64, up, down, size, nearest, odd, units, round, neg, sum, add, sub, div, lt, le, eq, unlike, ofInt, toSigned}
 use lib.Ieee.Exact.{HasValue}
 use lib.Ieee.Back.{round-whole}
 use lib.Ieee.Fits.{down-pos, up-pos, round-is}
 use lib.Ieee.Order.{round-mono}
 use lib.Ieee.Bits.{is-true}
-use Rattle.base.specs.Said.{pick}
-use Rattle.floats.specs.Floats.{abs, trunc, floor, zeroF, oneF, remEuclid, divEuclid, leastI32, pastI32}
-use Rattle.floats.proofs.Compare.{le-pos}
-use Rattle.floats.proofs.Order.{Zero, Negative, nfin, negative}
+use Rattle.floats.specs.Floats.{trunc, floor, leastI32, pastI32}
+use Rattle.floats.proofs.Compare.{le-pos, or-left}
 use Rattle.floats.proofs.Sign.{round-neg}
 
 -- |x| is at most n
 pub data Sized (n : ℕ) : Float → Type 0 where
   sized : (s : Bool) (m : ℕ) (e : ℤ) → m * up e ≤ n * down e → Sized n (fin s m e)
-
--- |y| is at least 1 / k
-pub data Apart (k : ℕ) : Float → Type 0 where
-  apart : (s : Bool) (m : ℕ) (e : ℤ) → down e ≤ m * up e * k → Apart k (fin s m e)
 
 pub size-of : {n : ℕ} {s : Bool} {m : ℕ} {e : ℤ} → Sized n (fin s m e) → m * up e ≤ n * down e
 size-of (sized s m e h) = h
@@ -88,7 +82,7 @@ round-sized n false a b h p l = round-up-sized n a b h p l
 round-sized n true a b h p l = subst (Sized n) (round-neg binary64 false a b) (sized-neg (round-up-sized n a b h p l))
 
 -- ---- sums
-times-le : (x n c d : ℕ) → x ≤ n * c → x * d ≤ n * (c * d)
+pub times-le : (x n c d : ℕ) → x ≤ n * c → x * d ≤ n * (c * d)
 times-le x n c d h = le-trans (mul-le-mul-right d h) (le-of-eq (mul-assoc n c d))
 
 sum-like : (n k : ℕ) (s t : Bool) (a b c : ℕ) → n + k ≤ 2 ^ 53 → 0 < c → a ≤ n * c → b ≤ k * c → Sized (n + k) (sum binary64 s a t b c)
@@ -111,37 +105,7 @@ pub sub-sized : {n k : ℕ} {x y : Float} → n + k ≤ 2 ^ 53 → Sized n x →
 unfolding sub
 sub-sized h p q = add-sized h p (sized-neg q)
 
--- a number below zero and one above: the sum is no larger than the larger of the two
-gap-sized : (n m i : ℕ) (e d : ℤ) → n ≤ 2 ^ 53 → m * up e ≤ n * down e → i * up d ≤ n * down d → Sized n (add binary64 (fin true m e) (fin false i d))
-unfolding add sum
-gap-sized n m i e d h l r =
-    let a = m * up e * down d in
-    let b = i * up d * down e in
-    let c = down e * down d in
-    let p : 0 < c = mul-pos (down-pos e) (down-pos d) in
-    let la : a ≤ n * c = times-le (m * up e) n (down e) (down d) l in
-    let lb : b ≤ n * c = le-trans (times-le (i * up d) n (down d) (down e) r) (le-of-eq (ap (λ (z : ℕ). n * z) (mul-comm (down d) (down e)))) in
-    go (ltb a b) (ltb b a) a b c p la lb
-  where
-    go : (x y : Bool) (a b c : ℕ) → 0 < c → a ≤ n * c → b ≤ n * c → Sized n (cond x (round binary64 false (b - a) c) (round binary64 y (a - b) c))
-    go true y a b c p la lb = round-sized n false (b - a) c h p (omega arith)
-    go false y a b c p la lb = round-sized n y (a - b) c h p (omega arith)
-
--- ---- quotients and remainders
-some : (m k : ℕ) (e : ℤ) → down e ≤ m * up e * k → m ≡ 0 → ⊥
-some m k e h z =
-    let g : down e ≤ 0 * up e * k = subst (λ (i : ℕ). down e ≤ i * up e * k) z h in
-    let p = down-pos e in
-    let q : 0 * up e * k ≡ 0 = ap (λ (i : ℕ). i * k) (native.Mathlib.Nat.zero-mul (up e)) ∙ native.Mathlib.Nat.zero-mul k in
-    omega arith
-
-rem-sized : {n k : ℕ} {x y : Float} → n ≤ 2 ^ 53 → Sized n x → Apart k y → Sized n (rem binary64 x y)
-unfolding rem
-rem-sized {n} {k} h (sized s m e l) (apart t i d a) =
-    rw (ne-eqb i 0 (some i k d a))
-    (round-sized n s (m * up e * down d % (i * up d * down e)) (down e * down d) h (mul-pos (down-pos e) (down-pos d))
-    (le-trans (mod-le (m * up e * down d) (i * up d * down e)) (times-le (m * up e) n (down e) (down d) l)))
-
+-- ---- quotients
 -- |x| is at most n times |y|
 pub div-sized-by : (n : ℕ) (s t : Bool) (m i : ℕ) (e d : ℤ) → n ≤ 2 ^ 53 → (i ≡ 0 → ⊥) → m * up e * down d ≤ n * (i * up d * down e) → Sized n (div binary64 (fin s m e) (fin t i d))
 unfolding div
@@ -149,14 +113,7 @@ div-sized-by n s t m i e d h z l =
     rw (ne-eqb i 0 z)
     (round-sized n (unlike s t) (m * up e * down d) (i * up d * down e) h (mul-pos (mul-pos (native.Mathlib.Nat.pos-of-ne-zero z) (up-pos d)) (down-pos e)) l)
 
-over-apart : (a b c d n k : ℕ) → a ≤ n * b → c ≤ d * k → a * c ≤ n * k * (d * b)
-over-apart a b c d n k h l = le-trans (mul-le-mul h l) (le-of-eq (simp (mul-assoc, mul-comm, mul-left-comm)))
-
-div-sized : {n k : ℕ} {x y : Float} → n * k ≤ 2 ^ 53 → Sized n x → Apart k y → Sized (n * k) (div binary64 x y)
-div-sized {n} {k} h (sized s m e l) (apart t i d a) =
-    div-sized-by (n * k) s t m i e d h (some i k d a) (over-apart (m * up e) (down e) (down d) (i * up d) n k l a)
-
-trunc-sized : {n : ℕ} {x : Float} → n ≤ 2 ^ 53 → Sized n x → Sized n (trunc x)
+pub trunc-sized : {n : ℕ} {x : Float} → n ≤ 2 ^ 53 → Sized n x → Sized n (trunc x)
 unfolding trunc
 trunc-sized {n} h (sized s m e l) =
     round-sized n s (m * up e / down e) 1 h (lit< tt) (le-trans (div-le-of-le-mul (down e) (le-trans l (le-of-eq (mul-comm n (down e))))) (le-of-eq (sym (mul-one n))))
@@ -187,47 +144,7 @@ signed-sized {n} h g (sized true m e l) =
     let d : m * up e / down e ≤ n = div-le-of-le-mul (down e) (le-trans l (le-of-eq (mul-comm n (down e)))) in
     of-int-sized n (min (m * up e / down e) (2 ^ h)) true g (omega arith)
 
--- ---- rem_euclid is no larger than both, div_euclid one more than the quotient at most
-abs-sized : {n : ℕ} {x : Float} → Sized n x → Sized n (abs x)
-unfolding abs
-abs-sized (sized s m e l) = sized false m e l
-
-moved-up : {n : ℕ} {r b : Float} → n ≤ 2 ^ 53 → Negative r → Sized n r → Sized n b → Sized n (add binary64 r (abs b))
-unfolding abs
-moved-up {n} h (nfin m e p) v (sized t i d r) = gap-sized n m i e d h (size-of v) r
-
-pub rem-euclid-sized : {n k : ℕ} (x y : Float) → n ≤ 2 ^ 53 → Sized n x → Sized n y → Apart k y → Sized n (remEuclid x y)
-unfolding ofBits
-rem-euclid-sized {n} x y h p q a = go (lt (rem binary64 x y) Zero) refl
-  where
-    go : (b : Bool) → lt (rem binary64 x y) Zero ≡ b → Sized n (pick b (add binary64 (rem binary64 x y) (abs y)) (rem binary64 x y))
-    go true e = moved-up h (negative (rem binary64 x y) e) (rem-sized h p a) q
-    go false e = rem-sized h p a
-
-one-sized : Sized 1 oneF
-unfolding ofBits
-one-sized = sized false 1 (pos 0) (omega arith)
-
-pub div-euclid-sized : {n k : ℕ} (x y : Float) → n * k + 1 ≤ 2 ^ 53 → Sized n x → Apart k y → Sized (n * k + 1) (divEuclid x y)
-div-euclid-sized {n} {k} x y h p a = go (lt (rem binary64 x y) zeroF) (lt zeroF y)
-  where
-    q : Sized (n * k) (trunc (div binary64 x y))
-    q = trunc-sized (omega arith) (div-sized (omega arith) p a)
-
-    go : (b c : Bool) → Sized (n * k + 1) (pick b (pick c (sub binary64 (trunc (div binary64 x y)) oneF) (add binary64 (trunc (div binary64 x y)) oneF)) (trunc (div binary64 x y)))
-    go true true = sub-sized h q one-sized
-    go true false = add-sized h q one-sized
-    go false c = sized-more (omega arith) q
-
 -- ---- such a quotient is an i32
-pub or-left : (a b : Bool) → T a → T (a || b)
-or-left true b t = tt
-or-left false b t = absurd t
-
-pub or-right : (a b : Bool) → T b → T (a || b)
-or-right true b t = tt
-or-right false b t = t
-
 in-i32 : {n : ℕ} {x : Float} → n < 2 ^ 31 → Sized n x → T (le (fin true 1 (pos 31)) x) × T (lt x (fin false 1 (pos 31)))
 unfolding le lt
 in-i32 {n} h (sized false m e l) = (

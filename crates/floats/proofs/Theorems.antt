@@ -1,14 +1,11 @@
 -- "a public function's contract leaves one possible result" (document 01): a line for each public call. Assumes nothing.
 use mathlib.Core.Path.{_≡_, refl, sym, _∙_}
-use mathlib.Core.Bool.{false}
 use mathlib.Core.Logic.{inl, inr}
-use Prim.Native.Nat.{ℕ, _*_, _^_}
-use lib.Ieee.{Float, binary64, rem, round}
+use lib.Ieee.{Float}
 use Rattle.base.specs.Said.{Said}
 use Rattle.base.proofs.Said.{One, Split, one-result, one-plain}
-use Rattle.floats.specs.Floats.{abs, trunc, floor, remEuclid, divEuclid, count}
+use Rattle.floats.specs.Floats.{abs, trunc, floor, count}
 use Rattle.floats.specs.Ranges.{inReach, inSearch, inGenerator, inPitch, negligible}
-use Rattle.floats.specs.Nearest.{roundedHalf}
 use Rattle.floats.specs.Units.{Unpacked}
 use Rattle.floats.specs.Answers.{saysFloat}
 use Rattle.integer_math.specs.Answers.{saysI32}
@@ -34,17 +31,8 @@ trunc-of-one x = one-result (trunc x)
 pub floor-of-one : (x : Float) → One (λ r. r) (floor x)
 floor-of-one x = one-result (floor x)
 
-pub rem-euclid-one : (a b : Float) → One (λ r. r) (remEuclid a b)
-rem-euclid-one a b = one-result (remEuclid a b)
-
-pub div-euclid-one : (a b : Float) → One (λ r. r) (divEuclid a b)
-div-euclid-one a b = one-result (divEuclid a b)
-
 pub count-of-one : (q : Float) → One saysI32 (count q)
 count-of-one q = i32-one (count q)
-
-pub rem-of-one : (a b : Float) → One (λ r. r) (rem binary64 a b)
-rem-of-one a b = one-result (rem binary64 a b)
 
 -- the range tests
 pub is-in-reach-one : (x : Float) → One (λ r. r) (inReach x)
@@ -69,19 +57,3 @@ unpack-one x p q u v =
     let k : p .exponent ≡ q .exponent = same-exponent u v in
     let d : p .digits ≡ q .digits = same-digits u v k in
     λ i. record { negative = s i; digits = d i; exponent = k i }
-
--- the steps to a nearest f64
-pub pow10-one : (k : ℕ) → One (λ r. r) (10 ^ k)
-pow10-one k = one-result (10 ^ k)
-
-pub rounded-half-one : (q rest : ℕ) → One (λ r. r) (roundedHalf q rest)
-rounded-half-one q rest = one-result (roundedHalf q rest)
-
-pub nearest-scaled-one : (n e up : ℕ) → One (λ r. r) (round binary64 false (n * 2 ^ up) e)
-nearest-scaled-one n e up = one-result (round binary64 false (n * 2 ^ up) e)
-
-pub nearest-power-one : (p n : ℕ) → One (λ r. r) (round binary64 false (p * 2 ^ n) (2 ^ 1086))
-nearest-power-one p n = one-result (round binary64 false (p * 2 ^ n) (2 ^ 1086))
-
-pub nearest-ratio-one : (n : ℕ) → One (λ r. r) (round binary64 false n (2 ^ 52))
-nearest-ratio-one n = one-result (round binary64 false n (2 ^ 52))

@@ -1,9 +1,9 @@
 -- What Rust's std does to an f64 and document 01 takes over ("All other float steps are the Rust's own"): abs, trunc, floor,
--- rem_euclid, div_euclid, and a whole quotient as an i32 ("a wraparound count leaves i32" gives 18). Assumes nothing.
+-- and a whole quotient as an i32 ("a wraparound count leaves i32" gives 18). Assumes nothing.
 use mathlib.Core.Bool.{true, false, _&&_}
 use Prim.Native.Nat.{_+_, _-_, _*_, _/_}
 use lib.IntN.{ℤ, pos}
-use lib.Ieee.{Float, nan, inf, fin, binary64, up, down, round, add, sub, div, rem, lt, le, ofBits, toSigned}
+use lib.Ieee.{Float, nan, inf, fin, binary64, up, down, round, lt, le, ofBits, toSigned}
 use Rattle.base.specs.Numbers.{beyond-reach}
 use Rattle.base.specs.Said.{Said, gives, refuses, pick}
 
@@ -37,17 +37,6 @@ floor nan = nan
 floor (inf s) = inf s
 floor (fin false m e) = round binary64 false (m * up e / down e) 1
 floor (fin true m e) = round binary64 true ((m * up e + (down e - 1)) / down e) 1
-
--- f64::rem_euclid: the remainder, moved up by |b| where it is below zero
-abbrev pub remEuclid : Float → Float → Float
-remEuclid a b = pick (lt (rem binary64 a b) zeroF) (add binary64 (rem binary64 a b) (abs b)) (rem binary64 a b)
-
--- f64::div_euclid: the whole part of the quotient, one away where the remainder is below zero
-abbrev pub divEuclid : Float → Float → Float
-divEuclid a b =
-    pick (lt (rem binary64 a b) zeroF)
-    (pick (lt zeroF b) (sub binary64 (trunc (div binary64 a b)) oneF) (add binary64 (trunc (div binary64 a b)) oneF))
-    (trunc (div binary64 a b))
 
 -- -2 ^ 31, the least i32
 abbrev pub leastI32 : Float

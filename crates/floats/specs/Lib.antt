@@ -2,4 +2,3 @@ pub mod Floats
 pub mod Ranges
 pub mod Answers
 pub mod Units
-pub mod Nearest

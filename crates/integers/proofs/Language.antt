@@ -8,9 +8,9 @@ use Prim.Native.Nat.{ℕ, suc, _+_, _-_, _*_, _^_, _≤_, _<_}
 use native.Mathlib.Nat.{pow-succ', mul-assoc, add-mul}
 use native.Mathlib.Omega.{arith}
 use lib.ListN.{length}
-use lib.Dec.{leb, ltb, eqb}
+use lib.Dec.{leb, eqb}
 use lib.IntN.{ℤ, pos, negℤ}
-use borrow.Author.Tests.{le-leb, leb-true, ltb-false, eqb-true, ne-eqb}
+use borrow.Author.Tests.{le-leb, leb-true, eqb-true, ne-eqb}
 use Rattle.base.specs.Said.{pick}
 use Rattle.integers.specs.Integer.{scan, magnitudeOf, value, none, signedOf, readInt, plus, minus, readSigned}
 use Rattle.integers.specs.Digits.{decimal, AllDigits}

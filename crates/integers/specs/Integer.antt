@@ -1,9 +1,9 @@
 -- Document 01, "Lines", integers: what the readers compute, once over width and sign (the numbers below top and, if signed,
 -- down to -top). `IntegerText` says what an integer is, `proofs/Language` that the two agree. Assumes nothing.
 use mathlib.Core.List.{List, [], _∷_}
-use mathlib.Core.Bool.{Bool, false}
+use mathlib.Core.Bool.{Bool}
 use Prim.Native.Nat.{ℕ, _+_, _-_, _*_}
-use lib.Dec.{leb, ltb, eqb}
+use lib.Dec.{leb, eqb}
 use lib.IntN.{ℤ, pos, negℤ}
 use Rattle.base.specs.Said.{pick}
 use Rattle.integers.specs.Digits.{isDigit}

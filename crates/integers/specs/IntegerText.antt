@@ -20,3 +20,7 @@ pub data IntText (signed : Bool) (top : ℕ) (s : List ℕ) (z : ℤ) : Type 0 w
   plain : (n : ℕ) → Digits s n → n < top → z ≡ pos n → IntText signed top s z
   plus : (t : List ℕ) (n : ℕ) → s ≡ 43 ∷ t → Digits t n → n < top → z ≡ pos n → IntText signed top s z
   minus : (t : List ℕ) (n : ℕ) → signed ≡ true → s ≡ 45 ∷ t → Digits t n → n ≤ top → z ≡ negℤ (pos n) → IntText signed top s z
+
+-- t is no integer of the type, and draws this number
+abbrev pub NoInteger : ℕ → Bool → ℕ → List ℕ → ℕ → Type 0
+NoInteger number signed top t n = (n ≡ number) × ((z : ℤ) → IntText signed top t z → ⊥)

@@ -1,3 +1,4 @@
 pub mod Digits
 pub mod IntegerText
 pub mod Integer
+pub mod AtLine

@@ -1,8 +1,8 @@
 // Integers of a text, at every width and sign. Document 01, "Lines": optional `+` (`-` only for signed types), then one or
 // more digits, within the type. Each reader takes the part of the text that is the token; an empty one is no integer.
 ghost use mathlib.Core.Path.{_≡_};
-ghost use Prim.Native.Nat.{ℕ, _+_, _-_, _*_, _^_, _≤_, _<_};
-ghost use lib.ListN.{length, take, drop};
+ghost use Prim.Native.Nat.{_+_, _-_, _*_, _^_, _≤_, _<_};
+ghost use lib.ListN.{length, drop};
 ghost use mathlib.Core.Bool.{true, false};
 ghost use Rattle.integers.specs.Integer.{magnitudeOf, plus, minus, readInt, readSigned, wholeOf, u16Of, u32Of, i16Of, i32Of};
 

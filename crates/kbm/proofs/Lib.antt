@@ -2,9 +2,6 @@ pub mod Entries
 pub mod Octaves
 pub mod Table
 pub mod Degrees
-pub mod Pushes
 pub mod Language
-pub mod Appends
 pub mod Samples
 pub mod Theorems
-pub mod Plain

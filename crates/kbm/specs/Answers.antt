@@ -7,9 +7,6 @@ use Rattle.kbm.specs.declared.Kbm.{Kbm}
 use Rattle.kbm.specs.declared.KbmAnswer.{KbmAnswer}
 use Rattle.kbm.specs.declared.KbmAnswer.the-variants as OfKbm
 use Rattle.kbm.specs.declared.KbmRoot.{KbmRoot}
-use Rattle.kbm.specs.declared.builder.BuilderAnswer.{BuilderAnswer}
-use Rattle.kbm.specs.declared.builder.BuilderAnswer.the-variants as OfBuilder
-use Rattle.kbm.specs.declared.builder.KbmBuilder.{KbmBuilder}
 use Rattle.kbm.specs.declared.RootAnswer.{RootAnswer}
 use Rattle.kbm.specs.declared.RootAnswer.the-variants as OfRoot
 
@@ -24,7 +21,3 @@ saysDegree (OfDegree.Refused r) = refusal r
 abbrev pub saysKbm : KbmAnswer → Said Kbm
 saysKbm (OfKbm.Is k) = gives k
 saysKbm (OfKbm.Refused r) = refusal r
-
-abbrev pub saysBuilder : BuilderAnswer → Said KbmBuilder
-saysBuilder (OfBuilder.Is b) = gives b
-saysBuilder (OfBuilder.Refused r) = refusal r

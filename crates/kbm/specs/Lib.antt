@@ -2,6 +2,5 @@ pub mod Table
 pub mod Root
 pub mod Degree
 pub mod Keys
-pub mod Builder
 pub mod Answers
 pub mod Samples

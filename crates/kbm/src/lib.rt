@@ -7,9 +7,6 @@ use integer_math::I32Answer;
 use key::Degree;
 use key::PianoKey;
 use pitch::Pitch;
-
-pub mod builder;
-
 ghost use mathlib.Core.Path.{_≡_};
 ghost use mathlib.Core.Bool.{true};
 ghost use lib.IntN.{_+ℤ_, _*ℤ_};

@@ -1,4 +1,5 @@
--- A TEXT OF THE PUBLISHED FORMAT IS TAKEN exactly within document 01's limits, and its meaning is the published one. Assumes nothing.
+-- A TEXT OF THE PUBLISHED FORMAT IS IN DOCUMENT 01'S LANGUAGE exactly within 01's limits, with the same numbers (01 has the f64 nearest the
+-- frequency) and entries; it is read where the table has a place for each entry. Which degrees its keys have: Sounding. Assumes nothing.
 use mathlib.Core.Path.{_≡_, refl, sym, _∙_, subst}
 use mathlib.Core.Bool.{true, false, _&&_}
 use mathlib.Core.List.{List, [], _∷_, _++_}
@@ -15,17 +16,18 @@ use Rattle.base.specs.Said.{gives}
 use Rattle.decimals.specs.DecimalText.{OptionalSign, Form, FloatText, Unsupported, DecimalText, fromNonzero}
 use Rattle.floats.proofs.Ranges.{and-true}
 use Rattle.integers.specs.IntegerText.{IntText}
-use Rattle.kbm.specs.Table.{AreI16}
+use Rattle.kbm.specs.Table.{AreI16, isTable, tableOf}
 use Rattle.kbm.specs.declared.Entry.{Entry}
 use Rattle.kbm.specs.declared.Kbm.{Kbm}
 use Rattle.kbm_read.specs.Language.{required, Values, GiveAll, EntryText, Entries, Tokens, mappingFrom, added, MappingText}
-use Rattle.kbm_read.specs.Reader.{readOf, entriesIn}
+use Rattle.kbm_read.specs.Reader.{readOf, afterRead}
 use Rattle.kbm_read.proofs.Ends.{length-added}
-use Rattle.kbm_read.proofs.Language.{accepts}
+use Rattle.kbm_read.proofs.Language.{in-language}
+use Rattle.kbm_read.proofs.Tables.{leaves-meaning}
 use Rattle.kbm_write.specs.Published as P
-use Rattle.text.specs.Characters.{Utf8}
+use Rattle.utf8.specs.Characters.{Utf8}
 use Rattle.text.specs.ReadLine.{strictly, meaningBy}
-use Rattle.text.specs.Reading.{strict, Meaning, invalid, dropped, content, Line, EachLine}
+use Rattle.text.specs.Reading.{strict, Meaning, invalid, blank, comment, content, Line, EachLine}
 use Rattle.text.proofs.LineLanguage.{strict-line}
 use Rattle.kbm_formats.specs.Agree.{Agree}
 use Rattle.kbm_formats.specs.Limits.{AllUtf8, WithinLimits}
@@ -38,14 +40,18 @@ use Rattle.kbm_formats.proofs.Values.{Are}
 no-meaning : {A : Type 0} {m t : List ℕ} → _≡_ {A = Meaning} invalid (content m t) → A
 no-meaning e = let z : _≡_ {A = ℕ} 0 1 = cc in absurd (omega arith)
 
-not-dropped : {A : Type 0} → _≡_ {A = Meaning} invalid dropped → A
-not-dropped e = let z : _≡_ {A = ℕ} 0 1 = cc in absurd (omega arith)
+not-blank : {A : Type 0} → _≡_ {A = Meaning} invalid blank → A
+not-blank e = let z : _≡_ {A = ℕ} 0 1 = cc in absurd (omega arith)
+
+not-comment : {A : Type 0} → _≡_ {A = Meaning} invalid comment → A
+not-comment e = let z : _≡_ {A = ℕ} 0 1 = cc in absurd (omega arith)
 
 -- UTF-8 is text
-is-text : (l : List ℕ) (x : Meaning) → Utf8 l → Line strict l x → x ≡ invalid → ⊥
+pub is-text : (l : List ℕ) (x : Meaning) → Utf8 l → Line strict l x → x ≡ invalid → ⊥
 is-text l x u (Line.not-text n e) p = n u
-is-text l x u (Line.drops r m y d e) p = not-dropped (sym p ∙ e)
-is-text l x u (Line.says r m t y n q e) p = no-meaning (sym p ∙ e)
+is-text l x u (Line.is-blank r y e) p = not-blank (sym p ∙ e)
+is-text l x u (Line.is-comment r m y d e) p = not-comment (sym p ∙ e)
+is-text l x u (Line.says r m t y o n q e) p = no-meaning (sym p ∙ e)
 
 -- what the lines say, and the tokens of those that do not drop out
 record Spoken (ls us : List (List ℕ)) : Type 0 where
@@ -61,7 +67,7 @@ lines-say (P.Kept.comment {l = l} c k) a us h =
     let x = meaningBy strictly l in
     elim (comment-line l x c (strict-line l)) [
       | inl e ↦ absurd (is-text l x (a .0) (strict-line l) e)
-      | inr e ↦ record { says = dropped ∷ r .says; each = (subst (Line strict l) e (strict-line l), r .each); tokens = r .tokens }
+      | inr e ↦ record { says = comment ∷ r .says; each = (subst (Line strict l) e (strict-line l), r .each); tokens = r .tokens }
     ]
 lines-say (P.Kept.kept n k) a [] h = absurd h
 lines-say (P.Kept.kept {l = l} n k) a (u ∷ us) h =
@@ -84,7 +90,7 @@ whole-integer {z = z} top most l h (P.Whole.minus u (suc n) q d e) =
     let c : n ≤ most = leb-true n most (is-true _ (rw e at b)) in
     IntText.minus u (suc n) refl q d (omega arith) e
 
-whole-size : {t : List ℕ} {n : ℕ} → n ≤ 65535 → ((u : List ℕ) → t ≡ 45 ∷ u → ⊥) → P.Whole t (pos n) → IntText false (2 ^ 16) t (pos n)
+pub whole-size : {t : List ℕ} {n : ℕ} → n ≤ 65535 → ((u : List ℕ) → t ≡ 45 ∷ u → ⊥) → P.Whole t (pos n) → IntText false (2 ^ 16) t (pos n)
 whole-size {n = n} h f (P.Whole.plain k d e) = let c : n ≡ k = cc in IntText.plain k d (omega arith) e
 whole-size h f (P.Whole.minus u k q d e) = absurd (f u q)
 
@@ -150,7 +156,7 @@ module _ {s : List ℕ} {m : P.Mapping} (p : P.PublishedText s m) where
             record {
               first = seven p;
               rest = written-degrees p .tokens;
-              tokens = r .tokens;
+              words = r .tokens;
               values = given;
               entries = are-entries (written-degrees p .tokens) (m .given) (w .degrees) (written-degrees p .are);
             };
@@ -160,7 +166,7 @@ module _ {s : List ℕ} {m : P.Mapping} (p : P.PublishedText s m) where
         entries = refl;
       }
 
-  -- A PUBLISHED TEXT WITHIN THE LIMITS is a mapping file of document 01, and what it says there is what it says as published
+  -- A PUBLISHED TEXT WITHIN THE LIMITS is a mapping file of document 01, with the numbers and entries that it has as published
   pub published-accepted : WithinLimits p → (k : Kbm) × (es : List Entry) × MappingText s k es × Agree m k es
   published-accepted w = let t = within-taken w in (mappingFrom said, added (m .size) (m .given), t, agree p (mappingFrom said) (added (m .size) (m .given)) t)
 
@@ -168,10 +174,12 @@ module _ {s : List ℕ} {m : P.Mapping} (p : P.PublishedText s m) where
   pub published-exactly : ((k : Kbm) × (es : List Entry) × MappingText s k es) ↔ WithinLimits p
   published-exactly = (λ t. taken-within p (t .0) (t .1) (t .2), λ w. (mappingFrom said, added (m .size) (m .given), within-taken w))
 
-  -- the reader gives its mapping, where the table has a place for each entry
-  pub published-read : WithinLimits p → (room : ℕ) → m .size ≤ room → (k : Kbm) × (readOf room s ≡ gives k) × Agree m k (entriesIn (k .count) s)
-  published-read w room h =
+  -- it is read where the table has a place for each entry, and leaves a table that later calls take, with its numbers and entries
+  pub published-read : WithinLimits p → (old : List ℤ) → m .size ≤ length old
+      → (k : Kbm) × (readOf (length old) s ≡ gives k) × (isTable (k .count) (afterRead s old) ≡ true) × Agree m k (tableOf (k .count) (afterRead s old))
+  published-read w old h =
       let t = within-taken w in
       let es = added (m .size) (m .given) in
-      let a = accepts room s (mappingFrom said) es .1 (t, omega (arith, length-added (m .size) (m .given), p .most)) in
-      (mappingFrom said, a .0, rw (a .1) (agree p (mappingFrom said) es t))
+      let fits : length es ≤ length old = omega (arith, length-added (m .size) (m .given), p .most) in
+      let l = leaves-meaning s old (mappingFrom said) es t fits in
+      (mappingFrom said, in-language (length old) s t fits, l .0, rw (l .1) (agree p (mappingFrom said) es t))

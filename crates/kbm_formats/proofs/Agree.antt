@@ -1,26 +1,32 @@
 -- TWO READINGS OF ONE TEXT: where a text is a mapping file of document 01's language and also a text of the published format, both
--- say the same. Assumes nothing.
+-- say the same numbers (01 the f64 nearest the frequency) and the same entries. Which degrees the keys have is not said here: 01 counts from
+-- the reference key, the pages from the middle key (see Sounding). Assumes nothing.
 use mathlib.Core.Path.{_≡_, refl, sym, ap, _∙_, subst}
-use mathlib.Core.Bool.{Bool}
-use mathlib.Core.List.{List, [], _∷_, _++_}
-use Prim.Native.Nat.{ℕ, suc}
+use mathlib.Core.Bool.{Bool, true}
+use mathlib.Core.List.{List, [], _∷_, _++_, append-nil}
+use Prim.Native.Nat.{ℕ, suc, _-_, _≤_}
 use native.Mathlib.Omega.{arith}
 use lib.IntN.{ℤ, pos, _+ℤ_}
 use lib.ListN.{length}
+use Rattle.base.specs.Said.{gives}
+use Rattle.kbm.specs.Table.{isTable, tableOf}
 use Rattle.kbm.specs.declared.Entry.{Entry}
 use Rattle.kbm.specs.declared.Kbm.{Kbm}
-use Rattle.kbm_read.specs.Language.{Required, required, Values, GiveAll, Entries, sizeOf, mappingFrom, added, MappingText}
+use Rattle.kbm_read.specs.Language.{Required, required, Values, GiveAll, Entries, sizeOf, mappingFrom, blanks, added, MappingText}
+use Rattle.kbm_read.specs.Reader.{readOf, entriesIn, afterRead}
+use Rattle.kbm_read.proofs.Language.{accepted}
+use Rattle.kbm_read.proofs.Tables.{leaves-table}
 use Rattle.kbm_write.specs.Again.{ComesBack}
 use Rattle.kbm_write.specs.Export.{exportText}
 use Rattle.kbm_write.specs.Published as P
 use Rattle.kbm_write.specs.Typed.{Typed}
 use Rattle.kbm_write.proofs.Published.{export-published}
 use Rattle.integers.specs.IntegerText.{IntText}
-use Rattle.kbm_write.proofs.Plain.{Word}
+use Rattle.writing.proofs.Plain.{Word}
 use Rattle.text.specs.Reading.{strict, EachLine}
 use Rattle.text.proofs.LinesLanguage.{one-lines}
 use Rattle.kbm_formats.specs.Agree.{Agree}
-use Rattle.kbm_formats.proofs.RoundTrip.{export-in-language}
+use Rattle.kbm_formats.proofs.RoundTrip.{round-trip, export-in-language}
 use Rattle.kbm_formats.proofs.Standing.{Holds, same-tokens}
 use Rattle.kbm_formats.proofs.Values.{whole-agrees, hertz-agrees, whole-word, hertz-word, Written, degree-tokens, same-entries}
 
@@ -80,7 +86,7 @@ module _ {s : List ℕ} {m : P.Mapping} (p : P.PublishedText s m) where
   read-values a =
       let parts : a .text .parts ≡ p .parts = sym (one-lines (a .text .lines)) ∙ one-lines (p .lines) in
       let each = subst (λ (ls : List (List ℕ)). EachLine strict ls (a .says)) parts (a .text .each) in
-      let tokens = same-tokens (p .keeps) (a .says) each (a .lines .first ++ a .lines .rest) (seven ++ written-degrees .tokens) (a .lines .tokens) all-held in
+      let tokens = same-tokens (p .keeps) (a .says) each (a .lines .first ++ a .lines .rest) (seven ++ written-degrees .tokens) (a .lines .words) all-held in
       let same = same-parts (a .lines .first) seven (a .lines .rest) (written-degrees .tokens) (give-length required (a .lines .first) (a .values) (a .lines .values)) tokens in
       (subst (λ (l : List (List ℕ)). GiveAll required l (a .values)) (same .0) (a .lines .values), subst (λ (l : List (List ℕ)). Entries l (a .given)) (same .1) (a .lines .entries))
 
@@ -101,9 +107,29 @@ module _ {s : List ℕ} {m : P.Mapping} (p : P.PublishedText s m) where
         pitch = hertz-agrees (p .frequency .token) (m .hertz) (m .places) hz (p .frequency .value) (g .1 .1 .1 .1 .1 .0 .0);
       }
 
-  -- THE THEOREM: the two readings of one text agree
+  -- THE THEOREM: the two readings of one text agree in numbers and entries
   pub agree : (k : Kbm) (es : List Entry) → MappingText s k es → Agree m k es
   agree k es a = let r = read-values a in rw (a .mapping, a .entries) (by-values (a .values) (a .given) (r .0) (r .1))
+
+-- ---- THE EXPORT
+-- an export that is read, as whatever mapping, leaves a table that later calls take, with the entries that were written
+pub entries-back : (kbm : Kbm) (es : List Entry) → Typed kbm es → (old : List ℤ) (k : Kbm) → readOf (length old) (exportText kbm es) ≡ gives k
+    → (isTable (k .count) (afterRead (exportText kbm es) old) ≡ true) × (tableOf (k .count) (afterRead (exportText kbm es) old) ≡ es)
+unfolding blanks
+entries-back kbm es y old k e =
+    let s = exportText kbm es in
+    let l = leaves-table s old e in
+    let a = agree (export-published kbm es y) k (entriesIn (k .count) s) (accepted (length old) s k e .0) in
+    let z : kbm .count - length es ≡ 0 = omega (arith, y .counted) in
+    (l .0, l .1 ∙ a .entries ∙ rw z (append-nil es))
+
+-- and one that comes back leaves mapping and entries, where the table has a place for each
+pub mapping-back : (kbm : Kbm) (es : List Entry) → Typed kbm es → ComesBack kbm → (old : List ℤ) → kbm .count ≤ length old → (readOf (length old) (exportText kbm es) ≡ gives kbm)
+    × (isTable (kbm .count) (afterRead (exportText kbm es) old) ≡ true) × (tableOf (kbm .count) (afterRead (exportText kbm es) old) ≡ es)
+mapping-back kbm es y c old r =
+    let e = round-trip kbm es y (length old) r .1 c in
+    let l = entries-back kbm es y old kbm e in
+    (e, l .0, l .1)
 
 -- some text is in both: the export of any mapping that comes back
 pub in-both : (kbm : Kbm) (es : List Entry) → Typed kbm es → ComesBack kbm → P.PublishedText (exportText kbm es) (P.publishedOf kbm es) × MappingText (exportText kbm es) kbm es

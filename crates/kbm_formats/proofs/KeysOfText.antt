@@ -15,23 +15,22 @@ use Rattle.base.specs.Said.{Said, gives, refuses}
 use Rattle.base.proofs.Integers.{bool-cases}
 use Rattle.integers.specs.IntegerText.{IntText}
 use Rattle.integers.proofs.Theorems.{one-value}
-use Rattle.kbm.specs.Degree.{scaleDegreeOf}
+use Rattle.kbm.specs.Degree.{degreeOf, scaleDegreeOf}
 use Rattle.kbm.specs.Keys.{inKeys, distance, Reaches, Has, Lacks}
 use Rattle.kbm.specs.Table.{isTable, tableOf}
 use Rattle.kbm.specs.declared.Entry.{Entry}
 use Rattle.kbm.specs.declared.Entry.the-variants.{Mapped, Unmapped}
 use Rattle.kbm.specs.declared.Kbm.{Kbm}
-use Rattle.kbm.proofs.Theorems.{key-has}
+use Rattle.kbm.proofs.Theorems.{table-used, key-has}
 use Rattle.kbm_read.specs.Language.{required, Values, EntryText, Entries, sizeOf, mappingFrom, blanks, added, MappingText}
 use Rattle.kbm_read.specs.Reader.{afterRead}
 use Rattle.kbm_read.proofs.Ends.{length-added}
-use Rattle.kbm_read.proofs.Fields.{same-refuses, no-refusal}
-use Rattle.kbm_read.proofs.Language.{accepts}
-use Rattle.kbm_read.proofs.Tables.{leaves-table}
+use Rattle.base.proofs.Said.{no-refusal, same-refuses}
+use Rattle.kbm_read.proofs.Tables.{leaves-meaning}
 use Rattle.key.specs.declared.PianoKey.{PianoKey}
 use Rattle.kbm_formats.specs.KeysOfText.{entryTokens, lastKey, Inside, Outside, steps, Counts, NotMapped, MappedTo, Silent, TooFar, SaidOf}
 use Rattle.kbm_write.specs.Export.{lastOf}
-use Rattle.text.proofs.Encodings.{split}
+use Rattle.utf8.proofs.Encodings.{split}
 use Rattle.kbm_formats.proofs.Values.{letter-integer}
 use Rattle.kbm_formats.proofs.Range.{inside, inside-back, outside, outside-back}
 
@@ -176,10 +175,10 @@ module _ (vs : Values required) (ts : List (List ℕ)) (given : List Entry) (x :
   said-has (SaidOf.degree i n q r e d m h p) = Has.degree (inside-is vs key i) n q e (reaches-one e d m) h p
 
 -- ---- which refusal, exactly when
-other : {A : Type 0} {m n : ℕ} {x : Said ℤ} → x ≡ refuses m 0 → x ≡ refuses n 0 → (m ≡ n → ⊥) → A
+pub other : {A : Type 0} {m n : ℕ} {x : Said ℤ} → x ≡ refuses m 0 → x ≡ refuses n 0 → (m ≡ n → ⊥) → A
 other p e f = absurd (f (same-refuses (sym p ∙ e) .0))
 
-no-degree : {A : Type 0} {z : ℤ} {n : ℕ} {x : Said ℤ} → x ≡ gives z → x ≡ refuses n 0 → A
+pub no-degree : {A : Type 0} {z : ℤ} {n : ℕ} {x : Said ℤ} → x ≡ gives z → x ≡ refuses n 0 → A
 no-degree p e = no-refusal (sym p ∙ e)
 
 outside-silent : (vs : Values required) (ts : List (List ℕ)) (key : ℤ) → Outside vs key → Silent vs ts key
@@ -221,10 +220,11 @@ module _ {s : List ℕ} {k : Kbm} {es : List Entry} (t : MappingText s k es) (ol
   vs = t .values
 
   read : (isTable (k .count) (afterRead s old) ≡ true) × (tableOf (k .count) (afterRead s old) ≡ es)
-  read =
-      let a = accepts (length old) s k es .1 (t, room) in
-      let l = leaves-table s old (a .0) in
-      (l .0, l .1 ∙ a .1)
+  read = leaves-meaning s old k es t room
+
+  -- the answer, by the entries that the text says
+  pub read-answers : answer ≡ degreeOf k es key
+  read-answers = table-used k (afterRead s old) key (read .0) ∙ ap (λ (l : List Entry). degreeOf k l key) (read .1)
 
   -- the answer is what the lines say of the key, and nothing else is
   pub text-says : (x : Said ℤ) → (answer ≡ x) ↔ SaidOf vs (entryTokens t) (key .0) x
@@ -244,8 +244,9 @@ module _ {s : List ℕ} {k : Kbm} {es : List Entry} (t : MappingText s k es) (ol
   pub text-outside : (answer ≡ refuses key-out-of-range 0) ↔ Outside vs (key .0)
   text-outside = (λ e. said-outside (text-says answer .0 refl) e, λ o. text-says (refuses key-out-of-range 0) .1 (SaidOf.outside o refl))
 
-  -- NO DEGREE, 16 or 17, exactly when the key is below the first key, or above the last, or the map has entries and the place reached by
-  -- counting round from the reference key has `x` or `X` as its token or lies past the entries written
+  -- NO DEGREE, 16 or 17, exactly when the key is below the first key, or above the last, or its distance from the reference key is a number
+  -- of 32 bits, the map has entries and the place reached by counting round that far has `x` or `X` as its token or lies past the entries
+  -- written
   pub text-lacks : Lacks answer ↔ Silent vs (entryTokens t) (key .0)
   text-lacks = (forth, back)
     where

@@ -6,7 +6,9 @@ pub mod Agree
 pub mod Limits
 pub mod Accepted
 pub mod OneMeaning
+pub mod SameKeys
 pub mod Sounding
 pub mod Samples
+pub mod PublishedSamples
 pub mod Range
 pub mod KeysOfText

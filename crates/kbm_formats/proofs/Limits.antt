@@ -1,4 +1,4 @@
--- THE LIMITS ARE NEEDED: a published text that document 01 takes is within them. Assumes nothing.
+-- THE LIMITS ARE NEEDED: a published text in document 01's language is within them. Assumes nothing.
 use mathlib.Core.Path.{_≡_, sym, _∙_, subst}
 use mathlib.Core.Bool.{false}
 use mathlib.Core.List.{List, [], _∷_, _++_}
@@ -14,10 +14,11 @@ use Rattle.kbm.specs.Table.{AreI16}
 use Rattle.kbm.specs.declared.Entry.{Entry}
 use Rattle.kbm.specs.declared.Kbm.{Kbm}
 use Rattle.kbm_read.specs.Language.{required, Values, GiveAll, Tokens, MappingText}
-use Rattle.kbm_read.proofs.Tables.{typed-int, typed-all}
+use Rattle.integers.proofs.AtLine.{typed-int}
+use Rattle.kbm_read.proofs.Tables.{typed-all}
 use Rattle.kbm_write.specs.Published as P
 use Rattle.text.specs.Reading.{strict, Meaning, Line, EachLine}
-use Rattle.text.proofs.Encodings.{split}
+use Rattle.utf8.proofs.Encodings.{split}
 use Rattle.text.proofs.LinesLanguage.{one-lines}
 use Rattle.kbm_formats.specs.Limits.{AllUtf8, WithinLimits}
 use Rattle.kbm_formats.proofs.Agree.{same-number, written-degrees, seven, read-values}
@@ -31,12 +32,13 @@ all-text (l ∷ ls) (x ∷ xs) e ts t = go x (e .0) ts t (λ us u. all-text ls x
   where
     go : (y : Meaning) → Line strict l y → (us : List (List ℕ)) → Tokens (y ∷ xs) us → ((vs : List (List ℕ)) → Tokens xs vs → AllUtf8 ls) → AllUtf8 (l ∷ ls)
     go y (Line.not-text n q) us u more = absurd (subst (λ (z : Meaning). Tokens (z ∷ xs) us) q u)
-    go y (Line.drops r m a d q) us u more = (r, more us (subst (λ (z : Meaning). Tokens (z ∷ xs) us) q u))
-    go y (Line.says r m v a n w q) [] u more = absurd (subst (λ (z : Meaning). Tokens (z ∷ xs) []) q u)
-    go y (Line.says r m v a n w q) (c ∷ us) u more = (r, more us (subst (λ (z : Meaning). Tokens (z ∷ xs) (c ∷ us)) q u .1))
+    go y (Line.is-blank r a q) us u more = (r, more us (subst (λ (z : Meaning). Tokens (z ∷ xs) us) q u))
+    go y (Line.is-comment r m a d q) us u more = (r, more us (subst (λ (z : Meaning). Tokens (z ∷ xs) us) q u))
+    go y (Line.says r m v a o n w q) [] u more = absurd (subst (λ (z : Meaning). Tokens (z ∷ xs) []) q u)
+    go y (Line.says r m v a o n w q) (c ∷ us) u more = (r, more us (subst (λ (z : Meaning). Tokens (z ∷ xs) (c ∷ us)) q u .1))
 
 -- an integer without a sign has no `-`
-no-minus : {t u : List ℕ} {top : ℕ} {z : ℤ} → IntText false top t z → t ≡ 45 ∷ u → ⊥
+pub no-minus : {t u : List ℕ} {top : ℕ} {z : ℤ} → IntText false top t z → t ≡ 45 ∷ u → ⊥
 no-minus (IntText.plain n d h e) q = not-digits (λ a b. omega arith) q d
 no-minus (IntText.plus v n s d h e) q = let x : _≡_ {A = ℕ} 43 45 = cc in omega arith
 no-minus (IntText.minus v n g s d h e) q = let x : _≡_ {A = ℕ} 0 1 = cc in omega arith
@@ -47,7 +49,7 @@ small {n = n} (IntText.plain k d h e) = let x : n ≡ k = cc in omega arith
 small {n = n} (IntText.plus v k s d h e) = let x : n ≡ k = cc in omega arith
 small (IntText.minus v k g s d h e) = let x : _≡_ {A = ℕ} 0 1 = cc in absurd (omega arith)
 
-at-most : (a b : ℕ) → (b < a → ⊥) → a ≤ b
+pub at-most : (a b : ℕ) → (b < a → ⊥) → a ≤ b
 at-most a b f = elim (split b a) [
   | inl h ↦ absurd (f h)
   | inr h ↦ h
@@ -83,6 +85,6 @@ module _ {s : List ℕ} {m : P.Mapping} (p : P.PublishedText s m) where
   taken-within k es a =
       let r = read-values p a in
       let parts : a .text .parts ≡ p .parts = sym (one-lines (a .text .lines)) ∙ one-lines (p .lines) in
-      let texts = all-text (a .text .parts) (a .says) (a .text .each) (a .lines .first ++ a .lines .rest) (a .lines .tokens) in
+      let texts = all-text (a .text .parts) (a .says) (a .text .each) (a .lines .first ++ a .lines .rest) (a .lines .words) in
       let given : m .given ≡ a .given = same-entries (written-degrees p .tokens) (m .given) (a .given) (written-degrees p .are) (r .1) in
       by-values (a .values) (r .0) (subst AllUtf8 parts texts) (rw given (typed-all (written-degrees p .tokens) (a .given) (r .1)))

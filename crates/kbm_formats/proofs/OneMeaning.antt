@@ -11,8 +11,8 @@ use Rattle.integers.specs.IntegerText.{Digits}
 use Rattle.kbm.specs.declared.Entry.{Entry}
 use Rattle.kbm.specs.declared.Entry.the-variants.{Mapped}
 use Rattle.kbm_write.specs.Published as P
-use Rattle.kbm_write.proofs.Plain.{Plain, Word}
-use Rattle.text.specs.Characters.{Each}
+use Rattle.writing.proofs.Plain.{Plain, Word}
+use Rattle.utf8.specs.Characters.{Each}
 use Rattle.text.proofs.LinesLanguage.{one-lines}
 use Rattle.kbm_formats.proofs.Standing.{no-cons}
 use Rattle.kbm_formats.proofs.Values.{not-digits, one-number, letter-whole, whole-word, hertz-word, degree-word}

@@ -1,5 +1,6 @@
--- THE ROUND TRIP: the export of a mapping, read again, is the same mapping exactly when reference and middle key fit i16 and the
--- pitch is the f64 nearest its own three decimals; its entries come back in any case. Assumes nothing.
+-- THE ROUND TRIP: the export of a mapping, read again into a table with a place for each entry, is the same mapping exactly when reference
+-- and middle key fit i16 and the pitch is the f64 nearest its own three decimals. That a read leaves the entries is `entries-back` of Agree,
+-- also where the pitch comes back as another. Assumes nothing.
 use mathlib.Core.Path.{_≡_, refl, sym, ap, _∙_}
 use mathlib.Core.Bool.{Bool, true, false}
 use mathlib.Core.List.{List, _∷_, append-nil}
@@ -16,7 +17,7 @@ use borrow.Author.Tests.{le-leb, lt-leb}
 use Rattle.base.specs.Integers.{inI32}
 use Rattle.base.specs.Said.{gives, refuses}
 use Rattle.base.proofs.Integers.{mag-in}
-use Rattle.base.proofs.Said.{same-value}
+use Rattle.base.proofs.Said.{same-value, no-value}
 use Rattle.floats.specs.Ranges.{inPitch}
 use Rattle.decimals.specs.DecimalScan.{readDecimal}
 use Rattle.integers.specs.Integer.{Int, value, none, readInt}
@@ -31,12 +32,14 @@ use Rattle.kbm.proofs.Entries.{mag-i16}
 use Rattle.kbm_read.specs.Reader.{takeToken, walk, unread, mappingOf, readOf, givenFrom, entriesIn}
 use Rattle.kbm_read.specs.Language.{blanks, MappingText}
 use Rattle.kbm_read.proofs.Language.{accepts}
-use Rattle.kbm_read.proofs.Walks.{no-value}
-use Rattle.kbm_write.specs.Again.{nearestThree, ComesBack}
+use Rattle.listing.specs.Reader.{walkLines}
+use Rattle.writing.specs.Thousandths.{nearestThree}
+use Rattle.kbm_write.specs.Again.{ComesBack}
 use Rattle.kbm_write.specs.Export.{lastOf, middleOf, entryTexts, exportText}
 use Rattle.kbm_write.proofs.ExportLines.{exportTexts, export-found}
-use Rattle.kbm_write.proofs.Plain.{selves}
-use Rattle.kbm_write.proofs.Printed.{size-reads, reads-only, pitch-reads}
+use Rattle.writing.proofs.Plain.{selves}
+use Rattle.writing.proofs.Printed.{size-reads, reads-only}
+use Rattle.kbm_write.proofs.Printed.{pitch-reads}
 use Rattle.kbm_write.specs.Typed.{Typed}
 use Rattle.kbm_formats.proofs.Walk.{whole-value, headIs, head-read, entries-read, ends-read, entries-given, head-given}
 
@@ -55,16 +58,16 @@ last-below (negsuc n) h = refl
 module _ (room : ℕ) (t1 t2 t3 t4 t5 t6 : List ℕ) (ts : List (List ℕ)) {size : ℕ} {first last : ℤ} (e1 : readInt false (2 ^ 16) t1 ≡ value (pos size)) (e2 : readInt true (2 ^ 31) t2 ≡ value first)
     (e3 : readInt true (2 ^ 31) t3 ≡ value last) (n3 : leZ (pos 2147483647) last ≡ false) where
   middle-not : readInt true (2 ^ 15) t4 ≡ none → walk room 1 unread (selves (t1 ∷ t2 ∷ t3 ∷ t4 ∷ t5 ∷ t6 ∷ ts)) ≡ refuses 3 4
-  unfolding walk selves takeToken
+  unfolding walkLines selves takeToken
   middle-not e4 = rw (e1, e2, e3, n3, e4)
 
   reference-not : {middle : ℤ} → readInt true (2 ^ 15) t4 ≡ value middle → readInt true (2 ^ 15) t5 ≡ none → walk room 1 unread (selves (t1 ∷ t2 ∷ t3 ∷ t4 ∷ t5 ∷ t6 ∷ ts)) ≡ refuses 3 5
-  unfolding walk selves takeToken
+  unfolding walkLines selves takeToken
   reference-not e4 e5 = rw (e1, e2, e3, n3, e4, e5)
 
   pitch-not : {middle reference : ℤ} {hz : Float} → readInt true (2 ^ 15) t4 ≡ value middle → readInt true (2 ^ 15) t5 ≡ value reference → readDecimal t6 ≡ decimal.Is hz → inPitch hz ≡ false
       → walk room 1 unread (selves (t1 ∷ t2 ∷ t3 ∷ t4 ∷ t5 ∷ t6 ∷ ts)) ≡ refuses 10 6
-  unfolding walk selves takeToken
+  unfolding walkLines selves takeToken
   pitch-not e4 e5 e6 n6 = rw (e1, e2, e3, n3, e4, e5, e6, n6)
 
 -- the mapping of the seven lines is the one that was written
@@ -148,14 +151,14 @@ module _ (kbm : Kbm) (es : List Entry) (y : Typed kbm es) where
         let h = reads-only (2 ^ 15) key z (lit< tt) (lit≤ tt) (mag-in key (y .middle)) (sound true (2 ^ 15) (lit< tt) z (wholeText key) (sym q)) in
         had-reference (readInt true (2 ^ 15) (wholeText (kbm .root .reference .0))) refl (q ∙ ap value (h .0)) (in-i16 key (h .1)) e
 
-    -- an export read again is the same mapping exactly when it comes back
+    -- an export read again, into a table with a place for each entry, is the same mapping exactly when it comes back
     pub round-trip : (readOf room (exportText kbm es) ≡ gives kbm) ↔ ComesBack kbm
     round-trip = (had-middle (readInt true (2 ^ 15) (wholeText (middleOf kbm))) refl, comes-back)
 
-  -- and its entries are the same in any case
-  pub entries-back : entriesIn (kbm .count) (exportText kbm es) ≡ es
+  -- the entries that the lines of the export say, read or not
+  lines-back : entriesIn (kbm .count) (exportText kbm es) ≡ es
   unfolding blanks
-  entries-back =
+  lines-back =
       let g : givenFrom 7 (selves (exportTexts kbm es)) ≡ es = head-given (wholeText (pos (kbm .count))) (wholeText (kbm .start .0)) (wholeText (lastOf kbm)) (wholeText (middleOf kbm)) (wholeText (kbm .root .reference .0)) (textOf 3 false hz) (wholeText (kbm .octave)) (entryTexts es) ∙ entries-given es (y .degrees) in
       let z : kbm .count - length es ≡ 0 = omega (arith, y .counted) in
       rw (export-found kbm es, g, z) (append-nil es)
@@ -167,5 +170,5 @@ module _ (kbm : Kbm) (es : List Entry) (y : Typed kbm es) where
       let all : room ≤ room = omega arith in
       let a = accepts room (exportText kbm es) kbm es in (
         λ m. round-trip room all .0 (a .1 (m, omega (arith, y .counted)) .0),
-        λ c. a .0 (comes-back room all c, entries-back) .0,
+        λ c. a .0 (comes-back room all c, lines-back) .0,
       )

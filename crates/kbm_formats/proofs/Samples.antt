@@ -1,165 +1,156 @@
--- The example is a text of the published format and within document 01's limits, so that it is read; and it is the text of these
--- bytes. Assumes nothing.
-use mathlib.Core.Path.{_≡_, refl, sym}
-use mathlib.Core.Bool.{Bool, true, _&&_}
-use mathlib.Core.List.{List, [], _∷_, append-nil}
+-- Samples by document 01: its own input for `kbmcopy`, and the text at the ends of 32 bits, are read, and their keys answered; a mapping that
+-- comes back, and one that does not. Assumes nothing.
+use mathlib.Core.Path.{_≡_, refl, ap}
+use mathlib.Core.Bool.{true, false}
+use mathlib.Core.List.{List, [], _∷_, _++_}
 use mathlib.Core.Logic.{inl, inr}
-use Prim.Native.Nat.{ℕ, _^_, _<_}
+use Prim.Native.Nat.{ℕ, _^_, _≤_}
 use native.Mathlib.Omega.{arith}
 use lib.Dec.{lit<, lit≤}
 use lib.Ieee.{Float, ofBits, round, le}
-use lib.IntN.{ℤ, pos}
+use lib.IntN.{ℤ, pos, negsuc}
 use lib.ListN.{length}
-use lib.Signed.{leZ-yes, ltZ-yes}
-use Rattle.integers.specs.Digits.{isDigit, AllDigits, decimal}
-use Rattle.integers.specs.IntegerText.{IntText}
-use Rattle.integers.proofs.Digits.{digit-is}
-use Rattle.kbm.proofs.Entries.{and-both}
-use Rattle.kbm_write.specs.Export.{linesText}
-use Rattle.kbm_write.specs.Published as P
+use lib.Signed.{leZ-yes}
+use Rattle.base.specs.Integers.{held}
+use Rattle.base.specs.Said.{gives}
+use Rattle.numerals.specs.Scan.{spelled, scanOf}
+use Rattle.numerals.specs.Scan as numerals
+use Rattle.decimals.specs.DecimalScan.{readDecimal}
+use Rattle.integers.specs.Integer.{scan, magnitudeOf, readSigned}
+use Rattle.integers.proofs.Language.{sound}
+use Rattle.floats.specs.Units.{negative}
+use Rattle.kbm.specs.Degree.{degreeAt, scaleDegreeOf}
+use Rattle.kbm.specs.Keys.{Lacks}
+use Rattle.kbm.specs.Table.{entriesOf}
+use Rattle.kbm.specs.declared.Entry.{Entry}
+use Rattle.kbm.specs.declared.Entry.the-variants.{Mapped, Unmapped}
+use Rattle.kbm_read.specs.Language.{Required, required, Values, GiveAll, EntryText, Entries, Tokens, sizeOf, mappingFrom, blanks, added, MappingText}
+use Rattle.kbm_read.specs.Reader.{afterRead}
+use Rattle.kbm_read.proofs.Fields.{readAs, read-gives}
+use Rattle.kbm_read.proofs.Language.{in-language}
+use Rattle.key.specs.Keys.{key}
+use Rattle.writing.specs.Lines.{linesText}
 use Rattle.text.specs.Cut.{lines}
-use Rattle.text.specs.Utf8Machine.{leadOf, utf8Step}
-use Rattle.text.specs.Utf8Machine as utf8
-use Rattle.text.proofs.LinesLanguage.{the-lines}
-use Rattle.text.proofs.Utf8Language.{accepts}
-use Rattle.kbm_formats.specs.KeysOfText.{Silent, SaidOf}
-use Rattle.kbm_formats.specs.Limits.{WithinLimits}
-use Rattle.kbm_formats.specs.Samples.{exampleLines, exampleText, exampleMapping, ExampleKeys}
+use Rattle.text.specs.ReadLine.{tokenLength, meaningBy, meanings, saidIn}
+use Rattle.white.specs.Trim.{widthBy, run}
+use Rattle.utf8.specs.Utf8Machine.{leadOf, utf8Step}
+use Rattle.utf8.specs.Utf8Machine as utf8
+use Rattle.text.proofs.LineLanguage.{strict-text}
+use Rattle.kbm_formats.specs.KeysOfText.{Silent}
+use Rattle.kbm_formats.specs.Samples.{copyText, exampleKbm, exampleEntries, CopyKeys, farText, farKbm, FarKey, Back}
+use Rattle.kbm_formats.proofs.KeysOfText.{other, read-answers, text-lacks}
 
--- digits, by a test
-abbrev allDigits : List ℕ → Bool
-allDigits [] = true
-allDigits (b ∷ s) = isDigit b && allDigits s
+-- ---- A TEXT OF THE LANGUAGE, by computation
+-- the values that the required lines are read as
+abbrev ReadAll : (fs : List Required) → List (List ℕ) → Values fs → Type 0
+ReadAll [] [] vs = Unit {0}
+ReadAll [] (t ∷ ts) vs = ⊥
+ReadAll (f ∷ fs) [] vs = ⊥
+ReadAll (f ∷ fs) (t ∷ ts) vs = (readAs f 0 t ≡ gives (vs .0)) × ReadAll fs ts (vs .1)
 
-digits : (s : List ℕ) → allDigits s ≡ true → AllDigits s
-digits [] h = tt
-digits (b ∷ s) h = let p = and-both (isDigit b) (allDigits s) h in (digit-is b (p .0), digits s (p .1))
+all-read : (fs : List Required) (ts : List (List ℕ)) (vs : Values fs) → ReadAll fs ts vs → GiveAll fs ts vs
+all-read [] [] vs r = tt
+all-read [] (t ∷ ts) vs r = absurd r
+all-read (f ∷ fs) [] vs r = absurd r
+all-read (f ∷ fs) (t ∷ ts) vs r = (read-gives f 0 t (vs .0) (r .0), all-read fs ts (vs .1) (r .1))
 
--- a value alone on its line
-alone : (t : List ℕ) → P.Stands t t
-alone t = record { before = []; rest = []; whole = sym (append-nil t); blank = tt; ends = tt }
+by-lines : (s : List ℕ) (first rest : List (List ℕ)) (vs : Values required) (es : List Entry) → Tokens (saidIn s) (first ++ rest) → ReadAll required first vs → Entries rest es
+    → length (added (sizeOf vs) es) ≤ 65535 → length es ≤ sizeOf vs → MappingText s (mappingFrom vs) (added (sizeOf vs) es)
+by-lines s first rest vs es t r e l c =
+    record {
+      says = saidIn s;
+      text = strict-text s;
+      values = vs;
+      given = es;
+      lines = record { first = first; rest = rest; words = t; values = all-read required first vs r; entries = e };
+      not-large = l;
+      consistent = c;
+      mapping = refl;
+      entries = refl;
+    }
 
-whole : (t : List ℕ) (n : ℕ) → 0 < length t → allDigits t ≡ true → n ≡ decimal t → P.Whole t (pos n)
-whole t n l h e = P.Whole.plain n (record { some = l; each = digits t h; writes = e }) refl
+-- ---- 01'S OWN INPUT
+copy-text : MappingText copyText (exampleKbm (pos 62)) exampleEntries
+unfolding linesText lines meaningBy meanings tokenLength widthBy run leadOf utf8Step utf8.utf8From scan magnitudeOf readSigned numerals.runOf spelled scanOf readDecimal blanks round ofBits le
+copy-text =
+    by-lines copyText
+    ((51 ∷ []) ∷ (48 ∷ []) ∷ (49 ∷ 50 ∷ 55 ∷ []) ∷ (54 ∷ 50 ∷ []) ∷ (54 ∷ 48 ∷ []) ∷ (50 ∷ 54 ∷ 49 ∷ 46 ∷ 54 ∷ 50 ∷ 53 ∷ 54 ∷ []) ∷ (53 ∷ []) ∷ []) ((48 ∷ []) ∷ (88 ∷ []) ∷ [])
+    (3, (pos 0, (pos 127, (pos 62, (pos 60, (exampleKbm (pos 62) .root .pitch .0, (pos 5, tt))))))) (Mapped (pos 0) ∷ Unmapped ∷ [])
+    (refl, (refl, (refl, (refl, (refl, (refl, (refl, (refl, (refl, tt))))))))) (refl, (refl, (refl, (refl, (refl, (refl, (refl, tt)))))))
+    (EntryText.degree (pos 0) (sound true (2 ^ 15) (lit< tt) (pos 0) (48 ∷ []) refl), (EntryText.large refl, tt)) (lit≤ tt) (lit≤ tt)
 
-number : (t : List ℕ) (n : ℕ) → 0 < length t → allDigits t ≡ true → n ≡ decimal t → P.Number t (pos n)
-number t n l h e = record { token = t; stands = alone t; value = whole t n l h e }
-
--- the bytes of the example
-pub example-bytes : exampleText ≡ 51 ∷ 10 ∷ 48 ∷ 10 ∷ 49 ∷ 50 ∷ 55 ∷ 10 ∷ 54 ∷ 50 ∷ 10 ∷ 54 ∷ 48 ∷ 10 ∷ 50 ∷ 54 ∷ 49 ∷ 46 ∷ 54 ∷ 50 ∷ 53 ∷ 54 ∷ 10 ∷ 53 ∷ 10 ∷ 48 ∷ 10 ∷ 120 ∷ 10 ∷ []
+-- the bytes of the input
+pub copy-bytes : copyText ≡ 51 ∷ 10 ∷ 48 ∷ 10 ∷ 49 ∷ 50 ∷ 55 ∷ 10 ∷ 54 ∷ 50 ∷ 10 ∷ 54 ∷ 48 ∷ 10 ∷ 50 ∷ 54 ∷ 49 ∷ 46 ∷ 54 ∷ 50 ∷ 53 ∷ 54 ∷ 10 ∷ 53 ∷ 10 ∷ 48 ∷ 10 ∷ 88 ∷ 10 ∷ []
 unfolding linesText
-example-bytes = refl
+copy-bytes = refl
 
-cut : lines exampleText ≡ exampleLines
-unfolding linesText lines
-cut = refl
-
-pub example-published : P.PublishedText exampleText exampleMapping
-example-published =
+pub copy-keys : (old : List ℤ) → 3 ≤ length old → CopyKeys old
+unfolding by-lines copy-text degreeAt held
+copy-keys old room =
     record {
-      l1 = 51 ∷ [];
-      l2 = 48 ∷ [];
-      l3 = 49 ∷ 50 ∷ 55 ∷ [];
-      l4 = 54 ∷ 50 ∷ [];
-      l5 = 54 ∷ 48 ∷ [];
-      l6 = 50 ∷ 54 ∷ 49 ∷ 46 ∷ 54 ∷ 50 ∷ 53 ∷ 54 ∷ [];
-      l7 = 53 ∷ [];
-      parts = exampleLines;
-      rest = (48 ∷ []) ∷ (120 ∷ []) ∷ [];
-      lines = rw cut at (the-lines exampleText);
-      keeps = all-kept;
-      size = number (51 ∷ []) 3 (lit< tt) refl refl;
-      first = number (48 ∷ []) 0 (lit< tt) refl refl;
-      last = number (49 ∷ 50 ∷ 55 ∷ []) 127 (lit< tt) refl refl;
-      middle = number (54 ∷ 50 ∷ []) 62 (lit< tt) refl refl;
-      reference = number (54 ∷ 48 ∷ []) 60 (lit< tt) refl refl;
-      frequency =
-          record {
-            token = 50 ∷ 54 ∷ 49 ∷ 46 ∷ 54 ∷ 50 ∷ 53 ∷ 54 ∷ [];
-            stands = alone (50 ∷ 54 ∷ 49 ∷ 46 ∷ 54 ∷ 50 ∷ 53 ∷ 54 ∷ []);
-            value =
-                record {
-                  whole = 50 ∷ 54 ∷ 49 ∷ [];
-                  part = 54 ∷ 50 ∷ 53 ∷ 54 ∷ [];
-                  digits = record { first = digits (50 ∷ 54 ∷ 49 ∷ []) refl; second = digits (54 ∷ 50 ∷ 53 ∷ 54 ∷ []) refl; some = lit< tt; writes = inl refl };
-                  value = refl;
-                  places = refl;
-                };
-          };
-      octave = number (53 ∷ []) 5 (lit< tt) refl refl;
-      degrees = (
-        (48 ∷ [], alone (48 ∷ []), P.Degree.degree (pos 0) (whole (48 ∷ []) 0 (lit< tt) refl refl)),
-        ((120 ∷ [], alone (120 ∷ []), P.Degree.cross refl), tt),
-      );
-      most = lit≤ tt;
-    }
-  where
-    no-mark : (b : ℕ) (l : List ℕ) → 33 < b → P.Comment (b ∷ l) → ⊥
-    no-mark b l h e = omega arith
-
-    all-kept : P.Kept exampleLines exampleLines
-    all-kept =
-        P.Kept.kept (no-mark 51 [] (lit< tt))
-        (P.Kept.kept (no-mark 48 [] (lit< tt))
-        (P.Kept.kept (no-mark 49 (50 ∷ 55 ∷ []) (lit< tt))
-        (P.Kept.kept (no-mark 54 (50 ∷ []) (lit< tt))
-        (P.Kept.kept (no-mark 54 (48 ∷ []) (lit< tt))
-        (P.Kept.kept (no-mark 50 (54 ∷ 49 ∷ 46 ∷ 54 ∷ 50 ∷ 53 ∷ 54 ∷ []) (lit< tt))
-        (P.Kept.kept (no-mark 53 [] (lit< tt)) (P.Kept.kept (no-mark 48 [] (lit< tt)) (P.Kept.kept (no-mark 120 [] (lit< tt)) P.Kept.none))))))))
-
-pub example-within : WithinLimits example-published
-unfolding example-published number leadOf utf8Step utf8.utf8From round ofBits le
-example-within =
-    record {
-      utf8 = (
-        accepts (51 ∷ []) .0 refl,
-        (
-          accepts (48 ∷ []) .0 refl,
-          (
-            accepts (49 ∷ 50 ∷ 55 ∷ []) .0 refl,
-            (
-              accepts (54 ∷ 50 ∷ []) .0 refl,
-              (
-                accepts (54 ∷ 48 ∷ []) .0 refl,
-                (
-                  accepts (50 ∷ 54 ∷ 49 ∷ 46 ∷ 54 ∷ 50 ∷ 53 ∷ 54 ∷ []) .0 refl,
-                  (accepts (53 ∷ []) .0 refl, (accepts (48 ∷ []) .0 refl, (accepts (120 ∷ []) .0 refl, tt))),
-                ),
-              ),
-            ),
-          ),
-        ),
-      );
-      size = lit≤ tt;
-      unsigned = λ t e. not-minus t e;
-      first = refl;
-      last = refl;
-      before-end = λ e. not-largest e;
-      middle = refl;
-      reference = refl;
-      digits = lit≤ tt;
-      places = lit≤ tt;
-      pitch = refl;
-      octave = refl;
-      degrees = (refl, (tt, tt));
-    }
-  where
-    not-minus : (t : List ℕ) → 51 ∷ [] ≡ 45 ∷ t → ⊥
-    not-minus t e = let z : _≡_ {A = ℕ} 51 45 = cc in omega arith
-
-    not-largest : _≡_ {A = ℤ} (pos 127) (pos 2147483647) → ⊥
-    not-largest e = let z : _≡_ {A = ℕ} 127 2147483647 = cc in omega arith
-
-pub example-keys : (hz : Float) → ExampleKeys hz
-example-keys hz =
-    record {
-      low = Silent.under (ltZ-yes tt);
-      high = Silent.over (ltZ-yes tt);
-      cross = Silent.gap refl (pos 0) 1 (record { whole = refl; rest = lit< tt }) (inl (inl refl));
+      text = copy-text;
+      tokens = refl;
+      read = in-language (length old) copyText copy-text room;
+      low = read-answers copy-text old room (key (negsuc 0));
+      at60 = read-answers copy-text old room (key (pos 60));
+      at61 = read-answers copy-text old room (key (pos 61));
+      at62 = read-answers copy-text old room (key (pos 62));
+      at63 = read-answers copy-text old room (key (pos 63));
+      high = read-answers copy-text old room (key (pos 128));
+      cross = Silent.gap refl (pos 0) 1 (record { whole = refl; rest = lit< tt }) (inl (inr refl));
       left-out = Silent.gap refl (pos 0) 2 (record { whole = refl; rest = lit< tt }) (inr (lit≤ tt));
-      first = SaidOf.degree (leZ-yes tt, leZ-yes tt) refl (pos 0) 0 (pos 0) (record { whole = refl; rest = lit< tt }) (lit< tt, zero) refl refl;
-      next = SaidOf.degree (leZ-yes tt, leZ-yes tt) refl (pos 1) 0 (pos 0) (record { whole = refl; rest = lit< tt }) (lit< tt, zero) refl refl;
+    }
+
+-- ---- THE ENDS OF 32 BITS
+far-text : MappingText farText farKbm (Unmapped ∷ [])
+unfolding linesText lines meaningBy meanings tokenLength widthBy run leadOf utf8Step utf8.utf8From scan magnitudeOf readSigned numerals.runOf spelled scanOf readDecimal blanks round ofBits le
+far-text =
+    by-lines farText
+    ((49 ∷ []) ∷ (45 ∷ 50 ∷ 49 ∷ 52 ∷ 55 ∷ 52 ∷ 56 ∷ 51 ∷ 54 ∷ 52 ∷ 56 ∷ []) ∷ (50 ∷ 49 ∷ 52 ∷ 55 ∷ 52 ∷ 56 ∷ 51 ∷ 54 ∷ 52 ∷ 54 ∷ []) ∷ (45 ∷ 50 ∷ []) ∷ (45 ∷ 50 ∷ []) ∷
+    (52 ∷ 52 ∷ 48 ∷ 46 ∷ 48 ∷ []) ∷ (48 ∷ []) ∷ []) ((120 ∷ []) ∷ [])
+    (1, (negsuc 2147483647, (pos 2147483646, (negsuc 1, (negsuc 1, (farKbm .root .pitch .0, (pos 0, tt))))))) (Unmapped ∷ [])
+    (refl, (refl, (refl, (refl, (refl, (refl, (refl, (refl, tt)))))))) (refl, (refl, (refl, (refl, (refl, (refl, (refl, tt)))))))
+    (EntryText.small refl, tt) (lit≤ tt) (lit≤ tt)
+
+pub far-key : (old : List ℤ) → 1 ≤ length old → FarKey old
+unfolding by-lines far-text degreeAt held
+far-key old room =
+    record {
+      text = far-text;
+      read = in-language (length old) farText far-text room;
+      inside = (leZ-yes tt, leZ-yes tt);
+      counted = record { whole = refl; rest = lit< tt };
+      cross = refl;
+      not-silent = λ x. not-lacking (text-lacks far-text old room (key (pos 2147483646)) .1 x);
+      answer = read-answers far-text old room (key (pos 2147483646));
     }
   where
-    zero : IntText true (2 ^ 15) (48 ∷ []) (pos 0)
-    zero = IntText.plain 0 (record { some = lit< tt; each = digits (48 ∷ []) refl; writes = refl }) (lit< tt) refl
+    -- 11 is neither 16 nor 17
+    not-lacking : Lacks (scaleDegreeOf farKbm (afterRead farText old) (key (pos 2147483646))) → ⊥
+    not-lacking (inl e) = other (read-answers far-text old room (key (pos 2147483646))) e (λ f. omega arith)
+    not-lacking (inr e) = other (read-answers far-text old room (key (pos 2147483646))) e (λ f. omega arith)
+
+-- ---- THE ROUND TRIP
+pub sample-back : Back
+unfolding entriesOf round ofBits le negative
+sample-back =
+    record {
+      typed =
+          record {
+            start = refl;
+            end = refl;
+            reference = refl;
+            pitch = refl;
+            octave = refl;
+            size = lit≤ tt;
+            last = refl;
+            middle = refl;
+            degrees = (refl, (tt, (refl, tt)));
+            counted = refl;
+          };
+      back = record { reference = refl; middle = refl; pitch = refl };
+      not-back = λ c. no-test (ap (λ (x : Float). le x (exampleKbm (pos 62) .root .pitch .0)) (c .pitch));
+    }
+  where
+    no-test : false ≡ true → ⊥
+    no-test e = let z : _≡_ {A = ℕ} 0 1 = cc in omega arith

@@ -1,41 +1,37 @@
--- THE DEGREES OF A MAPPING, HERE AND AS PUBLISHED: where middle and reference key are one, a key has the same degree by document 01 as
--- Scala's pages give it, and else the two may part. Assumes nothing.
-use mathlib.Core.Path.{_≡_, refl, sym, ap, _∙_}
+-- THE DEGREES OF A MAPPING, HERE AND AS PUBLISHED: where middle and reference key are one, a key has by document 01 what Scala's pages
+-- give it, within 32 bits, and else the two may part. Assumes nothing.
+use mathlib.Core.Path.{_≡_, refl, sym, ap, _∙_, subst}
 use mathlib.Core.Bool.{true}
 use mathlib.Core.List.{List}
-use mathlib.Core.Logic.{_↔_}
 use Prim.Native.Nat.{ℕ, _-_, _≤_}
 use native.Mathlib.Omega.{arith}
 use lib.Dec.{lit<}
-use lib.IntN.{ℤ, pos, _+ℤ_, _-ℤ_, _*ℤ_, +ℤ-idr, +ℤ-comm, +ℤ-negℤ-cancel, -ℤ-+ℤ-cancel}
+use lib.IntN.{ℤ, pos, _+ℤ_, _-ℤ_, +ℤ-idr, +ℤ-comm, +ℤ-negℤ-cancel, -ℤ-+ℤ-cancel}
 use lib.ListN.{length, getD}
-use Rattle.base.specs.Integers.{Divides, inI32, held}
-use Rattle.base.specs.Numbers.{unmapped-key}
-use Rattle.base.specs.Said.{Said, gives, refuses}
+use Rattle.base.specs.Integers.{held}
+use Rattle.base.specs.Said.{gives}
 use Rattle.base.proofs.Division.{divides-one}
-use Rattle.base.proofs.Said.{same-value}
 use Rattle.kbm.specs.Degree.{degreeAt, scaleDegreeOf}
-use Rattle.kbm.specs.Keys.{inKeys, distance, Has}
 use Rattle.kbm.specs.Table.{areEntries, entriesOf, isTable, tableOf}
 use Rattle.kbm.specs.declared.Entry.{Entry}
-use Rattle.kbm.specs.declared.Entry.the-variants.{Mapped, Unmapped}
+use Rattle.kbm.specs.declared.Entry.the-variants.{Unmapped}
 use Rattle.kbm.specs.declared.Kbm.{Kbm}
 use Rattle.kbm.proofs.Table.{table-length}
-use Rattle.kbm.proofs.Theorems.{key-has}
 use Rattle.kbm_read.specs.Reader.{readOf, afterRead}
 use Rattle.kbm_read.proofs.Ends.{length-added}
-use Rattle.kbm_read.proofs.Fields.{same-refuses, no-refusal}
-use Rattle.kbm_read.proofs.Tables.{leaves-table}
-use Rattle.kbm_write.specs.Export.{lastOf}
+use Rattle.kbm_write.specs.Export.{lastOf, exportText}
 use Rattle.kbm_write.specs.Published as P
+use Rattle.kbm_write.specs.Typed.{Typed}
+use Rattle.kbm_write.proofs.Published.{export-published}
 use Rattle.key.specs.declared.PianoKey.{PianoKey}
 use Rattle.pitch.specs.declared.Pitch.{Pitch}
 use Rattle.kbm_formats.specs.Agree.{Agree}
 use Rattle.kbm_formats.specs.Limits.{WithinLimits}
-use Rattle.kbm_formats.specs.Sounding.{SoundsWithin, atMiddle, asPublished, Parting}
+use Rattle.kbm_formats.specs.Sounding.{AnsweredAs, atMiddle, asPublished, Parting}
 use Rattle.kbm_formats.proofs.Accepted.{published-read}
 use Rattle.kbm_formats.proofs.KeysOfText.{added-at}
-use Rattle.kbm_formats.proofs.Range.{inside, inside-back}
+use Rattle.kbm_formats.proofs.OneMeaning.{one-meaning}
+use Rattle.kbm_formats.proofs.SameKeys.{not-mapped, SameKeys, answers}
 
 -- a key sounds one degree
 pub one-sound : (m : P.Mapping) (key d e : ℤ) → P.Sounds m key d → P.Sounds m key e → d ≡ e
@@ -50,81 +46,6 @@ one-sound m key d e (P.Sounds.pattern q r z c f g) (P.Sounds.pattern x y w k i j
     let s : z ≡ w = cc in
     cc
 
--- ---- middle and reference key are one: m says of the keys what the mapping does
-record SameKeys (m : P.Mapping) (kbm : Kbm) (es : List Entry) : Type 0 where
-  first : m .first ≡ kbm .start .0
-  last : m .last ≡ lastOf kbm
-  middle : m .middle ≡ kbm .root .reference .0
-  octave : m .octave ≡ kbm .octave
-  size : length es ≡ m .size
-  given : (r : ℕ) → getD es r Unmapped ≡ getD (m .given) r Unmapped
-
-module _ {m : P.Mapping} {kbm : Kbm} {es : List Entry} (a : SameKeys m kbm es) (key : PianoKey) where
-  from-middle : key .0 -ℤ m .middle ≡ distance kbm key
-  from-middle = ap (λ (z : ℤ). key .0 -ℤ z) (a .middle)
-
-  retuned : inKeys kbm key ≡ true → P.Retuned m (key .0)
-  retuned w = rw (a .first, a .last) (inside kbm key w)
-
-  retuned-back : P.Retuned m (key .0) → inKeys kbm key ≡ true
-  retuned-back r = let q = rw (a .first, a .last) at r in inside-back kbm key (q .0) (q .1)
-
-  forth : {s : Said ℤ} → Has kbm es key s → (d : ℤ) → s ≡ gives d → SoundsWithin m (key .0) d
-  forth (Has.outside w p) d e = no-refusal (sym e ∙ p)
-  forth (Has.far w n p) d e = no-refusal (sym e ∙ p)
-  forth (Has.plain w n l p) d e =
-      let i : distance kbm key ≡ d = same-value (distance kbm key) d (sym p ∙ e) in
-      record { retuned = retuned w; near = rw from-middle n; held = rw i at n; sounds = P.Sounds.linear (sym (a .size) ∙ l) (sym i ∙ sym from-middle) }
-  forth (Has.none w n q at p) d e = no-refusal (sym e ∙ p)
-  forth (Has.passed w n q z at h p) d e = no-refusal (sym e ∙ p)
-  forth (Has.degree w n q z at h p) d e =
-      let i : z +ℤ q *ℤ kbm .octave ≡ d = same-value (z +ℤ q *ℤ kbm .octave) d (sym p ∙ e) in
-      let c : Divides (distance kbm key) (m .size) q (at .place) = rw (a .size) at (at .counted) in
-      record {
-        retuned = retuned w;
-        near = rw from-middle n;
-        held = rw i at h;
-        sounds = P.Sounds.pattern q (at .place) z (rw from-middle c) (sym (a .given (at .place)) ∙ at .found) (rw (a .octave) (sym i));
-      }
-
-  back : (d : ℤ) → SoundsWithin m (key .0) d → Has kbm es key (gives d)
-  back d x = go (x .sounds)
-    where
-      w : inKeys kbm key ≡ true
-      w = retuned-back (x .retuned)
-
-      n : inI32 (distance kbm key) ≡ true
-      n = rw from-middle at (x .near)
-
-      go : P.Sounds m (key .0) d → Has kbm es key (gives d)
-      go (P.Sounds.linear l e) = Has.plain w n (a .size ∙ l) (ap gives (e ∙ from-middle))
-      go (P.Sounds.pattern q i z c f e) =
-          let g : d ≡ z +ℤ q *ℤ kbm .octave = e ∙ ap (λ (y : ℤ). z +ℤ q *ℤ y) (a .octave) in
-          let counted : Divides (distance kbm key) (length es) q i = rw (a .size) (rw from-middle at c) in
-          Has.degree w n q z (record { place = i; counted = counted; found = a .given i ∙ f }) (rw g at (x .held)) (ap gives g)
-
-  -- an unmapped key sounds nothing
-  silent : {s : Said ℤ} → Has kbm es key s → s ≡ refuses unmapped-key 0 → (d : ℤ) → P.Sounds m (key .0) d → ⊥
-  silent (Has.outside w p) e d x = omega (arith, same-refuses (sym p ∙ e) .0)
-  silent (Has.far w n p) e d x = omega (arith, same-refuses (sym p ∙ e) .0)
-  silent (Has.plain w n l p) e d x = no-refusal (sym p ∙ e)
-  silent (Has.none w n q at p) e d (P.Sounds.linear l g) = omega (arith, at .counted .rest, a .size)
-  silent (Has.none w n q at p) e d (P.Sounds.pattern y r z c f g) =
-      let k : Divides (distance kbm key) (length es) y r = rw (a .size) (rw from-middle at c) in
-      let i : r ≡ at .place = divides-one k .1 ∙ sym (divides-one (at .counted) .1) in
-      let j = a .given r in
-      let h = at .found in
-      let u : _≡_ {A = Entry} Unmapped (Mapped z) = cc in
-      let v : _≡_ {A = ℕ} 0 1 = cc in
-      omega arith
-  silent (Has.passed w n q z at h p) e d x = omega (arith, same-refuses (sym p ∙ e) .0)
-  silent (Has.degree w n q z at h p) e d x = no-refusal (sym p ∙ e)
-
--- what is answered on a table of such entries
-module _ {m : P.Mapping} (kbm : Kbm) (map : List ℤ) (t : isTable (kbm .count) map ≡ true) (a : SameKeys m kbm (tableOf (kbm .count) map)) (key : PianoKey) where
-  answers : (d : ℤ) → (scaleDegreeOf kbm map key ≡ gives d) ↔ SoundsWithin m (key .0) d
-  answers d = (λ e. forth a key (key-has kbm map key t (gives d) .0 e) d refl, λ x. key-has kbm map key t (gives d) .1 (back a key d x))
-
 -- ---- A MAPPING THAT IS WRITTEN: `publishedOf` is what its export says as published
 module _ (kbm : Kbm) (map : List ℤ) (t : isTable (kbm .count) map ≡ true) where
   abbrev es : List Entry
@@ -133,22 +54,23 @@ module _ (kbm : Kbm) (map : List ℤ) (t : isTable (kbm .count) map ≡ true) wh
   abbrev m : P.Mapping
   m = P.publishedOf kbm es
 
-  -- a key sounds a degree exactly when the mapping with its pattern at the middle key has it
-  pub sounds-moved : (key : PianoKey) (d : ℤ) → (scaleDegreeOf (atMiddle kbm) map key ≡ gives d) ↔ SoundsWithin m (key .0) d
-  sounds-moved key d = answers (atMiddle kbm) map t (record { first = refl; last = refl; middle = refl; octave = refl; size = table-length (kbm .count) map t; given = λ r. refl }) key d
+  -- the mapping whose degrees are counted from the middle key answers as published, within 32 bits: for any middle key
+  pub sounds-moved : (key : PianoKey) → AnsweredAs m (key .0) (scaleDegreeOf (atMiddle kbm) map key)
+  sounds-moved key = answers (atMiddle kbm) map t (record { first = refl; last = refl; middle = refl; octave = refl; size = table-length (kbm .count) map t; given = λ r. refl }) key
 
   -- THE SAME DEGREES where middle and reference key are one
   module _ (o : kbm .root .offset ≡ pos 0) where
     same : SameKeys m kbm es
     same = record { first = refl; last = refl; middle = rw o (+ℤ-idr (kbm .root .reference .0)); octave = refl; size = table-length (kbm .count) map t; given = λ r. refl }
 
-    -- a key has a degree exactly when it is retuned and sounds that degree
-    pub sounds-same : (key : PianoKey) (d : ℤ) → (scaleDegreeOf kbm map key ≡ gives d) ↔ SoundsWithin m (key .0) d
-    sounds-same key d = answers kbm map t same key d
+    -- a key has a degree exactly when it is retuned and sounds that degree, distance and degree being numbers of 32 bits; 16 exactly when it is
+    -- not retuned; 17 exactly when it is retuned, its distance is a number of 32 bits and no degree sounds; 11 exactly in the cases left
+    pub sounds-same : (key : PianoKey) → AnsweredAs m (key .0) (scaleDegreeOf kbm map key)
+    sounds-same key = answers kbm map t same key
 
-    -- and an unmapped one sounds none
-    pub gap-silent : (key : PianoKey) → scaleDegreeOf kbm map key ≡ refuses unmapped-key 0 → (d : ℤ) → P.Sounds m (key .0) d → ⊥
-    gap-silent key e = silent same key (key-has kbm map key t (refuses unmapped-key 0) .0 e) refl
+    -- the same by the bytes of its export: whatever these say as published
+    pub export-sounds : Typed kbm es → (n : P.Mapping) → P.PublishedText (exportText kbm es) n → (key : PianoKey) → AnsweredAs n (key .0) (scaleDegreeOf kbm map key)
+    export-sounds y n p key = subst (λ (x : P.Mapping). AnsweredAs x (key .0) (scaleDegreeOf kbm map key)) (one-meaning (exportText kbm es) m n (export-published kbm es y) p) (sounds-same key)
 
 -- ---- A PUBLISHED TEXT THAT IS READ: m is what the text itself says
 -- the middle key of what is read
@@ -173,19 +95,17 @@ module _ {s : List ℕ} {m : P.Mapping} (p : P.PublishedText s m) where
     agree-same one = record { first = a .first; last = last-is; middle = one ∙ a .reference; octave = a .octave; size = all; given = given-is }
 
   module _ (w : WithinLimits p) (old : List ℤ) (room : m .size ≤ length old) where
-    -- the text is read; each key of what is read, its pattern at the middle key, has the degree that the text gives it as published, and where
-    -- middle and reference key are one that is the degree by document 01
+    -- the text is read; what is read, its degrees counted from the middle key, answers for each key as the text says as published, within 32
+    -- bits; and where middle and reference key are one so does what is read itself
     pub read-sounds : (k : Kbm) × (readOf (length old) s ≡ gives k)
-        × ((key : PianoKey) (d : ℤ) → (scaleDegreeOf (atMiddle k) (afterRead s old) key ≡ gives d) ↔ SoundsWithin m (key .0) d)
-        × (m .middle ≡ m .reference → (key : PianoKey) (d : ℤ) → (scaleDegreeOf k (afterRead s old) key ≡ gives d) ↔ SoundsWithin m (key .0) d)
+        × ((key : PianoKey) → AnsweredAs m (key .0) (scaleDegreeOf (atMiddle k) (afterRead s old) key))
+        × (m .middle ≡ m .reference → (key : PianoKey) → AnsweredAs m (key .0) (scaleDegreeOf k (afterRead s old) key))
     read-sounds =
-        let r = published-read p w (length old) room in
-        let l = leaves-table s old (r .1) in
-        let a : Agree m (r .0) (tableOf (r .0 .count) (afterRead s old)) = rw (l .1) (r .2) in (
+        let r = published-read p w old room in (
           r .0,
           r .1,
-          (λ key d. answers (atMiddle (r .0)) (afterRead s old) (l .0) (agree-moved a) key d),
-          (λ one key d. answers (r .0) (afterRead s old) (l .0) (agree-same a one) key d),
+          (λ key. answers (atMiddle (r .0)) (afterRead s old) (r .2) (agree-moved (r .3)) key),
+          (λ one key. answers (r .0) (afterRead s old) (r .2) (agree-same (r .3) one) key),
         )
 
 -- ---- THE PARTING
@@ -204,12 +124,7 @@ parting pitch =
     -- -2 is -1 times 3 and 1 more: the second entry, which is unmapped
     none : (d : ℤ) → P.Sounds (asPublished pitch) (pos 60) d → ⊥
     none d (P.Sounds.linear n e) = omega arith
-    none d (P.Sounds.pattern q r z c f e) =
-        let p : r ≡ 1 = divides-one c .1 in
-        let g = ap (λ (i : ℕ). getD (asPublished pitch .given) i Unmapped) p in
-        let x : _≡_ {A = Entry} Unmapped (Mapped z) = sym g ∙ f in
-        let y : _≡_ {A = ℕ} 0 1 = cc in
-        omega arith
+    none d (P.Sounds.pattern q r z c f e) = not-mapped (asPublished pitch) (divides-one c .1) refl f
 
     first : P.Sounds (asPublished pitch) (pos 62) (pos 0)
     first = P.Sounds.pattern (pos 0) 0 (pos 0) (record { whole = refl; rest = lit< tt }) refl refl

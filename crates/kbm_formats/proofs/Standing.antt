@@ -1,16 +1,17 @@
--- LINES AS PUBLISHED, read by document 01: a line where a value stands has it as its token, a comment drops out, and so the tokens
--- are the values of the lines that are kept. Assumes nothing.
+-- LINES AS PUBLISHED, read by document 01: of lines in UTF-8 one where a value stands has it as its token, a comment drops out, and so the
+-- tokens are the values of the lines that are kept. Assumes nothing.
 use mathlib.Core.Path.{_≡_, refl, sym, ap, _∙_, subst}
-use mathlib.Core.List.{List, [], _∷_, _++_, append-assoc}
+use mathlib.Core.List.{List, [], _∷_, _++_, append-assoc, append-nil}
 use mathlib.Core.Logic.{_⊎_, inl, inr}
 use Prim.Native.Nat.{ℕ, _≤_, _<_}
 use native.Mathlib.Omega.{arith}
 use Rattle.kbm_read.specs.Language.{Tokens}
 use Rattle.kbm_write.specs.Published as P
-use Rattle.kbm_write.proofs.Plain.{Plain, Word}
-use Rattle.text.specs.Characters.{Each, inBytes, encode}
-use Rattle.text.specs.Reading.{WhiteSpace, EmptyOrComment, strict, Trimmed, Splits, Stops, Meaning, invalid, dropped, content, Line, EachLine}
-use Rattle.text.proofs.Encodings.{enc1, enc2, enc3, enc4, split}
+use Rattle.writing.proofs.Plain.{Plain, Word}
+use Rattle.utf8.specs.Characters.{Each, inBytes, encode}
+use Rattle.text.specs.Reading.{Comment, strict, Splits, Stops, Meaning, invalid, comment, content, Line, EachLine}
+use Rattle.white.specs.White.{WhiteSpace, Trimmed}
+use Rattle.utf8.proofs.Encodings.{enc1, enc2, enc3, enc4, split}
 use Rattle.text.proofs.TokenLanguage.{one-token}
 
 -- no white character is a graphic one of ASCII
@@ -121,31 +122,45 @@ standing l (c ∷ t) m w s x =
 -- a line where a value stands is no text, or its token is the value
 pub value-line : (l t : List ℕ) (x : Meaning) → Word t → P.Stands l t → Line strict l x → (x ≡ invalid) ⊎ ((m : List ℕ) × (x ≡ content m t))
 value-line l t x w s (Line.not-text n e) = inl e
-value-line l t x w s (Line.drops r m y d e) = absurd (go t w (standing l t m w s y .0) (standing l t m w s y .1) d)
+value-line l t x w s (Line.is-blank r y e) = absurd (go t w (standing l t [] w s y .0) (standing l t [] w s y .1))
   where
-    go : (u : List ℕ) → Word u → (v : List ℕ) → m ≡ u ++ v → EmptyOrComment m → ⊥
-    go [] k v f g = omega (arith, k .some)
-    go (c ∷ u) k v f (EmptyOrComment.empty g) = no-cons (sym g ∙ f)
-    go (c ∷ u) k v f (EmptyOrComment.comment q g) = let h : c ≡ 33 = cc in omega (arith, k .each .0)
-value-line l t x w s (Line.says r m u y n q e) =
+    go : (u : List ℕ) → Word u → (v : List ℕ) → [] ≡ u ++ v → ⊥
+    go [] k v f = omega (arith, k .some)
+    go (c ∷ u) k v f = no-cons f
+value-line l t x w s (Line.is-comment r m y (q, g) e) = absurd (go t w (standing l t m w s y .0) (standing l t m w s y .1))
+  where
+    go : (u : List ℕ) → Word u → (v : List ℕ) → m ≡ u ++ v → ⊥
+    go [] k v f = omega (arith, k .some)
+    go (c ∷ u) k v f = let h : c ≡ 33 = cc in omega (arith, k .each .0)
+value-line l t x w s (Line.says r m u y b n q e) =
     let k = standing l t m w s y in
     let f : u ≡ t = sym (one-token m u q) ∙ one-token m t (record { rest = k .0; whole = k .1; inside = unsplit t (w .each); stops = k .2 }) in
     inr (m, e ∙ ap (content m) f)
 
--- a comment as published is no text, or drops out
-pub comment-line : (l : List ℕ) (x : Meaning) → P.Comment l → Line strict l x → (x ≡ invalid) ⊎ (x ≡ dropped)
+-- `!` is no white space
+starts-mark : (b : ℕ) (l : List ℕ) → P.Comment (b ∷ l) → (w : ℕ) (ws v : List ℕ) → WhiteSpace w → b ∷ l ≡ inBytes encode (w ∷ ws) ++ v → ⊥
+unfolding inBytes
+starts-mark b l c w ws v k f = white-head w b (inBytes encode ws ++ v) l k (omega (arith, c)) (omega (arith, c)) (sym (append-assoc (encode w) (inBytes encode ws) v) ∙ sym f)
+
+no-blank : (b : ℕ) (l : List ℕ) → P.Comment (b ∷ l) → (ws vs : List ℕ) → Each WhiteSpace ws → Each WhiteSpace vs → b ∷ l ≡ inBytes encode ws ++ inBytes encode vs → ⊥
+unfolding inBytes
+no-blank b l c [] [] k m f = no-cons (sym f)
+no-blank b l c [] (v ∷ vs) k m f = starts-mark b l c v vs [] (m .0) (f ∙ sym (append-nil (inBytes encode (v ∷ vs))))
+no-blank b l c (w ∷ ws) vs k m f = starts-mark b l c w ws (inBytes encode vs) (k .0) f
+
+-- a comment as published is no text, or a comment
+pub comment-line : (l : List ℕ) (x : Meaning) → P.Comment l → Line strict l x → (x ≡ invalid) ⊎ (x ≡ comment)
 unfolding inBytes
 comment-line [] x c y = absurd c
 comment-line (b ∷ l) x c (Line.not-text n e) = inl e
-comment-line (b ∷ l) x c (Line.drops r m y d e) = inr e
-comment-line (b ∷ l) x c (Line.says r m t y n q e) = absurd (n (go (y .before) m (y .white-before) (y .whole)))
+comment-line (b ∷ l) x c (Line.is-blank r y e) = absurd (no-blank b l c (y .before) (y .after) (y .white-before) (y .white-after) (y .whole))
+comment-line (b ∷ l) x c (Line.is-comment r m y d e) = inr e
+comment-line (b ∷ l) x c (Line.says r m t y o n q e) = absurd (go (y .before) m (y .white-before) o n (y .whole))
   where
-    go : (ws u : List ℕ) → Each WhiteSpace ws → b ∷ l ≡ inBytes encode ws ++ (u ++ inBytes encode (y .after)) → EmptyOrComment u
-    go [] [] k f = EmptyOrComment.empty refl
-    go [] (d ∷ u) k f = let g : d ≡ 33 = cc in EmptyOrComment.comment u (ap (λ (i : ℕ). i ∷ u) g)
-    go (w ∷ ws) u k f =
-        let v = inBytes encode ws ++ (u ++ inBytes encode (y .after)) in
-        absurd (white-head w b v l (k .0) (omega (arith, c)) (omega (arith, c)) (sym (append-assoc (encode w) (inBytes encode ws) (u ++ inBytes encode (y .after))) ∙ sym f))
+    go : (ws u : List ℕ) → Each WhiteSpace ws → (u ≡ [] → ⊥) → (Comment u → ⊥) → b ∷ l ≡ inBytes encode ws ++ (u ++ inBytes encode (y .after)) → ⊥
+    go [] [] k s z f = s refl
+    go [] (d ∷ u) k s z f = let g : d ≡ 33 = cc in z (u, ap (λ (i : ℕ). i ∷ u) g)
+    go (w ∷ ws) u k s z f = starts-mark b l c w ws (u ++ inBytes encode (y .after)) (k .0) f
 
 -- each of the lines holds the value beside it
 abbrev pub Holds : List (List ℕ) → List (List ℕ) → Type 0
@@ -163,7 +178,7 @@ same-tokens P.Kept.none (x ∷ xs) e ts us t h = absurd e
 same-tokens (P.Kept.comment c k) [] e ts us t h = absurd e
 same-tokens (P.Kept.comment {l = l} c k) (x ∷ xs) e ts us t h = go (comment-line l x c (e .0)) (λ r. same-tokens k xs (e .1) ts us r h)
   where
-    go : (x ≡ invalid) ⊎ (x ≡ dropped) → (Tokens xs ts → ts ≡ us) → ts ≡ us
+    go : (x ≡ invalid) ⊎ (x ≡ comment) → (Tokens xs ts → ts ≡ us) → ts ≡ us
     go (inl f) ih = absurd (subst (λ (y : Meaning). Tokens (y ∷ xs) ts) f t)
     go (inr f) ih = ih (subst (λ (y : Meaning). Tokens (y ∷ xs) ts) f t)
 same-tokens (P.Kept.kept n k) [] e ts us t h = absurd e

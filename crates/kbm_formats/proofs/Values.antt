@@ -1,4 +1,5 @@
--- VALUES AS PUBLISHED, read by document 01: a whole number, a frequency, a degree is the same there, and each is a word. Assumes nothing.
+-- VALUES AS PUBLISHED, read by document 01: where 01 reads them, a whole number and a degree are the same there and a frequency is its
+-- nearest f64; and each is a word. Assumes nothing.
 use mathlib.Core.Path.{_≡_, refl, sym, ap, _∙_, subst}
 use mathlib.Core.Bool.{Bool, true, false}
 use mathlib.Core.List.{List, [], _∷_, _++_}
@@ -16,8 +17,8 @@ use Rattle.decimals.specs.DecimalText.{OptionalSign, Form, FloatText, Unsupport
 use Rattle.integers.specs.Digits.{AllDigits}
 use Rattle.integers.specs.IntegerText.{Digits, IntText}
 use Rattle.decimals.proofs.Language.{gives-complete, leaves-complete, one-reading}
-use Rattle.kbm_write.proofs.Plain.{Plain, Word, each-append}
-use Rattle.text.specs.Characters.{Each}
+use Rattle.writing.proofs.Plain.{Plain, Word, each-append}
+use Rattle.utf8.specs.Characters.{Each}
 use Rattle.kbm_formats.proofs.Standing.{Holds}
 
 -- digits do not start with a byte that is none
@@ -79,7 +80,7 @@ degree-agrees t e f (P.Degree.degree z w) (EntryText.large q) = absurd (letter-w
 degree-agrees t e f (P.Degree.degree z w) (EntryText.degree y i) = ap Mapped (whole-agrees true (2 ^ 15) t z y w i)
 
 -- VALUES ARE WORDS
-digits-plain : (s : List ℕ) → AllDigits s → Each Plain s
+pub digits-plain : (s : List ℕ) → AllDigits s → Each Plain s
 digits-plain [] d = tt
 digits-plain (b ∷ s) d = ((omega (arith, d .0), omega (arith, d .0)), digits-plain s (d .1))
 

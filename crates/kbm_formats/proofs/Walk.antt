@@ -24,13 +24,14 @@ use Rattle.kbm.specs.Table.{inI16}
 use Rattle.kbm.specs.declared.Entry.{Entry}
 use Rattle.kbm.specs.declared.Entry.the-variants.{Mapped, Unmapped}
 use Rattle.kbm.proofs.Entries.{mag-i16}
+use Rattle.listing.specs.Reader.{walkLines, givenAfter}
 use Rattle.kbm_read.specs.Reader.{isCross, entryIn, takeToken, finished, walk, unread, mappingOf, givenFrom}
 use Rattle.kbm_read.specs.declared.line.Due.the-variants as due
 use Rattle.kbm_read.specs.declared.line.EntryRead.the-variants as entry
 use Rattle.kbm_read.specs.declared.line.Head.{Head}
 use Rattle.kbm_write.specs.Export.{entryTexts}
-use Rattle.kbm_write.proofs.Plain.{selves}
-use Rattle.kbm_write.proofs.Printed.{signed-reads}
+use Rattle.writing.proofs.Plain.{selves}
+use Rattle.writing.proofs.Printed.{signed-reads}
 use Rattle.kbm.specs.Table.{AreI16}
 
 -- a printed integer of a type with a sign is read as that integer
@@ -75,13 +76,13 @@ pub head-read : (room : ℕ) (t1 t2 t3 t4 t5 t6 t7 : List ℕ) (ts : List (List 
     → readDecimal t6 ≡ decimal.Is hz → inPitch hz ≡ true → readInt true (2 ^ 15) t7 ≡ value octave
     → walk room 1 unread (selves (t1 ∷ t2 ∷ t3 ∷ t4 ∷ t5 ∷ t6 ∷ t7 ∷ ts))
     ≡ walk room 8 (record { due = due.Entries; head = headIs size first last middle reference hz octave; count = 0 }) (selves ts)
-unfolding walk selves takeToken
+unfolding walkLines selves takeToken
 head-read room t1 t2 t3 t4 t5 t6 t7 ts e1 e2 e3 n3 e4 e5 e6 n6 e7 = rw (e1, e2, e3, n3, e4, e5, e6, n6, e7)
 
 -- THE ENTRIES: each takes a place, where there are enough
 pub entries-read : (room k : ℕ) (h : Head) (n : ℕ) (es : List Entry) → AreI16 es → n + length es ≤ room
     → walk room k (record { due = due.Entries; head = h; count = n }) (selves (entryTexts es)) ≡ finished room (record { due = due.Entries; head = h; count = n + length es })
-unfolding walk selves entryTexts takeToken
+unfolding walkLines selves entryTexts takeToken
 entries-read room k h n [] d l = rw (add-zero n)
 entries-read room k h n (Mapped z ∷ es) d l =
     let e : n + 1 + length es ≡ n + suc (length es) = omega arith in
@@ -97,11 +98,11 @@ ends-read room h n e l r = rw (le-ltb room (h .size) (omega arith), le-ltb 65535
 
 -- the entries that the lines give
 pub entries-given : (es : List Entry) → AreI16 es → givenFrom 0 (selves (entryTexts es)) ≡ es
-unfolding givenFrom selves entryTexts
+unfolding givenAfter selves entryTexts
 entries-given [] d = refl
 entries-given (Mapped z ∷ es) d = rw (degree-in z (d .0)) (ap (λ (l : List Entry). Mapped z ∷ l) (entries-given es (d .1)))
 entries-given (Unmapped ∷ es) d = rw cross-in (ap (λ (l : List Entry). Unmapped ∷ l) (entries-given es (d .1)))
 
 pub head-given : (t1 t2 t3 t4 t5 t6 t7 : List ℕ) (ts : List (List ℕ)) → givenFrom 7 (selves (t1 ∷ t2 ∷ t3 ∷ t4 ∷ t5 ∷ t6 ∷ t7 ∷ ts)) ≡ givenFrom 0 (selves ts)
-unfolding givenFrom selves
+unfolding givenAfter selves
 head-given t1 t2 t3 t4 t5 t6 t7 ts = refl

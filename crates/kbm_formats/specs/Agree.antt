@@ -1,4 +1,5 @@
--- One text read twice: what it says as Scala's pages have it, and what it says by document 01, are the same mapping. Assumes nothing.
+-- One text read twice: what it says as Scala's pages have it, and what it says by document 01, are the same numbers and entries. The degrees
+-- of its keys are another matter (Sounding). Assumes nothing.
 use mathlib.Core.Path.{_≡_}
 use mathlib.Core.Bool.{false}
 use mathlib.Core.List.{List}
@@ -10,7 +11,8 @@ use Rattle.kbm.specs.declared.Kbm.{Kbm}
 use Rattle.kbm_read.specs.Language.{added}
 use Rattle.kbm_write.specs.Published as P
 
--- what a text says as published is what it says by document 01: the same numbers, the f64 nearest the frequency, the same entries
+-- the numbers and entries of a text as published are those of document 01: the end is the key after the last, the offset lies between
+-- reference and middle key, the pitch is the f64 nearest the frequency, and entries left out are added as unmapped
 pub record Agree (m : P.Mapping) (k : Kbm) (es : List Entry) : Type 0 where
   pub size : m .size ≡ k .count
   pub first : m .first ≡ k .start .0

@@ -1,6 +1,6 @@
--- THE LIMITS OF DOCUMENT 01 on Scala's published format: what a published text must be besides, so that 01 takes it, each with the
--- sentence of 01 that it comes from and the number that it draws. There are no others (`published-exactly`): comments, and blanks before
--- and anything after a value, are taken as published. Assumes nothing.
+-- THE LIMITS OF DOCUMENT 01 on Scala's published format: what a published text must be besides, so that 01 takes it, given room (12), each
+-- with the sentence of 01 that it comes from and the number that it draws. There are no others (`published-exactly`): comments, blanks before
+-- a value, and after it a blank and anything, are taken as published. Assumes nothing.
 use mathlib.Core.Path.{_≡_}
 use mathlib.Core.Bool.{true, false}
 use mathlib.Core.List.{List, [], _∷_, _++_}
@@ -13,7 +13,7 @@ use Rattle.decimals.specs.DecimalText.{fromNonzero}
 use Rattle.floats.specs.Ranges.{inPitch}
 use Rattle.kbm.specs.Table.{inI16, AreI16}
 use Rattle.kbm_write.specs.Published as P
-use Rattle.text.specs.Characters.{Utf8}
+use Rattle.utf8.specs.Characters.{Utf8}
 
 -- each of the lines is UTF-8
 abbrev pub AllUtf8 : List (List ℕ) → Type 0

@@ -1,14 +1,15 @@
--- DEGREES HERE AND AS PUBLISHED: the degree that Scala's pages give a key, within document 01's numbers; and where the two part: 01
--- counts round from the reference key, the pages from the middle key. Assumes nothing.
+-- DEGREES HERE AND AS PUBLISHED: what Scala's pages give a key, within document 01's numbers; and where the two part: 01 counts round
+-- from the reference key, the pages from the middle key. Assumes nothing.
 use mathlib.Core.Path.{_≡_}
-use mathlib.Core.Bool.{true}
-use mathlib.Core.List.{[], _∷_}
+use mathlib.Core.Bool.{true, false}
+use mathlib.Core.Logic.{_↔_}
 use lib.IntN.{ℤ, pos, _-ℤ_}
 use Rattle.base.specs.Integers.{inI32}
-use Rattle.base.specs.Said.{gives}
+use Rattle.base.specs.Numbers.{overflow, key-out-of-range, unmapped-key}
+use Rattle.base.specs.Said.{Said, gives, refuses}
 use Rattle.kbm.specs.Degree.{scaleDegreeOf}
 use Rattle.kbm.specs.Samples.{sample, sampleTable}
-use Rattle.kbm.specs.declared.Entry.the-variants.{Mapped, Unmapped}
+use Rattle.kbm.specs.Table.{tableOf}
 use Rattle.kbm.specs.declared.Kbm.{Kbm}
 use Rattle.key.specs.Keys.{key}
 use Rattle.kbm_write.specs.Export.{middleOf}
@@ -23,7 +24,27 @@ pub record SoundsWithin (m : P.Mapping) (key d : ℤ) : Type 0 where
   pub held : inI32 d ≡ true
   pub sounds : P.Sounds m key d
 
--- the same mapping with its pattern at the middle key: the middle key becomes the reference key of its degrees
+-- the key is retuned and sounds no degree as published; its distance from the middle key is a number of 32 bits ("Order: 16, 11 for d, 17")
+pub record SilentWithin (m : P.Mapping) (key : ℤ) : Type 0 where
+  pub retuned : P.Retuned m key
+  pub within : inI32 (key -ℤ m .middle) ≡ true
+  pub silent : (d : ℤ) → P.Sounds m key d → ⊥
+
+-- the key is retuned, and its distance from the middle key, or the degree that it sounds as published, is no number of 32 bits
+pub data SoundsPast (m : P.Mapping) (key : ℤ) : Type 0 where
+  distance : P.Retuned m key → inI32 (key -ℤ m .middle) ≡ false → SoundsPast m key
+  degree : P.Retuned m key → (d : ℤ) → P.Sounds m key d → inI32 d ≡ false → SoundsPast m key
+
+-- THE ANSWER FOR A KEY IS AS PUBLISHED: 16 exactly where it is not retuned; of a retuned key 11 exactly where a number passes 32 bits, and
+-- else a degree exactly where it sounds that one, 17 exactly where it sounds none
+pub record AnsweredAs (m : P.Mapping) (key : ℤ) (answer : Said ℤ) : Type 0 where
+  pub degree : (d : ℤ) → (answer ≡ gives d) ↔ SoundsWithin m key d
+  pub outside : (answer ≡ refuses key-out-of-range 0) ↔ (P.Retuned m key → ⊥)
+  pub silent : (answer ≡ refuses unmapped-key 0) ↔ SilentWithin m key
+  pub past : (answer ≡ refuses overflow 0) ↔ SoundsPast m key
+
+-- the mapping whose degrees are counted from the middle key: the middle key becomes the reference key. It serves for its degrees only (its
+-- pitch stays that of the old reference key), and is a mapping of the program only where the middle key is a number of 32 bits
 abbrev pub atMiddle : Kbm → Kbm
 atMiddle kbm =
     record {
@@ -36,7 +57,7 @@ atMiddle kbm =
 
 -- THE PARTING: the mapping of 01's samples (entries 0, x, 2, octave 5, keys 0 to 127, reference 60) with middle key 62
 abbrev pub asPublished : Pitch → P.Mapping
-asPublished pitch = P.publishedOf (sample pitch (pos 2)) (Mapped (pos 0) ∷ Unmapped ∷ Mapped (pos 2) ∷ [])
+asPublished pitch = P.publishedOf (sample pitch (pos 2)) (tableOf 3 sampleTable)
 
 pub record Parting (pitch : Pitch) : Type 0 where
   pub middle : asPublished pitch .middle ≡ pos 62

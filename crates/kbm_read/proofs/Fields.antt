@@ -11,32 +11,22 @@ use lib.Ieee.{Float}
 use lib.IntN.{ℤ, pos, natAbs, negℤ}
 use lib.Signed.{leZ}
 use borrow.Author.Tests.{leb-true}
-use Rattle.base.specs.Numbers.{float-value, unusable, overflow}
+use Rattle.base.specs.Numbers.{int-value, float-value, unusable, overflow}
 use Rattle.base.specs.Said.{Said, gives, refuses, pick, andThen}
 use Rattle.base.proofs.Pick.{true-not-false}
-use Rattle.base.proofs.Said.{same-value}
+use Rattle.base.proofs.Said.{same-value, no-value, no-refusal, same-refuses}
 use Rattle.floats.specs.Ranges.{inPitch}
 use Rattle.decimals.proofs.Language.{gives-sound, gives-complete, leaves-sound, leaves-complete, refuses-sound, refuses-complete}
-use Rattle.integers.proofs.Language.{sound, complete}
-use Rattle.integers.proofs.Theorems.{refused}
+use Rattle.integers.proofs.AtLine.{int-gives, gives-int, int-refuses, refuses-int, int-is, int-wrong, unsigned}
 use Rattle.decimals.specs.Answers.{saysDecimal}
 use Rattle.decimals.specs.DecimalScan.{readDecimal}
 use Rattle.decimals.specs.DecimalText.{DecimalText}
-use Rattle.integers.specs.Integer.{Int, value, none, readInt}
+use Rattle.integers.specs.AtLine.{intAt}
+use Rattle.integers.specs.Integer.{readInt}
 use Rattle.integers.specs.IntegerText.{IntText}
 use Rattle.decimals.specs.declared.DecimalAnswer.{DecimalAnswer}
 use Rattle.decimals.specs.declared.DecimalAnswer.the-variants as decimal
-use Rattle.kbm_read.specs.Language.{Required, Value, Gives, NoInteger, Wrong}
-use Rattle.kbm_read.specs.Reader.{intAt}
-use Rattle.kbm_read.proofs.Walks.{no-value}
-
--- two refusals are one
-pub same-refuses : {A : Type 0} {a b c d : ℕ} → _≡_ {A = Said A} (refuses a b) (refuses c d) → (a ≡ c) × (b ≡ d)
-same-refuses e = (cc, cc)
-
--- a value is no refusal
-pub no-refusal : {A B : Type 0} {a : A} {n d : ℕ} → gives a ≡ refuses n d → B
-no-refusal e = no-value (sym e)
+use Rattle.kbm_read.specs.Language.{Required, Value, Gives, Wrong}
 
 -- the last key, where it is not the largest; the pitch, where it is in its range
 abbrev pub lastOf : ℕ → ℤ → Said ℤ
@@ -47,53 +37,13 @@ pitchOf k v = pick (inPitch v) (gives v) (refuses unusable k)
 
 -- what the token t of line k is, as a required line
 abbrev pub readAs : (f : Required) → ℕ → List ℕ → Said (Value f)
-readAs Required.size k t = andThen (intAt k (readInt false (2 ^ 16) t)) (λ z. gives (natAbs z))
-readAs Required.first k t = andThen (intAt k (readInt true (2 ^ 31) t)) (λ z. gives z)
-readAs Required.last k t = andThen (intAt k (readInt true (2 ^ 31) t)) (lastOf k)
-readAs Required.middle k t = andThen (intAt k (readInt true (2 ^ 15) t)) (λ z. gives z)
-readAs Required.reference k t = andThen (intAt k (readInt true (2 ^ 15) t)) (λ z. gives z)
+readAs Required.size k t = andThen (intAt int-value k (readInt false (2 ^ 16) t)) (λ z. gives (natAbs z))
+readAs Required.first k t = andThen (intAt int-value k (readInt true (2 ^ 31) t)) (λ z. gives z)
+readAs Required.last k t = andThen (intAt int-value k (readInt true (2 ^ 31) t)) (lastOf k)
+readAs Required.middle k t = andThen (intAt int-value k (readInt true (2 ^ 15) t)) (λ z. gives z)
+readAs Required.reference k t = andThen (intAt int-value k (readInt true (2 ^ 15) t)) (λ z. gives z)
 readAs Required.pitch k t = andThen (saysDecimal float-value k (readDecimal t)) (pitchOf k)
-readAs Required.octave k t = andThen (intAt k (readInt true (2 ^ 15) t)) (λ z. gives z)
-
--- INTEGERS, at every type: `on` is what is made of the value
-module _ (sign : Bool) (top : ℕ) (some : 0 < top) (k : ℕ) (t : List ℕ) {A : Type 0} (on : ℤ → Said A) where
-  -- read: there is an integer, and `on` gives
-  pub int-gives : {a : A} → andThen (intAt k (readInt sign top t)) on ≡ gives a → (z : ℤ) × IntText sign top t z × (on z ≡ gives a)
-  int-gives {a} e = go (readInt sign top t) refl e
-    where
-      go : (i : Int) → readInt sign top t ≡ i → andThen (intAt k i) on ≡ gives a → (z : ℤ) × IntText sign top t z × (on z ≡ gives a)
-      go (value z) p q = (z, sound sign top some z t (sym p), q)
-      go none p q = no-value q
-
-  pub gives-int : {z : ℤ} → IntText sign top t z → andThen (intAt k (readInt sign top t)) on ≡ on z
-  gives-int {z} i = ap (λ i. andThen (intAt k i) on) (sym (complete sign top some z t i))
-
-  -- refused: there is none, or `on` refuses
-  pub int-refuses : {n d : ℕ} → andThen (intAt k (readInt sign top t)) on ≡ refuses n d →
-      ((d ≡ k) × NoInteger sign top t n) ⊎ ((z : ℤ) × IntText sign top t z × (on z ≡ refuses n d))
-  int-refuses {n} {d} e = go (readInt sign top t) refl e
-    where
-      go : (i : Int) → readInt sign top t ≡ i → andThen (intAt k i) on ≡ refuses n d →
-          ((d ≡ k) × NoInteger sign top t n) ⊎ ((z : ℤ) × IntText sign top t z × (on z ≡ refuses n d))
-      go (value z) p q = inr (z, sound sign top some z t (sym p), q)
-      go none p q = let r = same-refuses q in inl (sym (r .1), (sym (r .0), refused sign top some t .0 (sym p)))
-
-  pub refuses-int : {n : ℕ} → NoInteger sign top t n → andThen (intAt k (readInt sign top t)) on ≡ refuses n k
-  refuses-int {n} w = rw (w .0) (ap (λ i. andThen (intAt k i) on) (sym (refused sign top some t .1 (w .1))))
-
--- the same, where what is made of the value is one always
-module _ (sign : Bool) (top : ℕ) (some : 0 < top) (k : ℕ) (t : List ℕ) where
-  int-is : (v : ℤ) → andThen (intAt k (readInt sign top t)) (λ z. gives z) ≡ gives v → IntText sign top t v
-  int-is v e = let r = int-gives sign top some k t (λ z. gives z) e in rw (sym (same-value (r .0) v (r .2))) (r .1)
-
-  int-wrong : {A : Type 0} (g : ℤ → A) {n d : ℕ} → andThen (intAt k (readInt sign top t)) (λ z. gives (g z)) ≡ refuses n d → (d ≡ k) × NoInteger sign top t n
-  int-wrong g {n} {d} e = elim (int-refuses sign top some k t (λ z. gives (g z)) e) [ inl w ↦ w | inr w ↦ no-refusal (w .2) ]
-
--- an unsigned integer is not below 0
-unsigned : (top : ℕ) (t : List ℕ) (z : ℤ) → IntText false top t z → pos (natAbs z) ≡ z
-unsigned top t z (IntText.plain n d h e) = rw e
-unsigned top t z (IntText.plus s n p d h e) = rw e
-unsigned top t z (IntText.minus s n g p d h e) = absurd (true-not-false (sym g))
+readAs Required.octave k t = andThen (intAt int-value k (readInt true (2 ^ 15) t)) (λ z. gives z)
 
 -- the largest key
 largest : (z : ℤ) → leZ (pos 2147483647) z ≡ false → z ≡ pos 2147483647 → ⊥
@@ -151,59 +101,59 @@ pitch-refuses k u {n} {d} e = go (inPitch u) refl e
 -- A VALUE IS READ exactly if the token gives it
 pub read-gives : (f : Required) (k : ℕ) (t : List ℕ) (v : Value f) → readAs f k t ≡ gives v → Gives f t v
 read-gives Required.size k t v e =
-    let r = int-gives false (2 ^ 16) (lit< tt) k t (λ z. gives (natAbs z)) e in
+    let r = int-gives int-value false (2 ^ 16) (lit< tt) k t (λ z. gives (natAbs z)) e in
     let n : natAbs (r .0) ≡ v = same-value (natAbs (r .0)) v (r .2) in
     rw (sym (ap pos n) ∙ unsigned (2 ^ 16) t (r .0) (r .1)) (r .1)
-read-gives Required.first k t v e = int-is true (2 ^ 31) (lit< tt) k t v e
+read-gives Required.first k t v e = int-is int-value true (2 ^ 31) (lit< tt) k t v e
 read-gives Required.last k t v e =
-    let r = int-gives true (2 ^ 31) (lit< tt) k t (lastOf k) e in
+    let r = int-gives int-value true (2 ^ 31) (lit< tt) k t (lastOf k) e in
     let p = last-gives k (r .0) v (r .2) in
     rw (sym (p .0)) (r .1, p .1)
-read-gives Required.middle k t v e = int-is true (2 ^ 15) (lit< tt) k t v e
-read-gives Required.reference k t v e = int-is true (2 ^ 15) (lit< tt) k t v e
+read-gives Required.middle k t v e = int-is int-value true (2 ^ 15) (lit< tt) k t v e
+read-gives Required.reference k t v e = int-is int-value true (2 ^ 15) (lit< tt) k t v e
 read-gives Required.pitch k t v e = go (readDecimal t) refl e
   where
     go : (x : DecimalAnswer) → readDecimal t ≡ x → andThen (saysDecimal float-value k x) (pitchOf k) ≡ gives v → DecimalText t v × (inPitch v ≡ true)
     go (decimal.Is u) p q = let g = pitch-gives k u v q in rw (sym (g .0)) (gives-sound t u p, g .1)
     go decimal.Unsupported p q = no-value q
     go decimal.Bad p q = no-value q
-read-gives Required.octave k t v e = int-is true (2 ^ 15) (lit< tt) k t v e
+read-gives Required.octave k t v e = int-is int-value true (2 ^ 15) (lit< tt) k t v e
 
 pub gives-read : (f : Required) (k : ℕ) (t : List ℕ) (v : Value f) → Gives f t v → readAs f k t ≡ gives v
-gives-read Required.size k t v g = gives-int false (2 ^ 16) (lit< tt) k t (λ z. gives (natAbs z)) g
-gives-read Required.first k t v g = gives-int true (2 ^ 31) (lit< tt) k t (λ z. gives z) g
-gives-read Required.last k t v g = gives-int true (2 ^ 31) (lit< tt) k t (lastOf k) (g .0) ∙ gives-last k t v (g .0) (g .1)
-gives-read Required.middle k t v g = gives-int true (2 ^ 15) (lit< tt) k t (λ z. gives z) g
-gives-read Required.reference k t v g = gives-int true (2 ^ 15) (lit< tt) k t (λ z. gives z) g
+gives-read Required.size k t v g = gives-int int-value false (2 ^ 16) (lit< tt) k t (λ z. gives (natAbs z)) g
+gives-read Required.first k t v g = gives-int int-value true (2 ^ 31) (lit< tt) k t (λ z. gives z) g
+gives-read Required.last k t v g = gives-int int-value true (2 ^ 31) (lit< tt) k t (lastOf k) (g .0) ∙ gives-last k t v (g .0) (g .1)
+gives-read Required.middle k t v g = gives-int int-value true (2 ^ 15) (lit< tt) k t (λ z. gives z) g
+gives-read Required.reference k t v g = gives-int int-value true (2 ^ 15) (lit< tt) k t (λ z. gives z) g
 gives-read Required.pitch k t v g = rw (gives-complete t v (g .0), g .1)
-gives-read Required.octave k t v g = gives-int true (2 ^ 15) (lit< tt) k t (λ z. gives z) g
+gives-read Required.octave k t v g = gives-int int-value true (2 ^ 15) (lit< tt) k t (λ z. gives z) g
 
 -- IT IS REFUSED, at its line, exactly with the number that it draws
-pub read-wrong : (f : Required) (k : ℕ) (t : List ℕ) {n d : ℕ} → readAs f k t ≡ refuses n d → (d ≡ k) × Wrong f t n
-read-wrong Required.size k t e = int-wrong false (2 ^ 16) (lit< tt) k t natAbs e
-read-wrong Required.first k t e = int-wrong true (2 ^ 31) (lit< tt) k t (λ z. z) e
-read-wrong Required.last k t e = elim (int-refuses true (2 ^ 31) (lit< tt) k t (lastOf k) e) [
+pub read-wrong : (f : Required) (k : ℕ) (t : List ℕ) (n d : ℕ) → readAs f k t ≡ refuses n d → (d ≡ k) × Wrong f t n
+read-wrong Required.size k t n d e = int-wrong int-value false (2 ^ 16) (lit< tt) k t natAbs e
+read-wrong Required.first k t n d e = int-wrong int-value true (2 ^ 31) (lit< tt) k t (λ z. z) e
+read-wrong Required.last k t n d e = elim (int-refuses int-value true (2 ^ 31) (lit< tt) k t (lastOf k) e) [
   | inl w ↦ (w .0, inl (w .1))
   | inr w ↦ let l = last-refuses k t (w .0) (w .1) (w .2) in (l .0, inr (l .1, l .2))
 ]
-read-wrong Required.middle k t e = int-wrong true (2 ^ 15) (lit< tt) k t (λ z. z) e
-read-wrong Required.reference k t e = int-wrong true (2 ^ 15) (lit< tt) k t (λ z. z) e
-read-wrong Required.pitch k t {n} {d} e = go (readDecimal t) refl e
+read-wrong Required.middle k t n d e = int-wrong int-value true (2 ^ 15) (lit< tt) k t (λ z. z) e
+read-wrong Required.reference k t n d e = int-wrong int-value true (2 ^ 15) (lit< tt) k t (λ z. z) e
+read-wrong Required.pitch k t n d e = go (readDecimal t) refl e
   where
     go : (x : DecimalAnswer) → readDecimal t ≡ x → andThen (saysDecimal float-value k x) (pitchOf k) ≡ refuses n d → (d ≡ k) × Wrong Required.pitch t n
     go (decimal.Is u) p q = let g = pitch-refuses k u q in (g .0, inr (inr (g .1, u, gives-sound t u p, g .2)))
     go decimal.Unsupported p q = let r = same-refuses q in (sym (r .1), inr (inl (sym (r .0), leaves-sound t p)))
     go decimal.Bad p q = let r = same-refuses q in (sym (r .1), inl (sym (r .0), refuses-sound t p))
-read-wrong Required.octave k t e = int-wrong true (2 ^ 15) (lit< tt) k t (λ z. z) e
+read-wrong Required.octave k t n d e = int-wrong int-value true (2 ^ 15) (lit< tt) k t (λ z. z) e
 
 pub wrong-read : (f : Required) (k : ℕ) (t : List ℕ) (n : ℕ) → Wrong f t n → readAs f k t ≡ refuses n k
-wrong-read Required.size k t n w = refuses-int false (2 ^ 16) (lit< tt) k t (λ z. gives (natAbs z)) w
-wrong-read Required.first k t n w = refuses-int true (2 ^ 31) (lit< tt) k t (λ z. gives z) w
-wrong-read Required.last k t n (inl w) = refuses-int true (2 ^ 31) (lit< tt) k t (lastOf k) w
-wrong-read Required.last k t n (inr w) = rw (w .0) (gives-int true (2 ^ 31) (lit< tt) k t (lastOf k) (w .1))
-wrong-read Required.middle k t n w = refuses-int true (2 ^ 15) (lit< tt) k t (λ z. gives z) w
-wrong-read Required.reference k t n w = refuses-int true (2 ^ 15) (lit< tt) k t (λ z. gives z) w
+wrong-read Required.size k t n w = refuses-int int-value false (2 ^ 16) (lit< tt) k t (λ z. gives (natAbs z)) w
+wrong-read Required.first k t n w = refuses-int int-value true (2 ^ 31) (lit< tt) k t (λ z. gives z) w
+wrong-read Required.last k t n (inl w) = refuses-int int-value true (2 ^ 31) (lit< tt) k t (lastOf k) w
+wrong-read Required.last k t n (inr w) = rw (w .0) (gives-int int-value true (2 ^ 31) (lit< tt) k t (lastOf k) (w .1))
+wrong-read Required.middle k t n w = refuses-int int-value true (2 ^ 15) (lit< tt) k t (λ z. gives z) w
+wrong-read Required.reference k t n w = refuses-int int-value true (2 ^ 15) (lit< tt) k t (λ z. gives z) w
 wrong-read Required.pitch k t n (inl w) = rw (w .0, refuses-complete t (w .1))
 wrong-read Required.pitch k t n (inr (inl w)) = rw (w .0, leaves-complete t (w .1))
 wrong-read Required.pitch k t n (inr (inr w)) = rw (w .0, gives-complete t (w .1) (w .2), w .3)
-wrong-read Required.octave k t n w = refuses-int true (2 ^ 15) (lit< tt) k t (λ z. gives z) w
+wrong-read Required.octave k t n w = refuses-int int-value true (2 ^ 15) (lit< tt) k t (λ z. gives z) w

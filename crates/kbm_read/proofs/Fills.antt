@@ -7,15 +7,16 @@ use native.Mathlib.Omega.{arith}
 use lib.Dec.{ltb}
 use lib.IntN.{ℤ}
 use lib.ListN.{length, set, length-append}
-use borrow.Author.Tests.{ltb-true}
+use borrow.Author.Tests.{lt-ltb, ltb-true}
 use Rattle.base.specs.Said.{pick}
 use Rattle.base.specs.Tables.{over}
 use Rattle.kbm.proofs.Table.{length-numbers}
 use Rattle.kbm.specs.Table.{unmapped, numberOf, numbersOf}
 use Rattle.kbm.specs.declared.Entry.{Entry}
-use Rattle.text.specs.Reading.{Meaning, invalid, dropped, content}
+use Rattle.listing.specs.Reader.{givenAfter}
+use Rattle.text.specs.Reading.{Meaning, invalid, blank, comment, content}
 use Rattle.kbm_read.specs.Language.{blanks}
-use Rattle.kbm_read.specs.Reader.{entryIn, foundEntry, withFound, foundIn, givenFrom, padded}
+use Rattle.kbm_read.specs.Reader.{entryIn, foundEntry, foundIn, listed, givenFrom, padded}
 use Rattle.kbm_read.specs.declared.line.EntryRead.{EntryRead}
 use Rattle.kbm_read.specs.declared.line.EntryRead.the-variants as entry
 use Rattle.kbm_read.specs.declared.Found.{Found}
@@ -39,13 +40,32 @@ numbers-one e = refl
 -- a required line is one of some
 pub required-some : (n : ℕ) (m : Meaning) → found.Required ≡ foundIn n m → 0 < n
 required-some n invalid e = let z : _≡_ {A = ℕ} 0 1 = cc in absurd (omega arith)
-required-some n dropped e = let z : _≡_ {A = ℕ} 0 1 = cc in absurd (omega arith)
+required-some n blank e = let z : _≡_ {A = ℕ} 0 1 = cc in absurd (omega arith)
+required-some n comment e = let z : _≡_ {A = ℕ} 0 1 = cc in absurd (omega arith)
 required-some n (content m t) e = go (ltb 0 n) refl (entryIn t) e
   where
     go : (b : Bool) → ltb 0 n ≡ b → (r : EntryRead) → found.Required ≡ pick b found.Required (foundEntry r) → 0 < n
     go true p r q = ltb-true 0 n p
     go false p (entry.Is x) q = let z : _≡_ {A = ℕ} 0 1 = cc in absurd (omega arith)
     go false p entry.IsNot q = let z : _≡_ {A = ℕ} 0 1 = cc in absurd (omega arith)
+
+-- what is given with one line more, by what the line gives
+abbrev withFound : Found → ℕ → List Meaning → List Entry
+withFound (found.Is e) n ms = e ∷ givenFrom n ms
+withFound found.Required n ms = givenFrom (n - 1) ms
+withFound found.Nothing n ms = givenFrom n ms
+
+given-turn : (n : ℕ) (m : Meaning) (ms : List Meaning) → givenFrom n (m ∷ ms) ≡ withFound (foundIn n m) n ms
+unfolding givenAfter
+given-turn n invalid ms = refl
+given-turn n blank ms = refl
+given-turn n comment ms = refl
+given-turn (suc n) (content m t) ms = let z : suc n - 1 ≡ n = omega arith in rw (lt-ltb 0 (suc n) (omega arith), z)
+given-turn zero (content m t) ms = go (entryIn t)
+  where
+    go : (r : EntryRead) → listed r ++ givenFrom 0 ms ≡ withFound (foundEntry r) 0 ms
+    go (entry.Is e) = refl
+    go entry.IsNot = refl
 
 -- THE SECOND PASS ON LISTS: of what the lines say, ms, `rest` is left, with `left` required lines in it; the entries `done`, n of
 -- them, stand in the table, which was `old`
@@ -62,15 +82,14 @@ module _ (ms : List Meaning) (old : List ℤ) where
 
   module _ {left : ℕ} {rest : List Meaning} {map : List ℤ} {n : ℕ} (f : Filled ms old left rest map n) where
     pub filled-end : rest ≡ [] → (n ≡ length (givenFrom 7 ms)) × (map ≡ over old (numbersOf (givenFrom 7 ms)))
-    unfolding givenFrom
+    unfolding givenAfter
     filled-end q =
         let e : givenFrom 7 ms ≡ f .done = f .whole ∙ rw q (append-nil (f .done)) in
         (rw e (f .count), rw e (f .table))
 
     module _ {m : Meaning} {rest′ : List Meaning} (q : rest ≡ m ∷ rest′) {x : Found} (p : x ≡ foundIn left m) where
-      left-turn : {y : Found} → x ≡ y → givenFrom 7 ms ≡ f .done ++ withFound y left (λ n′. givenFrom n′ rest′)
-      unfolding givenFrom
-      left-turn g = f .whole ∙ rw (q, ← p, g)
+      left-turn : {y : Found} → x ≡ y → givenFrom 7 ms ≡ f .done ++ withFound y left rest′
+      left-turn g = f .whole ∙ ap (λ (l : List Entry). f .done ++ l) (ap (givenFrom left) q ∙ given-turn left m rest′ ∙ ap (λ z. withFound z left rest′) (sym p ∙ g))
 
       pub filled-nothing : x ≡ found.Nothing → Filled ms old left rest′ map n
       filled-nothing g = record { done = f .done; whole = left-turn g; count = f .count; table = f .table }

@@ -10,11 +10,9 @@ use Rattle.base.specs.Tables.{over, after}
 use Rattle.kbm.proofs.Table.{length-numbers}
 use Rattle.kbm.specs.Table.{numbersOf}
 use Rattle.kbm.specs.declared.Kbm.{Kbm}
-use Rattle.text.proofs.LineLanguage.{one-strict-text}
 use Rattle.kbm_read.specs.Language.{blanks}
-use Rattle.kbm_read.specs.Reader.{readOf, givenFrom, givenIn, entriesIn, padded}
-use Rattle.kbm_read.proofs.Ends.{given-entries}
-use Rattle.kbm_read.proofs.Language.{accepted}
+use Rattle.kbm_read.specs.Reader.{readOf, givenIn, entriesIn, padded}
+use Rattle.kbm_read.proofs.Language.{accepted, given-in}
 use Rattle.kbm_read.proofs.Fills.{numbers-append, pad-over}
 
 -- an accepted text gives at most as many entries as its size, and there is room for that
@@ -22,8 +20,7 @@ pub read-counts : (room : ℕ) (text : List ℕ) (x : Kbm) → readOf room text 
 read-counts room text x e =
     let a = accepted room text x e in
     let t = a .0 in
-    let given : givenIn text ≡ t .given = ap (givenFrom 7) (one-strict-text text (t .says) (t .text)) ∙ given-entries (t .lines) in
-    (omega (arith, ap length given, t .consistent, ap (λ k. k .count) (t .mapping)), a .1)
+    (omega (arith, ap length (given-in t), t .consistent, ap (λ k. k .count) (t .mapping)), a .1)
 
 module _ (text : List ℕ) (old : List ℤ) {x : Kbm} (e : readOf (length old) text ≡ gives x) where
   -- the second pass has a place for each entry, and so has the padding

@@ -1,11 +1,9 @@
 pub mod Takes
-pub mod Walks
 pub mod Fills
 pub mod Leaves
 pub mod Fields
-pub mod Places
-pub mod Leads
-pub mod Follows
+pub mod EntryTexts
+pub mod Stands
 pub mod Ends
 pub mod Language
 pub mod Tables

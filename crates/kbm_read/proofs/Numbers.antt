@@ -6,7 +6,7 @@ use native.Mathlib.Omega.{arith}
 use lib.Dec.{leb, ltb}
 use lib.IntN.{ℤ, pos}
 use lib.Signed.{leZ}
-use Rattle.base.specs.Numbers.{float-value}
+use Rattle.base.specs.Numbers.{int-value, float-value}
 use Rattle.base.specs.Said.{Said, gives, Numbered}
 use Rattle.base.proofs.Said.{numbered-pick, numbered-then}
 use Rattle.floats.specs.Ranges.{inPitch}
@@ -14,17 +14,20 @@ use Rattle.decimals.specs.Answers.{saysDecimal}
 use Rattle.decimals.specs.DecimalScan.{readDecimal}
 use Rattle.decimals.specs.declared.DecimalAnswer.{DecimalAnswer}
 use Rattle.decimals.specs.declared.DecimalAnswer.the-variants as decimal
+use Rattle.integers.specs.AtLine.{intAt}
+use Rattle.listing.specs.Reader.{walkLines}
+use Rattle.text.specs.ReadLine.{saidIn}
 use Rattle.integers.specs.Integer.{Int, value, none, readInt}
-use Rattle.text.specs.Reading.{Meaning, invalid, dropped, content}
+use Rattle.text.specs.Reading.{Meaning, invalid, blank, comment, content}
 use Rattle.kbm.specs.declared.Kbm.{Kbm}
-use Rattle.kbm_read.specs.Reader.{intAt, goesOn, entryPlaced, entryIn, takeDue, takeToken, takeMeaning, whichOf, mappingOf, finished, walk, unread, saidIn, readOf}
+use Rattle.kbm_read.specs.Reader.{goesOn, entryPlaced, entryIn, takeDue, takeToken, takeMeaning, whichOf, mappingOf, finished, walk, unread, readOf}
 use Rattle.kbm_read.specs.declared.line.Due.{Due}
 use Rattle.kbm_read.specs.declared.line.Due.the-variants as due
 use Rattle.kbm_read.specs.declared.line.EntryRead.{EntryRead}
 use Rattle.kbm_read.specs.declared.line.EntryRead.the-variants as entry
 use Rattle.kbm_read.specs.declared.line.State.{State}
 
-int-numbered : (k : ℕ) (i : Int) → Numbered (intAt k i)
+int-numbered : (k : ℕ) (i : Int) → Numbered (intAt int-value k i)
 int-numbered k (value z) = Numbered.value z
 int-numbered k none = Numbered.number {n = 3} (omega arith) (omega arith)
 
@@ -50,7 +53,8 @@ due-numbered room k t s due.Entries = placed-numbered room k s (entryIn t)
 meaning-numbered : (room k : ℕ) (m : Meaning) (s : State) → Numbered (takeMeaning room k m s)
 unfolding takeToken
 meaning-numbered room k invalid s = Numbered.number {n = 1} (omega arith) (omega arith)
-meaning-numbered room k dropped s = Numbered.value s
+meaning-numbered room k blank s = Numbered.value s
+meaning-numbered room k comment s = Numbered.value s
 meaning-numbered room k (content m t) s = due-numbered room k t s (s .due)
 
 finished-numbered : (room : ℕ) (s : State) → Numbered (finished room s)
@@ -62,7 +66,7 @@ finished-numbered room s =
     (numbered-pick (ltb (s .head .size) (s .count)) (Numbered.number (omega arith) (omega arith)) (Numbered.value (mappingOf (s .head))))))
 
 walk-numbered : (room k : ℕ) (s : State) (ms : List Meaning) → Numbered (walk room k s ms)
-unfolding walk
+unfolding walkLines
 walk-numbered room k s [] = finished-numbered room s
 walk-numbered room k s (m ∷ ms) = numbered-then (meaning-numbered room k m s) (λ s′. walk-numbered room (k + 1) s′ ms)
 

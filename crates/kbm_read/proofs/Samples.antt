@@ -8,16 +8,18 @@ use Rattle.base.specs.Said.{gives, refuses}
 use Rattle.kbm.specs.declared.Entry.the-variants.{Mapped, Unmapped}
 use Rattle.kbm.specs.declared.Kbm.{Kbm}
 use Rattle.key.specs.Keys.{key}
-use Rattle.decimals.specs.DecimalScan.{spelled, scanOf, readDecimal}
-use Rattle.decimals.specs.DecimalScan as decimals
+use Rattle.numerals.specs.Scan.{spelled, scanOf}
+use Rattle.numerals.specs.Scan as numerals
+use Rattle.decimals.specs.DecimalScan.{readDecimal}
 use Rattle.integers.specs.Integer.{scan, magnitudeOf, readSigned}
+use Rattle.listing.specs.Reader.{walkLines, givenAfter}
 use Rattle.text.specs.Cut.{lines}
 use Rattle.text.specs.ReadLine.{tokenLength, meaningBy, meanings}
-use Rattle.text.specs.Trim.{widthBy, run}
-use Rattle.text.specs.Utf8Machine.{leadOf, utf8Step}
-use Rattle.text.specs.Utf8Machine as utf8
+use Rattle.white.specs.Trim.{widthBy, run}
+use Rattle.utf8.specs.Utf8Machine.{leadOf, utf8Step}
+use Rattle.utf8.specs.Utf8Machine as utf8
 use Rattle.kbm_read.specs.Language.{blanks}
-use Rattle.kbm_read.specs.Reader.{entryIn, takeToken, finished, walk, readOf, givenFrom, entriesIn}
+use Rattle.kbm_read.specs.Reader.{entryIn, takeToken, finished, readOf, entriesIn}
 
 -- `3`, `0`, `127`, `62`, `60`, `261.6256`, `5`, each with LF
 abbrev seven : List ℕ
@@ -50,7 +52,7 @@ pub record Samples : Type 0 where
   pub nothing : readOf 8 [] ≡ refuses 2 1
 
 pub samples : Samples
-unfolding lines meaningBy meanings tokenLength widthBy run leadOf utf8Step utf8.utf8From scan magnitudeOf readSigned decimals.runOf spelled scanOf readDecimal entryIn takeToken finished walk givenFrom blanks round ofBits le
+unfolding lines meaningBy meanings tokenLength widthBy run leadOf utf8Step utf8.utf8From scan magnitudeOf readSigned numerals.runOf spelled scanOf readDecimal entryIn takeToken finished walkLines givenAfter blanks round ofBits le
 samples =
     record {
       mapping = refl;

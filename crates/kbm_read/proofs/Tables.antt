@@ -17,18 +17,11 @@ use Rattle.kbm.proofs.Table.{length-numbers, numbers-usable, numbers-back}
 use Rattle.kbm.specs.Table.{numbersOf, IsI16, AreI16, isTable, tableOf}
 use Rattle.kbm.specs.declared.Entry.{Entry}
 use Rattle.kbm.specs.declared.Kbm.{Kbm}
-use Rattle.integers.specs.IntegerText.{IntText}
+use Rattle.integers.proofs.AtLine.{typed-int}
 use Rattle.kbm_read.specs.Language.{EntryText, Entries, blanks, sizeOf, MappingText}
 use Rattle.kbm_read.specs.Reader.{readOf, entriesIn, afterRead}
 use Rattle.kbm_read.proofs.Ends.{length-added}
 use Rattle.kbm_read.proofs.Language.{accepted, accepts}
-
--- an integer that is read is within its type
-pub typed-int : (top most : ℕ) {t : List ℕ} {z : ℤ} → top ≤ suc most → IntText true top t z → leZ (negsuc most) z && leZ z (pos most) ≡ true
-typed-int top most l (IntText.plain n d h e) = rw (e, le-leb n most (omega arith))
-typed-int top most l (IntText.plus u n p d h e) = rw (e, le-leb n most (omega arith))
-typed-int top most l (IntText.minus u zero g p d h e) = rw (e, le-leb 0 most (omega arith))
-typed-int top most l (IntText.minus u (suc n) g p d h e) = rw (e, le-leb n most (omega arith))
 
 -- so a degree is of 16 bits
 typed-text : (t : List ℕ) (e : Entry) → EntryText t e → IsI16 e

@@ -15,10 +15,11 @@ use borrow.Author.Tests.{ne-eqb, lt-ltb, le-ltb, le-leb, lt-leb, leb-false}
 use types.Run.{OneOf}
 use denote.Enum.Declared.{tagOf}
 use Rattle.base.proofs.Integers.{mag-sub}
-use Rattle.base.specs.Numbers.{line-missing, keyboard-mapping, unusable, overflow, no-room, too-large, inconsistent-count}
+use Rattle.base.specs.Numbers.{int-value, line-missing, keyboard-mapping, unusable, overflow, no-room, too-large, inconsistent-count}
 use Rattle.base.specs.Said.{Said, gives, refuses, andThen}
 use Rattle.floats.specs.Ranges.{inPitch}
 use Rattle.decimals.specs.DecimalScan.{readDecimal}
+use Rattle.integers.specs.AtLine.{intAt}
 use Rattle.integers.specs.Integer.{Int, readInt, i16Of, i32Of}
 use Rattle.decimals.specs.declared.DecimalAnswer.{DecimalAnswer}
 use Rattle.decimals.specs.declared.DecimalAnswer.the-variants as decimal
@@ -31,7 +32,7 @@ use Rattle.text.specs.declared.line.LineSays.{LineSays}
 use Rattle.text.specs.declared.line.LineSays.the-variants.{Content}
 use Rattle.kbm.specs.declared.Entry.{Entry}
 use Rattle.kbm.specs.declared.Entry.the-variants.{Unmapped}
-use Rattle.kbm_read.specs.Reader.{intAt, goesOn, takeLast, decimalRefused, pitchSaid, takePitch, takeEntry, takeDue, takeToken, takeMeaning, whichOf, mappingOf, finished, isCross, degreeIn, entryIn, foundEntry, foundIn}
+use Rattle.kbm_read.specs.Reader.{goesOn, takeLast, decimalRefused, pitchSaid, takePitch, takeEntry, takeDue, takeToken, takeMeaning, whichOf, mappingOf, finished, isCross, degreeIn, entryIn, foundEntry, foundIn}
 use Rattle.kbm_read.specs.declared.line.Due.{Due}
 use Rattle.kbm_read.specs.declared.line.Due.the-variants as due
 use Rattle.kbm_read.specs.declared.Found.the-variants as found
@@ -39,10 +40,6 @@ use Rattle.kbm_read.specs.declared.line.Head.{Head}
 use Rattle.kbm_read.specs.declared.line.EntryRead.{EntryRead}
 use Rattle.kbm_read.specs.declared.line.EntryRead.the-variants as entry
 use Rattle.kbm_read.specs.declared.line.State.{State}
-
--- THE LAW OF A REQUIRED LINE: r is what an integer's reader answered, r′ what a match made of it
-pub int-step : {X : Type 0} (of : X → Int) (k : ℕ) (f : ℤ → Said State) {r r′ : X} {i : Int} → of r ≡ i → r ≡ r′ → andThen (intAt k (of r′)) f ≡ andThen (intAt k i) f
-int-step of k f e q = ap (λ i. andThen (intAt k i) f) (ap of (sym q) ∙ e)
 
 -- a key that is not the largest has one after it
 pub next-fits : (z : ℤ) → SFits w32 z → leZ (pos 2147483647) z ≡ false → SFits w32 (z +ℤ pos 1)
@@ -154,10 +151,6 @@ other-byte (b ∷ c ∷ t) n x y = refl
 pub degree-is : (t : List ℕ) → isCross t ≡ false → {r r′ : I16} → i16Of r ≡ readInt true (2 ^ 15) t → r ≡ r′ → degreeIn (i16Of r′) ≡ entryIn t
 unfolding entryIn
 degree-is t n e q = rw (n, ← e, q)
-
--- the token of a line lies in the text
-pub token-within : (text : List ℕ) {x : LineSays} {a e t : ℕ} → InText text x → x ≡ Content a e t → (a ≤ t) × (t ≤ length text)
-token-within text h q = let w = rw q at h in (w .0, omega (arith, w .1, w .2))
 
 -- what a line gives the table, as a match told it
 module _ (n : ℕ) (text : List ℕ) {x : LineSays} where

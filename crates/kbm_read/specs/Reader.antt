@@ -19,12 +19,13 @@ use Rattle.kbm.specs.declared.Kbm.{Kbm}
 use Rattle.key.specs.Keys.{key}
 use Rattle.decimals.specs.Answers.{saysDecimal}
 use Rattle.decimals.specs.DecimalScan.{readDecimal}
+use Rattle.integers.specs.AtLine.{intAt}
 use Rattle.integers.specs.Integer.{Int, value, none, readInt}
 use Rattle.decimals.specs.declared.DecimalAnswer.{DecimalAnswer}
 use Rattle.decimals.specs.declared.DecimalAnswer.the-variants as decimal
-use Rattle.text.specs.Cut.{lines}
-use Rattle.text.specs.ReadLine.{meanings, strictly}
-use Rattle.text.specs.Reading.{Meaning, invalid, dropped, content}
+use Rattle.listing.specs.Reader.{walkLines, givenAfter}
+use Rattle.text.specs.ReadLine.{saidIn}
+use Rattle.text.specs.Reading.{Meaning, invalid, blank, comment, content}
 use Rattle.kbm_read.specs.Language.{added}
 use Rattle.kbm_read.specs.declared.line.Due.{Due}
 use Rattle.kbm_read.specs.declared.line.Due.the-variants as due
@@ -42,11 +43,6 @@ abbrev pub saysStep : Step → Said State
 saysStep (step.Is s) = gives s
 saysStep (step.Refused r) = refusal r
 
--- an integer, or 3 at its line
-abbrev pub intAt : ℕ → Int → Said ℤ
-intAt k (value z) = gives z
-intAt k none = refuses int-value k
-
 -- the next line that is due, with what was said so far
 abbrev pub goesOn : Due → Head → Said State
 goesOn d h = gives (record { due = d; head = h; count = 0 })
@@ -54,28 +50,28 @@ goesOn d h = gives (record { due = d; head = h; count = 0 })
 -- what each required line, number k with token t, adds to what was said
 abbrev pub takeSize : ℕ → List ℕ → Head → Said State
 takeSize k t h =
-    andThen (intAt k (readInt false (2 ^ 16) t)) (λ z. goesOn due.FirstKey
+    andThen (intAt int-value k (readInt false (2 ^ 16) t)) (λ z. goesOn due.FirstKey
     (record { size = natAbs z; first = h .first; end = h .end; middle = h .middle; reference = h .reference; hz = h .hz; octave = h .octave }))
 
 abbrev pub takeFirst : ℕ → List ℕ → Head → Said State
 takeFirst k t h =
-    andThen (intAt k (readInt true (2 ^ 31) t)) (λ z. goesOn due.LastKey
+    andThen (intAt int-value k (readInt true (2 ^ 31) t)) (λ z. goesOn due.LastKey
     (record { size = h .size; first = z; end = h .end; middle = h .middle; reference = h .reference; hz = h .hz; octave = h .octave }))
 
 -- the last key: 11 for the largest
 abbrev pub takeLast : ℕ → List ℕ → Head → Said State
 takeLast k t h =
-    andThen (intAt k (readInt true (2 ^ 31) t)) (λ z. pick (leZ (pos 2147483647) z) (refuses overflow k) (goesOn due.MiddleKey
+    andThen (intAt int-value k (readInt true (2 ^ 31) t)) (λ z. pick (leZ (pos 2147483647) z) (refuses overflow k) (goesOn due.MiddleKey
     (record { size = h .size; first = h .first; end = z +ℤ pos 1; middle = h .middle; reference = h .reference; hz = h .hz; octave = h .octave })))
 
 abbrev pub takeMiddle : ℕ → List ℕ → Head → Said State
 takeMiddle k t h =
-    andThen (intAt k (readInt true (2 ^ 15) t)) (λ z. goesOn due.ReferenceKey
+    andThen (intAt int-value k (readInt true (2 ^ 15) t)) (λ z. goesOn due.ReferenceKey
     (record { size = h .size; first = h .first; end = h .end; middle = z; reference = h .reference; hz = h .hz; octave = h .octave }))
 
 abbrev pub takeReference : ℕ → List ℕ → Head → Said State
 takeReference k t h =
-    andThen (intAt k (readInt true (2 ^ 15) t)) (λ z. goesOn due.ReferencePitch
+    andThen (intAt int-value k (readInt true (2 ^ 15) t)) (λ z. goesOn due.ReferencePitch
     (record { size = h .size; first = h .first; end = h .end; middle = h .middle; reference = z; hz = h .hz; octave = h .octave }))
 
 -- why a decimal is refused
@@ -96,7 +92,7 @@ takePitch k t h = pitchSaid k h (readDecimal t)
 
 abbrev pub takeOctave : ℕ → List ℕ → Head → Said State
 takeOctave k t h =
-    andThen (intAt k (readInt true (2 ^ 15) t)) (λ z. goesOn due.Entries
+    andThen (intAt int-value k (readInt true (2 ^ 15) t)) (λ z. goesOn due.Entries
     (record { size = h .size; first = h .first; end = h .end; middle = h .middle; reference = h .reference; hz = h .hz; octave = z }))
 
 -- t is `x` (120) or `X` (88)
@@ -139,7 +135,8 @@ takeToken room k t s = takeDue room k t s (s .due)
 -- what line k says
 abbrev pub takeMeaning : ℕ → ℕ → Meaning → State → Said State
 takeMeaning room k invalid s = refuses not-utf8 k
-takeMeaning room k dropped s = gives s
+takeMeaning room k blank s = gives s
+takeMeaning room k comment s = gives s
 takeMeaning room k (content m t) s = takeToken room k t s
 
 -- which required line is missing, counted from 1; 0 for none
@@ -178,13 +175,8 @@ abbrev pub unread : State
 unread = record { due = due.Size; head = record { size = 0; first = pos 0; end = pos 0; middle = pos 0; reference = pos 0; hz = ofBits binary64 0; octave = pos 0 }; count = 0 }
 
 -- the lines from number k on, after what was said
-unfoldable pub walk : ℕ → ℕ → State → List Meaning → Said Kbm
-walk room k s [] = finished room s
-walk room k s (m ∷ ms) = andThen (takeMeaning room k m s) (λ s′. walk room (k + 1) s′ ms)
-
--- what the lines of a text say
-abbrev pub saidIn : List ℕ → List Meaning
-saidIn text = meanings strictly (lines text)
+abbrev pub walk : ℕ → ℕ → State → List Meaning → Said Kbm
+walk room = walkLines (takeMeaning room) (finished room)
 
 -- THE READER: the mapping that a text is, where the table has so many places; or a refusal
 abbrev pub readOf : ℕ → List ℕ → Said Kbm
@@ -198,18 +190,18 @@ foundEntry entry.IsNot = found.Nothing
 -- what a line gives the table, where n required lines are still to come
 abbrev pub foundIn : ℕ → Meaning → Found
 foundIn n invalid = found.Nothing
-foundIn n dropped = found.Nothing
+foundIn n blank = found.Nothing
+foundIn n comment = found.Nothing
 foundIn n (content m t) = pick (ltb 0 n) found.Required (foundEntry (entryIn t))
 
-abbrev pub withFound : Found → ℕ → (ℕ → List Entry) → List Entry
-withFound (found.Is e) n go = e ∷ go n
-withFound found.Required n go = go (n - 1)
-withFound found.Nothing n go = go n
+-- the entry of a line after the required ones, where it is one
+abbrev pub listed : EntryRead → List Entry
+listed (entry.Is e) = e ∷ []
+listed entry.IsNot = []
 
 -- the entries that lines give, after n required ones
-unfoldable pub givenFrom : ℕ → List Meaning → List Entry
-givenFrom n [] = []
-givenFrom n (m ∷ ms) = withFound (foundIn n m) n (λ n′. givenFrom n′ ms)
+abbrev pub givenFrom : ℕ → List Meaning → List Entry
+givenFrom = givenAfter (λ m t. listed (entryIn t))
 
 abbrev pub givenIn : List ℕ → List Entry
 givenIn text = givenFrom 7 (saidIn text)

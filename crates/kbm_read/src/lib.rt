@@ -159,7 +159,8 @@ fn found_in(text: &[u8], says: LineSays, required: usize) -> Found
 {
     match says {
         LineSays::NotUtf8 => Found::Nothing,
-        LineSays::Dropped => Found::Nothing,
+        LineSays::Blank => Found::Nothing,
+        LineSays::Comment => Found::Nothing,
         LineSays::Content {
             start,
             end: _,

@@ -197,14 +197,15 @@ fn take_token(token: &[u8], line: usize, room: usize, state: State) -> Step
     }
 }
 
-// A line of the text: 1 where it is not UTF-8, and nothing new where it drops out.
+// A line of the text: 1 where it is not UTF-8, and nothing new where it is blank or a comment.
 pub fn take_line(text: &[u8], says: LineSays, line: usize, room: usize, state: State) -> Step
     requires { ⌜ InText (now text) says ⌝ }
     ensures { λ r. ⌜ saysStep r ≡ takeMeaning room line (shown (now (text .entry)) says) state ⌝ }
 {
     match says {
         LineSays::NotUtf8 => refused(base::NOT_UTF8, line),
-        LineSays::Dropped => Step::Is(state),
+        LineSays::Blank => Step::Is(state),
+        LineSays::Comment => Step::Is(state),
         LineSays::Content {
             start,
             end: _,

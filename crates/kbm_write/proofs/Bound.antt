@@ -2,15 +2,12 @@
 use mathlib.Core.Path.{_≡_, refl, _∙_}
 use mathlib.Core.Bool.{Bool, true, false, _&&_}
 use mathlib.Core.List.{List, [], _∷_}
-use Prim.Native.Nat.{ℕ, zero, suc, _+_, _*_, _-_, _/_, _%_, _^_, _≤_, _<_}
-use native.Mathlib.Nat.{div-lt-iff-lt-mul}
+use Prim.Native.Nat.{ℕ, _+_, _*_, _≤_}
 use native.Mathlib.Omega.{arith}
-use lib.Dec.{leb, ltb, lit<}
+use lib.Dec.{leb, lit<}
 use lib.Ieee.{Float}
-use lib.IntN.{ℤ, pos, negsuc}
+use lib.IntN.{ℤ, pos}
 use lib.ListN.{length}
-use lib.Signed.{mag}
-use borrow.Author.Tests.{le-leb, ltb-false}
 use Rattle.base.specs.Integers.{inI32, held}
 use Rattle.base.specs.Numbers.{unusable, overflow, no-room}
 use Rattle.base.specs.Said.{gives, refuses, pick, andThen}
@@ -18,42 +15,24 @@ use Rattle.base.proofs.Integers.{mag-in}
 use Rattle.floats.proofs.Ranges.{Within, within-fin, pitch-says}
 use Rattle.floats.specs.Ranges.{inPitch}
 use Rattle.floats.specs.Units.{negative}
-use Rattle.printing.specs.PrintText.{widthOf, scaledOf, signText, integerText, wholeText, textOf}
-use Rattle.printing.proofs.Texts.{shorter, parts-length, sign-le, point-le}
+use Rattle.printing.specs.PrintText.{signText, wholeText, textOf}
 use Rattle.kbm.specs.Table.{inI16, AreI16, isTable, tableOf}
 use Rattle.kbm.specs.declared.Entry.{Entry}
 use Rattle.kbm.specs.declared.Entry.the-variants.{Mapped, Unmapped}
 use Rattle.kbm.specs.declared.Kbm.{Kbm}
 use Rattle.kbm.proofs.Entries.{mag-i16}
-use Rattle.kbm_write.specs.Export.{line, linesText, lastOf, middleOf, entryText, entryTexts, exportText, fitted, exportOf, Writable}
+use Rattle.writing.specs.Fitted.{fitted}
+use Rattle.writing.specs.Lines.{line, linesText}
+use Rattle.writing.proofs.Lines.{lines-cons}
+use Rattle.writing.proofs.Room.{fitted-gives}
+use Rattle.writing.proofs.Widths.{line-under, size-line, three-under}
+use Rattle.kbm_write.specs.Export.{lastOf, middleOf, entryText, entryTexts, exportText, exportOf, Writable}
 use Rattle.kbm_write.specs.Typed.{Typed, OfTypes}
-use Rattle.kbm_write.proofs.Lines.{length-line, lines-cons, five-length}
+use Rattle.kbm_write.proofs.Lines.{five-length}
 use Rattle.kbm_write.proofs.Printed.{pitch-few}
 use Rattle.kbm_write.proofs.Room.{four-length}
 use Rattle.kbm_write.proofs.Theorems.{writable}
 use Rattle.kbm_write.proofs.Typed.{typed}
-
--- a number below 10^g has at most g digits
-width-under : (f g n : ℕ) → 0 < g → n < 10 ^ g → widthOf f n ≤ g
-width-under zero g n p h = omega arith
-width-under (suc f) g n p h = go (ltb n 10) refl (width-under f (g - 1) (n / 10))
-  where
-    go : (b : Bool) → ltb n 10 ≡ b → (0 < g - 1 → n / 10 < 10 ^ (g - 1) → widthOf f (n / 10) ≤ g - 1) → pick b 1 (suc (widthOf f (n / 10))) ≤ g
-    go true e rest = omega arith
-    go false e rest =
-        let s = shorter g n (ltb-false n 10 e) h in
-        omega (arith, rest (omega (arith, s .0)) (s .1), s .0)
-
--- the line of an integer of so many digits
-line-under : (g : ℕ) (z : ℤ) → 0 < g → suc (mag z) < 10 ^ g → length (line (wholeText z)) ≤ g + 2
-line-under g (pos n) p h =
-    omega (arith, length-line (integerText false n), parts-length false false n (widthOf 18 n) 0 0, width-under 18 g n p (omega arith), sign-le false false)
-line-under g (negsuc n) p h =
-    omega (arith, length-line (integerText true (suc n)), parts-length true false (suc n) (widthOf 18 (suc n)) 0 0, width-under 18 g (suc n) p h, sign-le true false)
-
--- a size has five digits and no sign
-size-line : (n : ℕ) → n ≤ 65535 → length (line (wholeText (pos n))) ≤ 6
-size-line n h = omega (arith, length-line (integerText false n), parts-length false false n (widthOf 18 n) 0 0, width-under 18 5 n (lit< tt) (omega arith))
 
 key-line : (z : ℤ) → inI32 z ≡ true → length (line (wholeText z)) ≤ 12
 key-line z h = line-under 10 z (lit< tt) (omega (arith, mag-in z h))
@@ -70,11 +49,7 @@ no-sign x h = go (pitch-says x h)
 
 -- a pitch has at most seven digits before the dot, three after it, and no sign
 pitch-line : (x : Float) → inPitch x ≡ true → length (line (textOf 3 false x)) ≤ 12
-pitch-line x h =
-    let s = no-sign x h in
-    let n = scaledOf 3 x in
-    let w : n / 10 ^ 3 < 10 ^ 7 = div-lt-iff-lt-mul {y = 10 ^ 7} (lit< tt) .1 (omega (arith, pitch-few x h)) in
-    omega (arith, length-line (textOf 3 false x), parts-length (negative x) false (n / 10 ^ 3) (widthOf 18 (n / 10 ^ 3)) (n % 10 ^ 3) 3, width-under 18 7 (n / 10 ^ 3) (lit< tt) w, point-le 3)
+pitch-line x h = omega (arith, no-sign x h, three-under 7 x (lit< tt) (omega (arith, pitch-few x h)))
 
 -- seven bytes an entry: -32768 and LF
 entry-lines : (es : List Entry) → AreI16 es → length (linesText (entryTexts es)) ≤ 7 * length es
@@ -134,7 +109,6 @@ module _ (kbm : Kbm) (map : List ℤ) (y : OfTypes kbm) where
 
   -- so with that many bytes a mapping that can be written is written
   pub never-no-room : (room : ℕ) → Writable kbm map → 73 + 7 * kbm .count ≤ room → exportOf kbm map room ≡ gives (exportText kbm (tableOf (kbm .count) map))
-  unfolding fitted
   never-no-room room w h =
       let text = exportText kbm (tableOf (kbm .count) map) in
-      writable kbm map w room ∙ rw (le-leb (length text) room (omega (arith, text-short w)))
+      writable kbm map w room ∙ fitted-gives room text (omega (arith, text-short w))

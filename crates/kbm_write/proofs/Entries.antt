@@ -4,11 +4,12 @@ use mathlib.Core.List.{List, [], _++_}
 use Prim.Native.Nat.{ℕ, _+_, _<_}
 use native.Mathlib.Numerals.{add-one}
 use lib.IntN.{ℤ, pos}
-use lib.ListN.{length, drop, getD, length-append}
+use lib.ListN.{length, drop, getD}
 use lib.Seq.{sets, drop-cons, drop-length}
-use Rattle.printing.proofs.Texts.{sets-append}
+use Rattle.writing.specs.Lines.{line, linesText}
+use Rattle.writing.proofs.Lines.{step-length, step-sets}
 use Rattle.kbm.specs.Table.{entryOf, entriesOf}
-use Rattle.kbm_write.specs.Export.{line, linesText, entryText, entryTexts, tableText}
+use Rattle.kbm_write.specs.Export.{entryText, entryTexts, tableText}
 
 -- the line of the entry at a place of a table
 abbrev pub lineAt : List ℤ → ℕ → List ℕ
@@ -21,11 +22,11 @@ module _ (map : List ℤ) (i : ℕ) (h : i < length map) where
   table-step = rw (add-one i, drop-cons map i (pos 0) h)
 
   pub table-length : length (tableText (drop i map)) ≡ length (lineAt map i) + length (tableText (drop (i + 1) map))
-  table-length = rw table-step (length-append (lineAt map i) (tableText (drop (i + 1) map)))
+  table-length = step-length (tableText (drop i map)) (entryText (entryOf (getD map i (pos 0)))) (tableText (drop (i + 1) map)) table-step
 
   -- one entry more is written
   pub table-sets : (l m : List ℕ) (at next : ℕ) → m ≡ sets l at (lineAt map i) → next ≡ at + length (lineAt map i) → sets m next (tableText (drop (i + 1) map)) ≡ sets l at (tableText (drop i map))
-  table-sets l m at next e p = rw (table-step, e) (sets-append l at next (lineAt map i) (tableText (drop (i + 1) map)) p)
+  table-sets = step-sets (tableText (drop i map)) (entryText (entryOf (getD map i (pos 0)))) (tableText (drop (i + 1) map)) table-step
 
 -- past the last entry nothing is left
 module _ (map : List ℤ) (i : ℕ) (h : i ≡ length map) where

@@ -11,8 +11,9 @@ use Rattle.text.specs.Reading.{strict, Says}
 use Rattle.kbm.specs.declared.Entry.{Entry}
 use Rattle.kbm.specs.declared.Kbm.{Kbm}
 use Rattle.kbm_write.specs.Export.{keyTexts, soundTexts, lastOf, middleOf, entryTexts, exportText}
-use Rattle.kbm_write.proofs.Plain.{Words, selves, word-lines, words-say, words-found}
-use Rattle.kbm_write.proofs.Printed.{whole-word, pitch-word, entry-words}
+use Rattle.writing.proofs.Plain.{Words, selves, word-lines, words-say, words-found}
+use Rattle.writing.proofs.Printed.{whole-word, three-word}
+use Rattle.kbm_write.proofs.Printed.{entry-words}
 
 module _ (kbm : Kbm) (es : List Entry) where
   -- the texts of the lines
@@ -32,7 +33,7 @@ module _ (kbm : Kbm) (es : List Entry) where
           whole-word (middleOf kbm),
           (
             whole-word (kbm .root .reference .0),
-            (pitch-word (kbm .root .pitch .0), (whole-word (kbm .octave), entry-words es)),
+            (three-word (kbm .root .pitch .0), (whole-word (kbm .octave), entry-words es)),
           ),
         ),
       ),

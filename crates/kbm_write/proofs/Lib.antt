@@ -3,7 +3,6 @@ pub mod Entries
 pub mod Room
 pub mod Theorems
 pub mod Samples
-pub mod Plain
 pub mod Printed
 pub mod ExportLines
 pub mod Published

@@ -2,19 +2,18 @@
 -- frequency with three decimals) and the same entries. Assumes nothing.
 use mathlib.Core.Path.{_≡_, refl, sym, ap, _∙_}
 use mathlib.Core.Bool.{Bool, true, false}
-use mathlib.Core.List.{List, [], _∷_, _++_, append-nil}
+use mathlib.Core.List.{List, [], _∷_, _++_}
 use mathlib.Core.Logic.{inl}
-use Prim.Native.Nat.{ℕ, suc, _<_}
 use native.Mathlib.Omega.{arith}
-use lib.IntN.{ℤ, pos, negsuc}
+use lib.IntN.{pos}
 use lib.Ieee.{Float}
-use lib.Signed.{mag}
 use Rattle.base.proofs.Integers.{mag-in}
 use Rattle.floats.specs.Ranges.{inPitch}
 use Rattle.floats.specs.Units.{negative}
 use Rattle.floats.proofs.Ranges.{Within, within-fin, pitch-says}
 use Rattle.printing.specs.PrintText.{scaledOf, textOf, wholeText, signText}
 use Rattle.printing.proofs.Form.{printed}
+use Rattle.writing.proofs.PublishedValues.{all-kept, alone, whole-number, number}
 use Rattle.kbm.specs.Table.{AreI16}
 use Rattle.kbm.specs.declared.Entry.{Entry}
 use Rattle.kbm.specs.declared.Entry.the-variants.{Mapped, Unmapped}
@@ -25,33 +24,6 @@ use Rattle.kbm_write.specs.Published as P
 use Rattle.kbm_write.specs.Typed.{Typed}
 use Rattle.kbm_write.proofs.ExportLines.{exportTexts, export-lines, export-words}
 use Rattle.kbm_write.proofs.Lines.{pitch-limited}
-use Rattle.kbm_write.proofs.Plain.{Word, Words}
-use Rattle.kbm_write.proofs.Printed.{integer-form, digits-of}
-
--- no word is a comment
-no-comment : (t : List ℕ) → Word t → P.Comment t → ⊥
-no-comment [] w c = c
-no-comment (b ∷ t) w c = omega (arith, c, w .each .0)
-
-all-kept : (ts : List (List ℕ)) → Words ts → P.Kept ts ts
-all-kept [] w = P.Kept.none
-all-kept (t ∷ ts) w = P.Kept.kept (no-comment t (w .0)) (all-kept ts (w .1))
-
--- a value alone stands on its line
-alone : (t : List ℕ) → P.Stands t t
-alone t = record { before = []; rest = []; whole = sym (append-nil t); blank = tt; ends = tt }
-
--- a printed integer is a whole number
-whole-number : (z : ℤ) → mag z < 2147483648 → P.Whole (wholeText z) z
-whole-number (pos n) h =
-    let f = integer-form false n (omega arith) in
-    P.Whole.plain n (rw (f .text) (digits-of n false f)) refl
-whole-number (negsuc n) h =
-    let f = integer-form true (suc n) (omega arith) in
-    P.Whole.minus (f .whole ++ f .part) (suc n) (f .text) (digits-of (suc n) true f) refl
-
-number : (z : ℤ) → mag z < 2147483648 → P.Number (wholeText z) z
-number z h = record { token = wholeText z; stands = alone (wholeText z); value = whole-number z h }
 
 -- a printed pitch is a frequency of so many thousandths
 not-negative : (x : Float) → inPitch x ≡ true → negative x ≡ false
@@ -85,7 +57,8 @@ degrees [] d = tt
 degrees (Mapped z ∷ es) d = ((wholeText z, alone (wholeText z), P.Degree.degree z (whole-number z (omega (arith, mag-i16 z (d .0))))), degrees es (d .1))
 degrees (Unmapped ∷ es) d = ((120 ∷ [], alone (120 ∷ []), P.Degree.cross refl), degrees es (d .1))
 
--- the bytes that the export writes are a text of the published format, with that mapping as its meaning
+-- the bytes that the export of a mapping of its types writes are a text of the published format, and say the mapping's numbers, its pitch to
+-- three decimals, and its entries
 pub export-published : (kbm : Kbm) (es : List Entry) → Typed kbm es → P.PublishedText (exportText kbm es) (P.publishedOf kbm es)
 export-published kbm es y =
     record {

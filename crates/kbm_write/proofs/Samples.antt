@@ -10,7 +10,9 @@ use Rattle.base.specs.Said.{gives, refuses}
 use Rattle.floats.specs.Units.{negative}
 use Rattle.kbm.specs.Table.{unmapped, areEntries, entriesOf}
 use Rattle.kbm.specs.declared.Kbm.{Kbm}
-use Rattle.kbm_write.specs.Export.{linesText, entryTexts, fitted, exportOf}
+use Rattle.writing.specs.Fitted.{fitted}
+use Rattle.writing.specs.Lines.{linesText}
+use Rattle.kbm_write.specs.Export.{entryTexts, exportOf}
 
 -- size 3, keys 0 to 127, reference 60, middle 62, formal octave 5, 261.6256 Hz
 abbrev sample : Kbm

@@ -2,17 +2,10 @@
 -- mapping's, and three decimals may say less than the pitch. Assumes nothing.
 use mathlib.Core.Path.{_≡_}
 use mathlib.Core.Bool.{true}
-use Prim.Native.Nat.{_^_}
-use lib.Ieee.{Float, round, binary64}
-use Rattle.floats.specs.Units.{negative}
-use Rattle.printing.specs.PrintText.{scaledOf}
+use Rattle.writing.specs.Thousandths.{nearestThree}
 use Rattle.kbm.specs.Table.{inI16}
 use Rattle.kbm.specs.declared.Kbm.{Kbm}
 use Rattle.kbm_write.specs.Export.{middleOf}
-
--- the f64 nearest to x with three decimals
-abbrev pub nearestThree : Float → Float
-nearestThree x = round binary64 (negative x) (scaledOf 3 x) (10 ^ 3)
 
 -- reference and middle key fit i16, and the pitch is the f64 nearest its own three decimals
 pub record ComesBack (kbm : Kbm) : Type 0 where

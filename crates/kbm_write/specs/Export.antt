@@ -4,28 +4,19 @@ use mathlib.Core.Path.{_≡_}
 use mathlib.Core.Bool.{true, false, _&&_}
 use mathlib.Core.List.{List, [], _∷_, _++_}
 use Prim.Native.Nat.{ℕ}
-use lib.Dec.{leb}
 use lib.IntN.{ℤ, pos, _+ℤ_, _-ℤ_}
-use lib.ListN.{length}
 use lib.Ieee.{Float}
 use Rattle.base.specs.Integers.{inI32, held}
-use Rattle.base.specs.Numbers.{unusable, no-room}
-use Rattle.base.specs.Said.{Said, gives, refuses, pick, andThen}
+use Rattle.base.specs.Numbers.{unusable}
+use Rattle.base.specs.Said.{Said, refuses, pick, andThen}
 use Rattle.floats.specs.Ranges.{inPitch}
 use Rattle.printing.specs.PrintText.{textOf, wholeText}
+use Rattle.writing.specs.Fitted.{fitted}
+use Rattle.writing.specs.Lines.{linesText}
 use Rattle.kbm.specs.Table.{isTable, entriesOf, tableOf}
 use Rattle.kbm.specs.declared.Entry.{Entry}
 use Rattle.kbm.specs.declared.Entry.the-variants.{Mapped, Unmapped}
 use Rattle.kbm.specs.declared.Kbm.{Kbm}
-
--- a line: its text, and LF
-abbrev pub line : List ℕ → List ℕ
-line t = t ++ (10 ∷ [])
-
--- lines one after another: "Every line ends in LF"
-unfoldable pub linesText : List (List ℕ) → List ℕ
-linesText [] = []
-linesText (t ∷ ts) = line t ++ linesText ts
 
 -- the first five of the seven lines: size, first and last key, middle and reference key
 abbrev pub keyTexts : ℤ → ℤ → ℤ → ℤ → ℤ → List (List ℕ)
@@ -67,10 +58,6 @@ abbrev pub exportText : Kbm → List Entry → List ℕ
 exportText kbm entries =
     mappingText (pos (kbm .count)) (kbm .start .0) (lastOf kbm) (middleOf kbm) (kbm .root .reference .0) (kbm .root .pitch .0) (kbm .octave) entries
 
--- a text where so many bytes hold it, else 12
-unfoldable pub fitted : ℕ → List ℕ → Said (List ℕ)
-fitted room t = pick (leb (length t) room) (gives t) (refuses no-room 0)
-
 -- 11 for a last or middle key outside i32; else the text, by its room
 abbrev pub heldText : Kbm → List Entry → ℕ → Said (List ℕ)
 heldText kbm entries room =
@@ -80,10 +67,6 @@ heldText kbm entries room =
 unfoldable pub exportOf : Kbm → List ℤ → ℕ → Said (List ℕ)
 exportOf kbm map room =
     pick (isTable (kbm .count) map && inPitch (kbm .root .pitch .0)) (heldText kbm (tableOf (kbm .count) map) room) (refuses unusable 0)
-
--- the number of bytes written
-abbrev pub textLength : Said (List ℕ) → Said ℕ
-textLength said = andThen said (λ t. gives (length t))
 
 -- a mapping that can be written: "10 and 11 come before 12"
 pub record Writable (kbm : Kbm) (map : List ℤ) : Type 0 where

@@ -1,5 +1,4 @@
 pub mod Export
-pub mod Answers
 pub mod Typed
 pub mod Again
 pub mod Published

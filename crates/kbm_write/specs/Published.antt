@@ -2,55 +2,20 @@
 -- byte is a character; comments; seven numbers, one to a line; degrees counted from the middle key. Assumes nothing.
 use mathlib.Core.Path.{_≡_}
 use mathlib.Core.List.{List, [], _∷_, _++_}
-use mathlib.Core.Logic.{_⊎_}
 use Prim.Native.Nat.{ℕ, _≤_}
-use lib.IntN.{ℤ, pos, negℤ, _+ℤ_, _-ℤ_, _*ℤ_}
+use lib.IntN.{ℤ, pos, _+ℤ_, _-ℤ_, _*ℤ_}
 use lib.ListN.{length, getD}
 use lib.Signed.{_≤ℤ_}
 use Rattle.base.specs.Integers.{Divides}
-use Rattle.text.specs.Characters.{Each}
 use Rattle.text.specs.Lines.{Lines}
 use Rattle.decimals.specs.DecimalText as Decimal
 use Rattle.integers.specs.Digits.{decimal}
-use Rattle.integers.specs.IntegerText.{Digits}
 use Rattle.kbm.specs.declared.Entry.{Entry}
 use Rattle.kbm.specs.declared.Entry.the-variants.{Mapped, Unmapped}
 use Rattle.kbm.specs.declared.Kbm.{Kbm}
 use Rattle.printing.specs.PrintText.{scaledOf}
+pub use Rattle.writing.specs.PublishedLines.{Comment, Kept, Blank, Ends, Stands, Whole, Number}
 use Rattle.kbm_write.specs.Export.{lastOf, middleOf}
-
--- "A line whose first character (first position) is `!` is a comment"
-abbrev pub Comment : List ℕ → Type 0
-Comment [] = ⊥
-Comment (b ∷ l) = b ≡ 33
-
--- the lines that are no comments
-pub data Kept : List (List ℕ) → List (List ℕ) → Type 0 where
-  none : Kept [] []
-  comment : {l : List ℕ} {ls ks : List (List ℕ)} → Comment l → Kept ls ks → Kept (l ∷ ls) ks
-  kept : {l : List ℕ} {ls ks : List (List ℕ)} → (Comment l → ⊥) → Kept ls ks → Kept (l ∷ ls) (l ∷ ks)
-
--- space or tab
-abbrev pub Blank : ℕ → Type 0
-Blank b = (b ≡ 32) ⊎ (b ≡ 9)
-
--- the end of the line, or a blank
-abbrev pub Ends : List ℕ → Type 0
-Ends [] = Unit {0}
-Ends (b ∷ l) = Blank b
-
--- the value t stands on the line l, with blanks before it and nothing of its own after it
-pub record Stands (l t : List ℕ) : Type 0 where
-  pub before : List ℕ
-  pub rest : List ℕ
-  pub whole : l ≡ before ++ (t ++ rest)
-  pub blank : Each Blank before
-  pub ends : Ends rest
-
--- a whole number
-pub data Whole (t : List ℕ) (z : ℤ) : Type 0 where
-  plain : (n : ℕ) → Digits t n → z ≡ pos n → Whole t z
-  minus : (u : List ℕ) (n : ℕ) → t ≡ 45 ∷ u → Digits u n → z ≡ negℤ (pos n) → Whole t z
 
 -- a frequency of n / 10^k Hz, "as 440.0"
 pub record Hertz (t : List ℕ) (n k : ℕ) : Type 0 where
@@ -83,12 +48,6 @@ pub record Mapping : Type 0 where
   pub places : ℕ
   pub octave : ℤ
   pub given : List Entry
-
--- a line with a whole number
-pub record Number (l : List ℕ) (z : ℤ) : Type 0 where
-  pub token : List ℕ
-  pub stands : Stands l token
-  pub value : Whole token z
 
 -- a line with a frequency
 pub record Frequency (l : List ℕ) (n k : ℕ) : Type 0 where
@@ -125,7 +84,8 @@ pub data Sounds (m : Mapping) (key degree : ℤ) : Type 0 where
   linear : m .size ≡ 0 → degree ≡ key -ℤ m .middle → Sounds m key degree
   pattern : (q : ℤ) (r : ℕ) (z : ℤ) → Divides (key -ℤ m .middle) (m .size) q r → getD (m .given) r Unmapped ≡ Mapped z → degree ≡ z +ℤ q *ℤ m .octave → Sounds m key degree
 
--- "first MIDI note to retune; last MIDI note to retune"
+-- "first MIDI note to retune; last MIDI note to retune". A MIDI note is 0 to 127: that bound is left out on purpose, here and of the four lines
+-- with a key, since 01 has keys of 32 bits and no such bound
 abbrev pub Retuned : Mapping → ℤ → Type 0
 Retuned m key = (m .first ≤ℤ key) × (key ≤ℤ m .last)
 

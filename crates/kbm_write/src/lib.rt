@@ -1,68 +1,23 @@
 // Keyboard mappings out: the text of a mapping, the Rust's `KbmExport`. Document 01, "Writing".
-use base::Refusal;
 use integer_math::I32Answer;
 use kbm::Kbm;
-use printing::Placed;
+use writing::SizeAnswer;
+use writing::decimal_length;
+use writing::line_length;
+use writing::write_decimal;
+use writing::write_line;
 ghost use mathlib.Core.Path.{_≡_};
-ghost use mathlib.Core.Bool.{false, true};
-ghost use mathlib.Core.List.{_++_};
+ghost use mathlib.Core.Bool.{true};
 ghost use Prim.Native.Nat.{_+_, _≤_};
-ghost use lib.IntN.{pos};
 ghost use lib.ListN.{length};
 ghost use lib.Seq.{sets};
 ghost use Rattle.base.specs.Tables.{after};
 ghost use Rattle.floats.specs.Ranges.{inPitch};
-ghost use Rattle.printing.specs.PrintText.{textOf, wholeText};
-ghost use Rattle.kbm.specs.Table.{isTable, entryOf, entriesOf};
-ghost use Rattle.kbm_write.specs.Answers.{saysSize};
-ghost use Rattle.kbm_write.specs.Export.{line, linesText, keyTexts, soundTexts, tableText, mappingText, entryText, entryTexts, fitted, heldText, exportOf, textLength};
-
-// How many bytes were written.
-pub enum SizeAnswer {
-    Is(usize),
-    Refused(Refusal),
-}
-
-// 10: the table or the pitch is unusable.
-const NOT_USABLE: Refusal = Refusal {
-    number: base::UNUSABLE,
-    detail: 0,
-};
-
-// 12: the text is longer than the lent bytes.
-const NO_ROOM: Refusal = Refusal {
-    number: base::NO_ROOM,
-    detail: 0,
-};
-
-// Room for any one line.
-const LINE: usize = 32;
-
-// z and LF at `at`; the next place.
-fn write_line(z: i32, out: &mut [u8], at: usize) -> usize
-    requires { ⌜ at + length (line (wholeText z)) ≤ length (now out) ⌝ }
-    ensures { λ r. ⌜ r ≡ at + length (line (wholeText z)) ⌝ }
-    ensures { λ r. ⌜ now (out .exit) ≡ sets (now (out .entry)) at (line (wholeText z)) ⌝ }
-{
-    let Placed::At(next) = printing::write_i32(z, out, at) else {
-        return at;
-    };
-    out[next] = b'\n';
-    next + 1
-}
-
-// A pitch with three decimals and LF at `at`; the next place.
-fn write_pitch(hz: f64, out: &mut [u8], at: usize) -> usize
-    requires { ⌜ (inPitch hz ≡ true) × (at + length (line (textOf 3 false hz)) ≤ length (now out)) ⌝ }
-    ensures { λ r. ⌜ r ≡ at + length (line (textOf 3 false hz)) ⌝ }
-    ensures { λ r. ⌜ now (out .exit) ≡ sets (now (out .entry)) at (line (textOf 3 false hz)) ⌝ }
-{
-    let Placed::At(next) = printing::write_fixed(hz, 3, false, out, at) else {
-        return at;
-    };
-    out[next] = b'\n';
-    next + 1
-}
+ghost use Rattle.kbm.specs.Table.{entryOf, entriesOf};
+ghost use Rattle.writing.specs.Answers.{saysSize};
+ghost use Rattle.writing.specs.Fitted.{fitted, textLength};
+ghost use Rattle.writing.specs.Lines.{line, linesText};
+ghost use Rattle.kbm_write.specs.Export.{keyTexts, tableText, mappingText, entryText, heldText, exportOf};
 
 // The entry of the number z, and LF, at `at`; the next place.
 fn write_entry(z: i32, out: &mut [u8], at: usize) -> usize
@@ -78,28 +33,11 @@ fn write_entry(z: i32, out: &mut [u8], at: usize) -> usize
     write_line(z, out, at)
 }
 
-// How many bytes z and LF take.
-fn line_length(z: i32) -> usize
-    ensures { λ r. ⌜ (r ≡ length (line (wholeText z))) × (r ≤ 32) ⌝ }
-{
-    let mut scratch = [0u8; LINE];
-    write_line(z, &mut scratch, 0)
-}
-
-// How many bytes a pitch and LF take.
-fn pitch_length(hz: f64) -> usize
-    requires { ⌜ inPitch hz ≡ true ⌝ }
-    ensures { λ r. ⌜ (r ≡ length (line (textOf 3 false hz))) × (r ≤ 32) ⌝ }
-{
-    let mut scratch = [0u8; LINE];
-    write_pitch(hz, &mut scratch, 0)
-}
-
 // How many bytes the entry of the number z and LF take.
 fn entry_length(z: i32) -> usize
     ensures { λ r. ⌜ (r ≡ length (line (entryText (entryOf z)))) × (r ≤ 32) ⌝ }
 {
-    let mut scratch = [0u8; LINE];
+    let mut scratch = [0u8; writing::LINE];
     write_entry(z, &mut scratch, 0)
 }
 
@@ -175,7 +113,7 @@ fn mapping_length(
     ensures { λ r. ⌜ r ≡ length (mappingText size first last middle reference hz octave (entriesOf (now (map .entry)))) ⌝ }
 {
     let keys = keys_length(size, first, last, middle, reference);
-    keys + pitch_length(hz) + line_length(octave) + entries_length(map)
+    keys + decimal_length(hz, 3) + line_length(octave) + entries_length(map)
 }
 
 // The whole text from the first byte on, and how many bytes it takes; 12 where it is longer than the lent bytes.
@@ -196,10 +134,10 @@ fn write_mapping(
 {
     let total = mapping_length(size, first, last, middle, reference, hz, octave, map);
     if out.len() < total {
-        return SizeAnswer::Refused(NO_ROOM);
+        return SizeAnswer::Refused(writing::NO_ROOM);
     }
     let sound = write_keys(size, first, last, middle, reference, out);
-    let formal = write_pitch(hz, out, sound);
+    let formal = write_decimal(hz, 3, out, sound);
     let entries = write_line(octave, out, formal);
     SizeAnswer::Is(write_entries(map, out, entries))
 }
@@ -252,5 +190,5 @@ pub fn export_kbm(kbm: Kbm, map: &[i32], out: &mut [u8]) -> SizeAnswer
             return write_held(kbm, &map[..count], out);
         }
     }
-    SizeAnswer::Refused(NOT_USABLE)
+    SizeAnswer::Refused(writing::NOT_USABLE)
 }

@@ -1,20 +1,20 @@
 -- What the calls on keys come to, as their code meets it. Assumes nothing.
 use mathlib.Core.Path.{_≡_, sym, _∙_, ap, subst}
 use mathlib.Core.Bool.{true, false}
-use Prim.Native.Nat.{ℕ, _^_, _≤_, _<_}
 use native.Mathlib.Omega.{arith}
 use lib.Dec.{T}
 use lib.IntN.{ℤ, pos, negsuc, natAbs, _+ℤ_}
-use lib.Signed.{leZ, nonNeg, mag}
-use mir.Syntax.{w8, w32, w64}
+use lib.Signed.{leZ, nonNeg}
+use mir.Syntax.{w8, w32}
 use mir.Val.{Fits, SFits, toZ, ofZ}
 use mir.Facts.{toZ-ofZ}
 use borrow.Author.Tests.{leb-true}
 use Rattle.base.specs.Integers.{held}
 use Rattle.base.specs.Numbers.{key-out-of-range}
-use Rattle.base.specs.Said.{Said, gives, refuses, refusal, andThen}
+use Rattle.base.specs.Said.{gives, refuses, andThen}
 use Rattle.integer_math.specs.Answers.{saysI32}
 use Rattle.integer_math.specs.declared.I32Answer.{I32Answer}
+use Rattle.integer_math.specs.declared.I32Answer.the-variants as OfI32
 use Rattle.key.specs.Keys.{key, keyAfter, midiOf}
 use Rattle.key.specs.declared.PianoKey.{PianoKey}
 
@@ -50,3 +50,7 @@ module _ {k : PianoKey} (f : SFits w32 (k .0)) where
 -- ---- a sum that 32 bits hold, as a key: r is what `to_i32` answered, r′ what a match made of it
 pub key-after : (k : PianoKey) (steps : ℤ) {r r′ : I32Answer} → saysI32 r ≡ held (k .0 +ℤ steps) → r ≡ r′ → andThen (saysI32 r′) (λ z. gives (key z)) ≡ keyAfter k steps
 key-after k steps told is = ap (λ s. andThen s (λ z. gives (key z))) (ap saysI32 (sym is) ∙ told)
+
+-- the same where the match found z, as the machine holds it
+pub key-made : (k : PianoKey) (steps : ℤ) {r : I32Answer} (z : ℤ) → SFits w32 z → saysI32 r ≡ held (k .0 +ℤ steps) → r ≡ OfI32.Is z → gives (key (toZ w32 (ofZ w32 z))) ≡ keyAfter k steps
+key-made k steps z f told is = ap (λ (y : ℤ). gives (key y)) (toZ-ofZ f) ∙ key-after k steps told is

@@ -2,21 +2,17 @@
 use mathlib.Core.Path.{refl}
 use mathlib.Core.Logic.{inl, inr}
 use mathlib.Core.Bool.{Bool}
-use Prim.Native.Nat.{ℕ}
 use lib.Ieee.{Float}
 use Rattle.base.specs.Said.{Said}
 use Rattle.base.proofs.Said.{One, Split, one-result, one-plain, one-answer}
 use Rattle.floats.specs.Answers.{saysFloat}
 use Rattle.floats.specs.Floats.{oneF}
 use Rattle.floats.proofs.Theorems.{float-one}
-use Rattle.pitch.specs.Answers.{saysRatio, saysPitch, saysBool, saysOrder, saysNearest}
+use Rattle.pitch.specs.Answers.{saysRatio, saysPitch, saysBool, saysOrder}
 use Rattle.pitch.specs.Given.{computed}
-use Rattle.pitch.specs.NearestFraction.{nearestFraction}
 use Rattle.pitch.specs.Pitches.{fromHz, asHz, pitchTimes, pitchOver, betweenPitches}
 use Rattle.pitch.specs.Ratios.{twoF, upward, fromFloat, fromOctaves, fromSemitones, fromCents, asFloat, asOctaves, asSemitones, asCents, stretchedBy, deviationFrom, repeated, dividedInto, stepsOfSize, inverse, absolute, isNegligible, totalCmp}
 use Rattle.pitch.specs.declared.BoolAnswer.the-variants as OfBool
-use Rattle.pitch.specs.declared.nearest.NearestAnswer.the-variants as OfNearest
-use Rattle.pitch.specs.declared.nearest.NearestFraction.{NearestFraction}
 use Rattle.pitch.specs.declared.Order.{Order}
 use Rattle.pitch.specs.declared.OrderAnswer.the-variants as OfOrder
 use Rattle.pitch.specs.declared.PitchAnswer.the-variants as OfPitch
@@ -40,10 +36,6 @@ pub order-split : Split OfOrder.Is OfOrder.Refused
 order-split (OfOrder.Is x) = inl (x, refl)
 order-split (OfOrder.Refused r) = inr (r, refl)
 
-pub nearest-split : Split OfNearest.Is OfNearest.Refused
-nearest-split (OfNearest.Is x) = inl (x, refl)
-nearest-split (OfNearest.Refused r) = inr (r, refl)
-
 pub ratio-one : (s : Said Float) → One saysRatio s
 ratio-one = one-answer ratio-split saysRatio (λ r. r .0) (λ a b e i. record { 0 = e i }) (λ a. refl) (λ r. refl)
 
@@ -55,9 +47,6 @@ bool-one = one-plain bool-split saysBool (λ a. refl) (λ r. refl)
 
 pub order-one : (s : Said Order) → One saysOrder s
 order-one = one-plain order-split saysOrder (λ a. refl) (λ r. refl)
-
-pub nearest-one : (s : Said NearestFraction) → One saysNearest s
-nearest-one = one-plain nearest-split saysNearest (λ a. refl) (λ r. refl)
 
 -- ---- two results of one input are equal
 pub checked-ratio-one : (x : Float) → One saysRatio (computed x)
@@ -140,6 +129,3 @@ is-negligible-one r = bool-one (isNegligible r)
 
 pub total-cmp-one : (a b : Float) → One saysOrder (totalCmp a b)
 total-cmp-one a b = order-one (totalCmp a b)
-
-pub nearest-fraction-one : (r : Float) (limit : ℕ) → One saysNearest (nearestFraction r limit)
-nearest-fraction-one r limit = nearest-one (nearestFraction r limit)

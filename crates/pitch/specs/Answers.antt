@@ -5,9 +5,6 @@ use lib.Ieee.{Float}
 use Rattle.base.specs.Said.{Said, gives, refusal}
 use Rattle.pitch.specs.declared.BoolAnswer.{BoolAnswer}
 use Rattle.pitch.specs.declared.BoolAnswer.the-variants as OfBool
-use Rattle.pitch.specs.declared.nearest.NearestAnswer.{NearestAnswer}
-use Rattle.pitch.specs.declared.nearest.NearestAnswer.the-variants as OfNearest
-use Rattle.pitch.specs.declared.nearest.NearestFraction.{NearestFraction}
 use Rattle.pitch.specs.declared.Order.{Order}
 use Rattle.pitch.specs.declared.OrderAnswer.{OrderAnswer}
 use Rattle.pitch.specs.declared.OrderAnswer.the-variants as OfOrder
@@ -31,7 +28,3 @@ saysBool (OfBool.Refused r) = refusal r
 abbrev pub saysOrder : OrderAnswer → Said Order
 saysOrder (OfOrder.Is o) = gives o
 saysOrder (OfOrder.Refused r) = refusal r
-
-abbrev pub saysNearest : NearestAnswer → Said NearestFraction
-saysNearest (OfNearest.Is n) = gives n
-saysNearest (OfNearest.Refused r) = refusal r

@@ -13,10 +13,11 @@ use lib.Ieee.Nearest.{closest, closest-same, closest-mono}
 use lib.Ieee.Scale.{finite}
 use Rattle.floats.specs.Units.{unitsOf, negative, Unpacked}
 use Rattle.floats.proofs.Decode.{value-of, units-of}
-use Rattle.floats.proofs.Nearest.{near-lt}
-use Rattle.printing.specs.PrintText.{limited, scaledOf, cutAt, partsText, widthOf, textOf}
-use Rattle.printing.specs.declared.Cut.{Cut}
-use Rattle.decimals.proofs.Tens.{ten-pos}
+use Rattle.rounding.proofs.Nearest.{near-lt}
+use Rattle.printing.specs.PrintText.{limited, scaledOf, partsText, widthOf, textOf}
+use Rattle.fixed.specs.Cuts.{cutAt}
+use Rattle.fixed.specs.declared.Cut.{Cut}
+use Rattle.integers.proofs.Tens.{ten-pos}
 
 pub limited-finite : (x : Float) → T (limited x) → T (finite x)
 limited-finite nan h = absurd h

@@ -19,8 +19,8 @@ use Rattle.decimals.specs.DecimalText.{fromNonzero, OptionalSign, DottedDigits,
 use Rattle.integers.specs.Digits.{AllDigits, decimal}
 use Rattle.printing.specs.PrintText.{limited, scaledOf, digitsOf, widthOf, signText, pointText, fixedText, textOf}
 use Rattle.printing.specs.PrintForm.{FixedText, Printed}
-use Rattle.decimals.proofs.Scans.{all-append}
-use Rattle.decimals.proofs.Tens.{ten-pos, ten-le}
+use Rattle.integers.proofs.Digits.{all-append}
+use Rattle.integers.proofs.Tens.{ten-pos, ten-le}
 use Rattle.printing.proofs.Texts.{length-digits}
 use Rattle.printing.proofs.Exact.{scaled-whole}
 

@@ -1,4 +1,3 @@
-pub mod Scale
 pub mod Texts
 pub mod Exact
 pub mod Integers

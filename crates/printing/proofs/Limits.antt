@@ -1,10 +1,10 @@
 -- What a caller knows of a number's range makes it one that can be printed. Assumes nothing.
 use mathlib.Core.Path.{_≡_, sym, subst}
 use mathlib.Core.Bool.{Bool, true, false, _&&_, _||_}
-use Prim.Native.Nat.{ℕ, _*_, _^_, _≤_, _<_}
+use Prim.Native.Nat.{ℕ, _*_, _^_, _≤_}
 use native.Mathlib.Nat.{le-trans, mul-le-mul-right}
 use native.Mathlib.Omega.{arith}
-use lib.IntN.{ℤ, pos}
+use lib.IntN.{pos}
 use lib.Dec.{T, ltb, eqb, ltb→lt, eqb→eq, le→leb}
 use lib.Pow.{pow-mono}
 use lib.Ieee.{Float, nan, inf, fin, up, down, lt, le, eq}

@@ -14,7 +14,7 @@ use Rattle.floats.specs.Units.{negative}
 use Rattle.integers.specs.Digits.{AllDigits, decimal}
 use Rattle.printing.specs.PrintText.{limited, scaledOf, signText, pointText, textOf}
 use Rattle.printing.specs.PrintForm.{FixedText, Printed}
-use Rattle.decimals.proofs.Tens.{ten-le}
+use Rattle.integers.proofs.Tens.{ten-le}
 use Rattle.printing.proofs.Form.{decimal-append, printed}
 
 -- k digits write less than 10^k

@@ -11,7 +11,6 @@ use lib.Ieee.{Float, nan, inf, fin, up, down}
 use lib.Ieee.Nearest.{closest}
 use Rattle.base.specs.Said.{pick}
 use Rattle.floats.specs.Units.{negative}
-use Rattle.printing.specs.declared.Cut.{Cut}
 use Rattle.printing.specs.declared.Placed.{Placed}
 use Rattle.printing.specs.declared.Placed.the-variants.{At, Full}
 
@@ -50,10 +49,6 @@ pointText d = pick (ltb 0 d) (46 ∷ []) []
 -- sign, the last k digits of the whole part, dot, d decimals
 abbrev pub partsText : Bool → Bool → ℕ → ℕ → ℕ → ℕ → List ℕ
 partsText s plus whole k part d = signText s plus ++ (digitsOf k whole ++ (pointText d ++ digitsOf d part))
-
--- a number of 10^d: its whole part, and what is left
-abbrev pub cutAt : ℕ → ℕ → Cut
-cutAt d n = record { whole = n / 10 ^ d; part = n % 10 ^ d }
 
 -- the number n / 10^d with d decimals
 abbrev pub fixedText : ℕ → Bool → Bool → ℕ → List ℕ

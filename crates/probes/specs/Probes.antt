@@ -11,33 +11,37 @@ use Rattle.decimals.specs.declared.DecimalAnswer.the-variants.{Is, Unsupported,
 use Rattle.printing.specs.declared.Placed.{Placed}
 use Rattle.printing.specs.declared.Placed.the-variants.{At, Full}
 use Rattle.text.specs.declared.line.LineSays.{LineSays}
-use Rattle.text.specs.declared.line.LineSays.the-variants.{NotUtf8, Dropped, Content}
+use Rattle.text.specs.declared.line.LineSays.the-variants.{NotUtf8, Blank, Comment, Content}
 
 -- an integer, or 2^32, which none of 32 bits is
 abbrev pub numberOf : Int → ℤ
 numberOf (value z) = z
 numberOf none = pos (2 ^ 32)
 
--- 0 no UTF-8, 1 dropped, 2 content
+-- 0 no UTF-8, 1 blank, 2 a comment, 3 content
 abbrev pub lineKind : LineSays → ℕ
 lineKind NotUtf8 = 0
-lineKind Dropped = 1
-lineKind (Content a e t) = 2
+lineKind Blank = 1
+lineKind Comment = 2
+lineKind (Content a e t) = 3
 
 -- start, end and token's end of content, or what was there
 abbrev pub lineStart : LineSays → ℕ → ℕ
 lineStart NotUtf8 old = old
-lineStart Dropped old = old
+lineStart Blank old = old
+lineStart Comment old = old
 lineStart (Content a e t) old = a
 
 abbrev pub lineEnd : LineSays → ℕ → ℕ
 lineEnd NotUtf8 old = old
-lineEnd Dropped old = old
+lineEnd Blank old = old
+lineEnd Comment old = old
 lineEnd (Content a e t) old = e
 
 abbrev pub lineToken : LineSays → ℕ → ℕ
 lineToken NotUtf8 old = old
-lineToken Dropped old = old
+lineToken Blank old = old
+lineToken Comment old = old
 lineToken (Content a e t) old = t
 
 -- 0 no decimal, 1 unsupported, 2 a decimal

@@ -2,7 +2,8 @@
 pub mod texts;
 
 ghost use mathlib.Core.Path.{_≡_};
-ghost use Rattle.floats.specs.Floats.{abs, trunc, floor, remEuclid, divEuclid};
+ghost use Rattle.floats.specs.Floats.{abs, trunc, floor};
+ghost use Rattle.remainder.specs.Euclid.{remEuclid, divEuclid};
 ghost use Rattle.floats.specs.Ranges.{inReach, inSearch, inGenerator, inPitch};
 
 #[no_mangle]
@@ -30,14 +31,14 @@ pub extern "C" fn probe_floor(x: f64) -> f64
 pub extern "C" fn probe_rem_euclid(a: f64, b: f64) -> f64
     ensures { λ r. ⌜ r ≡ remEuclid a b ⌝ }
 {
-    floats::rem_euclid(a, b)
+    remainder::rem_euclid(a, b)
 }
 
 #[no_mangle]
 pub extern "C" fn probe_div_euclid(a: f64, b: f64) -> f64
     ensures { λ r. ⌜ r ≡ divEuclid a b ⌝ }
 {
-    floats::div_euclid(a, b)
+    remainder::div_euclid(a, b)
 }
 
 #[no_mangle]

@@ -46,7 +46,8 @@ fn store_line(says: LineSays, start: &mut usize, end: &mut usize, token: &mut us
 {
     match says {
         LineSays::NotUtf8 => 0,
-        LineSays::Dropped => 1,
+        LineSays::Blank => 1,
+        LineSays::Comment => 2,
         LineSays::Content {
             start: a,
             end: b,
@@ -55,12 +56,12 @@ fn store_line(says: LineSays, start: &mut usize, end: &mut usize, token: &mut us
             *start = a;
             *end = b;
             *token = c;
-            2
+            3
         }
     }
 }
 
-// What a line says: 0 not UTF-8, 1 dropped, 2 content, whose start, end and token's end are stored.
+// What a line says: 0 not UTF-8, 1 blank, 2 a comment, 3 content, whose start, end and token's end are stored.
 #[no_mangle]
 pub extern "C" fn probe_read_line(
     source: &[u8],

@@ -3,9 +3,9 @@ use frozen::Size;
 use integers::I16;
 use kbm::KbmAnswer;
 use kbm::KbmRoot;
-use kbm::builder::BuilderAnswer;
-use kbm::builder::KbmBuilder;
-use kbm::builder::Octave;
+use kbm_build::BuilderAnswer;
+use kbm_build::KbmBuilder;
+use kbm_build::Octave;
 use key::PianoKey;
 use pitch::Pitch;
 

@@ -4,10 +4,10 @@ use kbm::DegreeAnswer;
 use kbm::Kbm;
 use kbm::KbmAnswer;
 use kbm::KbmRoot;
-use kbm::builder::BuilderAnswer;
-use kbm::builder::KbmBuilder;
-use kbm_write::SizeAnswer;
+use kbm_build::BuilderAnswer;
+use kbm_build::KbmBuilder;
 use key::PianoKey;
+use writing::SizeAnswer;
 
 pub const NO_SUCH: Refusal = Refusal {
     number: 255,

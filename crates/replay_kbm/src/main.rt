@@ -10,12 +10,12 @@ use kbm::DegreeAnswer;
 use kbm::KbmAnswer;
 use kbm::KbmRoot;
 use kbm::RootAnswer;
-use kbm::builder::BuilderAnswer;
-use kbm::builder::KbmBuilder;
-use kbm_write::SizeAnswer;
+use kbm_build::BuilderAnswer;
+use kbm_build::KbmBuilder;
 use key::PianoKey;
 use libc::STDIN_FILENO;
 use libc::STDOUT_FILENO;
+use writing::SizeAnswer;
 
 mod builders;
 mod fields;

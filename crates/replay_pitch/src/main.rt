@@ -1,6 +1,7 @@
 // Replays frozen answers on E, L, pitches, ratios and the nearest fraction (the crate `frozen` says how a line is written):
 // writes how many are the same and how many differ. The list is made by `oracle freeze`.
 use floats::FloatAnswer;
+use fraction::NearestAnswer;
 use frozen::Counts;
 use frozen::Float;
 use integers::U16;
@@ -13,7 +14,6 @@ use pitch::Pitch;
 use pitch::PitchAnswer;
 use pitch::Ratio;
 use pitch::RatioAnswer;
-use pitch::nearest::NearestAnswer;
 
 fn is_float(answer: FloatAnswer, line: &[u8], at: usize) -> bool {
     match answer {
@@ -180,7 +180,7 @@ fn is_same_nearest(x: f64, line: &[u8], at: usize) -> bool {
         return false;
     };
     is_nearest(
-        Ratio(x).nearest_fraction(limit),
+        fraction::nearest_fraction(Ratio(x), limit),
         line,
         frozen::next(line, at),
     )

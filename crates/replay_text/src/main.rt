@@ -47,7 +47,7 @@ fn is_content(start: usize, end: usize, token: usize, line: &[u8], at: usize) ->
     false
 }
 
-// `says TEXT FROM TO`: `not_utf8`, `dropped`, or start, end and token's end.
+// `says TEXT FROM TO`: `not_utf8`, `blank`, `comment`, or start, end and token's end.
 fn is_same_said(text: &[u8], line: &[u8], at: usize) -> bool {
     let Size::Is(from) = frozen::size_of(line, at) else {
         return false;
@@ -58,7 +58,8 @@ fn is_same_said(text: &[u8], line: &[u8], at: usize) -> bool {
     let answer = frozen::later(line, at, 2);
     match text::line::read_line(text, from, to) {
         LineSays::NotUtf8 => is_word(b"not_utf8", line, answer),
-        LineSays::Dropped => is_word(b"dropped", line, answer),
+        LineSays::Blank => is_word(b"blank", line, answer),
+        LineSays::Comment => is_word(b"comment", line, answer),
         LineSays::Content {
             start: a,
             end: b,

@@ -15,17 +15,18 @@ use Rattle.base.proofs.Said.{numbered-pick, numbered-then}
 use Rattle.floats.specs.Ranges.{inPitch}
 use Rattle.key.specs.declared.PianoKey.{PianoKey}
 use Rattle.pitch.specs.declared.Pitch.{Pitch}
-use Rattle.kbm.specs.Builder.{fitsTable, pushed, isReady, kbmWith, kbmOf, built, withOneMore}
 use Rattle.kbm.specs.Degree.{degreeOfEntry, degreeAt, inRange, scaleDegreeOf}
 use Rattle.kbm.specs.Root.{rootOf}
 use Rattle.kbm.specs.Table.{isTable, tableOf}
 use Rattle.kbm.specs.declared.Entry.{Entry}
 use Rattle.kbm.specs.declared.Entry.the-variants.{Mapped, Unmapped}
 use Rattle.kbm.specs.declared.Kbm.{Kbm}
-use Rattle.kbm.specs.declared.builder.KbmBuilder.{KbmBuilder}
-use Rattle.kbm.specs.declared.builder.Octave.{Octave}
-use Rattle.kbm.specs.declared.builder.Octave.the-variants.{Given, Missing}
-use Rattle.kbm_write.specs.Export.{lastOf, middleOf, exportText, fitted, exportOf, textLength}
+use Rattle.writing.specs.Fitted.{fitted, textLength}
+use Rattle.kbm_write.specs.Export.{lastOf, middleOf, exportText, exportOf}
+use Rattle.kbm_build.specs.Builder.{fitsTable, pushed, isReady, kbmWith, kbmOf, built, withOneMore}
+use Rattle.kbm_build.specs.declared.KbmBuilder.{KbmBuilder}
+use Rattle.kbm_build.specs.declared.Octave.{Octave}
+use Rattle.kbm_build.specs.declared.Octave.the-variants.{Given, Missing}
 
 held-numbered : (z : ℤ) → Numbered (held z)
 unfolding held

@@ -9,12 +9,13 @@ use lib.Ieee.{Float}
 use Rattle.base.proofs.Said.{One, one-result}
 use Rattle.base.specs.Tables.{after}
 use Rattle.key.specs.Keys.{key}
-use Rattle.kbm.specs.Builder.{pushed, afterPush, built}
 use Rattle.kbm.specs.Degree.{scaleDegreeOf}
 use Rattle.kbm.specs.Root.{rootOf}
 use Rattle.kbm.specs.declared.Entry.the-variants.{Mapped, Unmapped}
+use Rattle.kbm_build.specs.Builder.{pushed, afterPush, built}
 use Rattle.kbm_read.specs.Reader.{readOf, afterRead}
-use Rattle.kbm_write.specs.Export.{exportOf, textLength}
+use Rattle.writing.specs.Fitted.{textLength}
+use Rattle.kbm_write.specs.Export.{exportOf}
 use Rattle.telbijan_answers.specs.Interface.{result, kept, fieldOf}
 use Rattle.telbijan_mappings.specs.Mappings.{mappingWith, octaveWith, builderWith, pushingWith}
 

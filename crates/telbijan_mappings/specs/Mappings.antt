@@ -7,9 +7,9 @@ use Rattle.key.specs.Keys.{key}
 use Rattle.floats.specs.Floats.{oneF}
 use Rattle.kbm.specs.declared.Kbm.{Kbm}
 use Rattle.kbm.specs.declared.KbmRoot.{KbmRoot}
-use Rattle.kbm.specs.declared.builder.KbmBuilder.{KbmBuilder}
-use Rattle.kbm.specs.declared.builder.Octave.{Octave}
-use Rattle.kbm.specs.declared.builder.Octave.the-variants.{Given, Missing}
+use Rattle.kbm_build.specs.declared.KbmBuilder.{KbmBuilder}
+use Rattle.kbm_build.specs.declared.Octave.{Octave}
+use Rattle.kbm_build.specs.declared.Octave.the-variants.{Given, Missing}
 
 -- the root of its numbers
 abbrev pub rootWith : ℤ → Float → ℤ → KbmRoot

@@ -11,7 +11,7 @@ use Rattle.floats.specs.Floats.{oneF, floor, count, leastI32, pastI32}
 use Rattle.floats.specs.Ranges.{inReach, inSearch, negligible}
 use Rattle.explog.specs.Rules.{E, L, inPowers}
 use Rattle.pitch.specs.Given.{given, bothGiven, computed}
-use Rattle.pitch.specs.NearestFraction.{bestFor, overPower, withoutOctaves, withoutWhole, nearestFraction}
+use Rattle.fraction.specs.NearestFraction.{bestFor, overPower, withoutOctaves, withoutWhole, nearestFraction}
 use Rattle.pitch.specs.Pitches.{fromHz, pitchTimes, pitchOver, betweenPitches}
 use Rattle.pitch.specs.Ratios.{fromFloat, fromOctaves, fromSemitones, fromCents, asOctaves, asSemitones, asCents, stretchedBy, deviationFrom, repeated, dividedInto, stepsFrom, stepsOfSize, inverse, absolute, isNegligible, orderOf, totalCmp, upward, twelveF, hundredF, centsF}
 

@@ -5,7 +5,7 @@ use Prim.Native.Nat.{ℕ}
 use lib.IntN.{ℤ}
 use lib.Ieee.{Float}
 use Rattle.base.proofs.Said.{One, one-result}
-use Rattle.pitch.specs.NearestFraction.{nearestFraction}
+use Rattle.fraction.specs.NearestFraction.{nearestFraction}
 use Rattle.pitch.specs.Pitches.{fromHz, pitchTimes, pitchOver, betweenPitches}
 use Rattle.pitch.specs.Ratios.{fromFloat, fromOctaves, fromSemitones, fromCents, asOctaves, asSemitones, asCents, stretchedBy, deviationFrom, repeated, dividedInto, stepsOfSize, inverse, absolute, isNegligible, totalCmp}
 use Rattle.telbijan_answers.specs.Interface.{result, kept, fieldOf}

@@ -1,11 +1,11 @@
 // pitch.rs for C: a ratio goes as its number, and a pitch as its number of Hz.
+use fraction::NearestAnswer;
 use pitch::Order;
 use pitch::OrderAnswer;
 use pitch::Pitch;
 use pitch::Ratio;
-use pitch::nearest::NearestAnswer;
 ghost use mathlib.Core.Path.{_≡_};
-ghost use Rattle.pitch.specs.NearestFraction.{nearestFraction};
+ghost use Rattle.fraction.specs.NearestFraction.{nearestFraction};
 ghost use Rattle.pitch.specs.Pitches.{fromHz, pitchTimes, pitchOver, betweenPitches};
 ghost use Rattle.pitch.specs.Ratios.{fromFloat, fromOctaves, fromSemitones, fromCents, asOctaves, asSemitones, asCents, stretchedBy, deviationFrom, repeated, dividedInto, stepsOfSize, inverse, absolute, isNegligible, totalCmp};
 ghost use Rattle.telbijan_answers.specs.Interface.{result, kept, fieldOf};
@@ -233,7 +233,7 @@ pub extern "C" fn telbijan_ratio_nearest_fraction(
     ensures { λ _. ⌜ now (deviation .exit) ≡ kept (fieldOf (λ f. f .deviation .0) (nearestFraction value limit)) (now (deviation .entry)) ⌝ }
     ensures { λ _. ⌜ now (octaves .exit) ≡ kept (fieldOf (λ f. f .«num_octaves») (nearestFraction value limit)) (now (octaves .entry)) ⌝ }
 {
-    match Ratio(value).nearest_fraction(limit) {
+    match fraction::nearest_fraction(Ratio(value), limit) {
         NearestAnswer::Is(answer) => {
             let n = answer.numer;
             let d = answer.denom;

@@ -13,9 +13,9 @@ use borrow.Author.Tests.{eq-eqb, ne-eqb}
 use Rattle.base.specs.Said.{pick}
 use Rattle.base.proofs.Pick.{pick-both, pick-never}
 use Rattle.text.specs.Cut.{lines, cut, isCR, push, len, skip}
-use Rattle.text.specs.Eights.{Passed}
+use Rattle.utf8.specs.Eights.{Passed}
 use Rattle.text.specs.declared.lines.Ends.{Ends}
-use Rattle.text.proofs.Passes.{pass-over}
+use Rattle.utf8.proofs.Passes.{pass-over}
 
 -- `drop-cons` at the code's `i + 1`
 pub drop-next : (s : List ℕ) (i : ℕ) → i < length s → drop i s ≡ getD s i 0 ∷ drop (i + 1) s

@@ -1,31 +1,46 @@
 -- The laws of what a line says, as the code meets them: the rest after the white space at its start, the whole line, and a line
 -- that reaches past the end of the text. Assumes nothing.
-use mathlib.Core.Path.{_≡_, sym, _∙_, ap}
-use mathlib.Core.List.{List, reverse}
+use mathlib.Core.Path.{_≡_, refl, sym, _∙_, ap}
+use mathlib.Core.List.{List, [], _∷_, reverse}
 use mathlib.Core.Bool.{Bool, true, false}
-use Prim.Native.Nat.{ℕ, _+_, _-_, _≤_, _<_}
+use Prim.Native.Nat.{ℕ, zero, suc, _+_, _-_, _≤_, _<_}
 use native.Mathlib.Omega.{arith}
-use lib.ListN.{length, take, drop, length-drop}
+use lib.ListN.{length, getD, take, drop, length-drop}
 use lib.Seq.{length-take-le, take-all}
-use Rattle.text.specs.Trim.{run, keepBy}
-use Rattle.text.specs.Utf8Machine.{utf8From}
+use borrow.Author.Tests.{ne-eqb}
+use Rattle.white.specs.Trim.{run, keepBy}
+use Rattle.utf8.specs.Utf8Machine.{utf8From}
 use Rattle.text.specs.ReadLine.{tokenLength, Way, strictly, part, partAt, lineBy, lineOf}
 use Rattle.text.specs.declared.line.LineSays.{LineSays}
-use Rattle.text.specs.declared.line.LineSays.the-variants.{NotUtf8, Dropped, Content}
-use Rattle.text.proofs.Runs.{run-le}
+use Rattle.text.specs.declared.line.LineSays.the-variants.{NotUtf8, Blank, Comment, Content}
+use Rattle.white.proofs.Runs.{run-le}
 use Rattle.text.proofs.Tokens.{token-le}
+
+-- n bytes, not none, by the first
+part-comment : (at : ℕ) (s : List ℕ) (n : ℕ) → (n ≡ 0 → ⊥) → n ≤ length s → getD s 0 0 ≡ 33 → Comment ≡ partAt at (take n s)
+part-comment at s zero o h b = absurd (o refl)
+part-comment at [] (suc n) o h b = absurd (omega arith)
+part-comment at (c ∷ s) (suc n) o h b = rw b
+
+part-says : (at : ℕ) (s : List ℕ) (n : ℕ) → (n ≡ 0 → ⊥) → n ≤ length s → (getD s 0 0 ≡ 33 → ⊥) → Content at (at + n) (at + tokenLength (take n s)) ≡ partAt at (take n s)
+part-says at s zero o h b = absurd (o refl)
+part-says at [] (suc n) o h b = absurd (omega arith)
+part-says at (c ∷ s) (suc n) o h b = rw (ne-eqb c 33 b, length-take-le n s (omega arith))
 
 -- THE REST of a line, which starts at `at`, whatever the reading: its trimmed part ends n bytes on
 module _ (w : Way) (at : ℕ) (s : List ℕ) {n : ℕ} (e : n ≡ length s - run (w .behind) 0 (reverse s)) where
   pub kept-le : n ≤ length s
   kept-le = omega arith
 
-  module _ {r : Bool} (d : r ≡ w .drops (take n s)) where
-    pub rest-drops : r ≡ true → Dropped ≡ partAt w at (keepBy (w .behind) s)
-    rest-drops t = rw (← e, ← d, t)
+  pub rest-blank : n ≡ 0 → Blank ≡ partAt at (keepBy (w .behind) s)
+  rest-blank z = rw (← e, z)
 
-    pub rest-says : r ≡ false → {k : ℕ} → k ≡ tokenLength (take n s) → Content at (at + n) (at + k) ≡ partAt w at (keepBy (w .behind) s)
-    rest-says f q = rw (← e, ← d, f, ← q, length-take-le n s kept-le)
+  module _ (some : n ≡ 0 → ⊥) where
+    pub rest-comment : getD s 0 0 ≡ 33 → Comment ≡ partAt at (keepBy (w .behind) s)
+    rest-comment b = rw (← e) (part-comment at s n some kept-le b)
+
+    pub rest-says : (getD s 0 0 ≡ 33 → ⊥) → {k : ℕ} → k ≡ tokenLength (take n s) → Content at (at + n) (at + k) ≡ partAt at (keepBy (w .behind) s)
+    rest-says b q = rw (← e, q) (part-says at s n some kept-le b)
 
   pub token-kept : {k : ℕ} → k ≡ tokenLength (take n s) → k ≤ n
   token-kept q = omega (arith, q, token-le (take n s), length-take-le n s kept-le)
@@ -49,14 +64,14 @@ module _ (w : Way) (a : ℕ) (l : List ℕ) {r : Bool} (d : r ≡ w .valid l) wh
   unfolding lineBy
   line-not f = rw (← d, f)
 
-  pub line-is : r ≡ true → {n : ℕ} → n ≡ run (w .ahead) 0 l → {x : LineSays} → x ≡ partAt w (a + n) (keepBy (w .behind) (take (length l - n) (drop n l))) → x ≡ lineBy w a l
+  pub line-is : r ≡ true → {n : ℕ} → n ≡ run (w .ahead) 0 l → {x : LineSays} → x ≡ partAt (a + n) (keepBy (w .behind) (take (length l - n) (drop n l))) → x ≡ lineBy w a l
   unfolding lineBy
   line-is t {n} e q =
       let all : take (length l - n) (drop n l) ≡ drop n l = take-all (length l - n) (drop n l) (omega (arith, length-drop n l)) in
       rw (← d, t, ← e) (q ∙ rw all)
 
--- no line at all drops out
-pub line-empty : (text : List ℕ) (a e : ℕ) → e ≤ a → Dropped ≡ lineOf strictly text a e
+-- no line at all is blank
+pub line-empty : (text : List ℕ) (a e : ℕ) → e ≤ a → Blank ≡ lineOf strictly text a e
 unfolding lineBy utf8From run
 line-empty text a e h = let z : e - a ≡ 0 = omega arith in rw z
 

@@ -1,23 +1,24 @@
 -- The parts that an answer gives by start and end are those of the line, in the whole text; and THE LAW OF A READER'S TURN: what
 -- `next_line` and `read_line` answer is the first of what the text still says. Assumes nothing.
 use mathlib.Core.Path.{_≡_, refl, sym, _∙_, ap}
-use mathlib.Core.List.{List, _∷_, _++_, append-assoc, reverse}
+use mathlib.Core.List.{List, [], _∷_, _++_, append-assoc, reverse}
 use mathlib.Core.Bool.{Bool, true, false}
 use Prim.Native.Nat.{ℕ, _+_, _-_, _≤_, _<_}
 use native.Mathlib.Nat.{add-sub-cancel-left}
 use native.Mathlib.Omega.{arith}
-use lib.ListN.{length, take, drop, length-append, length-drop, take-append-drop}
+use lib.Dec.{eqb}
+use lib.ListN.{length, take, drop, length-append, length-drop, take-append-drop, drop-of-length-le}
 use lib.Seq.{drop-drop, drop-append-le, take-append-le, take-length}
 use Rattle.base.specs.Said.{pick}
 use Rattle.text.specs.Cut.{lines, cut}
-use Rattle.text.specs.Reading.{invalid, dropped, content}
-use Rattle.text.specs.ReadLine.{tokenLength, Way, part, partMeaning, partAt, meaningBy, meanings, lineBy, lineOf, shown, InText}
-use Rattle.text.specs.Trim.{run, trimBy}
+use Rattle.text.specs.Reading.{invalid, comment, content}
+use Rattle.text.specs.ReadLine.{tokenLength, Way, part, partMeaning, partAt, meaningBy, meanings, saidIn, lineBy, lineOf, shown, InText}
+use Rattle.white.specs.Trim.{run, trimBy}
 use Rattle.text.specs.declared.line.LineSays.{LineSays}
-use Rattle.text.specs.declared.line.LineSays.the-variants.{NotUtf8, Dropped, Content}
+use Rattle.text.specs.declared.line.LineSays.the-variants.{NotUtf8, Comment, Content}
 use Rattle.text.specs.declared.lines.Ends.{Ends}
 use Rattle.text.proofs.Cuts.{turn}
-use Rattle.text.proofs.Runs.{run-le}
+use Rattle.white.proofs.Runs.{run-le}
 use Rattle.text.proofs.Tokens.{token-le}
 
 -- m stands at k in the text
@@ -54,40 +55,44 @@ middle-stands w text a e =
     )
 
 -- what the answer shows is what the line says
-shown-part : (w : Way) (text m : List ℕ) (k : ℕ) → StandsAt text k m → shown text (partAt w k m) ≡ partMeaning w m
-shown-part w text m k s = go (w .drops m)
+shown-part : (text m : List ℕ) (k : ℕ) → StandsAt text k m → shown text (partAt k m) ≡ partMeaning m
+shown-part text [] k s = refl
+shown-part text (b ∷ l) k s = go (eqb b 33)
   where
-    go : (x : Bool) → shown text (pick x Dropped (Content k (k + length m) (k + tokenLength m))) ≡ pick x dropped (content m (take (tokenLength m) m))
+    go : (x : Bool) → shown text (pick x Comment (Content k (k + length (b ∷ l)) (k + tokenLength (b ∷ l)))) ≡ pick x comment (content (b ∷ l) (take (tokenLength (b ∷ l)) (b ∷ l)))
     go true = refl
-    go false = rw (stands-part text m k (length m) s (omega arith), take-length m, stands-part text m k (tokenLength m) s (token-le m))
+    go false =
+        let m = b ∷ l in
+        rw (stands-part text m k (length m) s (omega arith), take-length m, stands-part text m k (tokenLength m) s (token-le m))
 
 pub shown-line : (w : Way) (text : List ℕ) (a e : ℕ) → shown text (lineOf w text a e) ≡ meaningBy w (part text a e)
 unfolding lineBy meaningBy
 shown-line w text a e = go (w .valid (part text a e))
   where
-    go : (x : Bool) → shown text (pick x (partAt w (begins w text a e) (middle w text a e)) NotUtf8) ≡ pick x (partMeaning w (middle w text a e)) invalid
-    go true = shown-part w text (middle w text a e) (begins w text a e) (middle-stands w text a e)
+    go : (x : Bool) → shown text (pick x (partAt (begins w text a e) (middle w text a e)) NotUtf8) ≡ pick x (partMeaning (middle w text a e)) invalid
+    go true = shown-part text (middle w text a e) (begins w text a e) (middle-stands w text a e)
     go false = refl
 
-part-within : (w : Way) (text m : List ℕ) (k : ℕ) → k ≤ length text → StandsAt text k m → InText text (partAt w k m)
-part-within w text m k h s = go (w .drops m)
+part-within : (text m : List ℕ) (k : ℕ) → k ≤ length text → StandsAt text k m → InText text (partAt k m)
+part-within text [] k h s = tt
+part-within text (b ∷ l) k h s = go (eqb b 33)
   where
-    go : (x : Bool) → InText text (pick x Dropped (Content k (k + length m) (k + tokenLength m)))
+    go : (x : Bool) → InText text (pick x Comment (Content k (k + length (b ∷ l)) (k + tokenLength (b ∷ l))))
     go true = tt
-    go false = (omega arith, omega (arith, token-le m), stands-end text m k h s)
+    go false = (omega arith, omega (arith, token-le (b ∷ l)), stands-end text (b ∷ l) k h s)
 
 pub within : (w : Way) (text : List ℕ) (a e : ℕ) → a ≤ length text → InText text (lineOf w text a e)
 unfolding lineBy
 within w text a e h = go (w .valid (part text a e))
   where
-    go : (x : Bool) → InText text (pick x (partAt w (begins w text a e) (middle w text a e)) NotUtf8)
+    go : (x : Bool) → InText text (pick x (partAt (begins w text a e) (middle w text a e)) NotUtf8)
     go false = tt
     go true =
         let l = part text a e in
         let d = drop a text in
         let k : begins w text a e ≤ length text =
         omega (arith, h, run-le (w .ahead) 0 l, length-append l (drop (e - a) d), ap length (take-append-drop (e - a) d), length-drop a text) in
-        part-within w text (middle w text a e) (begins w text a e) k (middle-stands w text a e)
+        part-within text (middle w text a e) (begins w text a e) k (middle-stands w text a e)
 
 -- THE LAW OF A READER'S TURN, at a place in the text: what the line there says, and what the lines after it say
 pub record LineTurn (w : Way) (text : List ℕ) (at : ℕ) (l : Ends) (r : LineSays) : Type 0 where
@@ -106,3 +111,12 @@ line-turn w text at h {l} {r} p q =
       moves = t .moves;
       stays = t .stays;
     }
+
+-- nothing is said past the end of the text
+pub said-end : (text : List ℕ) (at : ℕ) → length text ≤ at → saidIn (drop at text) ≡ []
+unfolding lines meanings
+said-end text at h = rw (drop-of-length-le text h)
+
+-- the token of a line lies in the text
+pub token-within : (text : List ℕ) {x : LineSays} {a e t : ℕ} → InText text x → x ≡ Content a e t → (a ≤ t) × (t ≤ length text)
+token-within text h q = let w = rw q at h in (w .0, omega (arith, w .1, w .2))

@@ -1,5 +1,5 @@
--- THE THEOREM OF TOKENS: a token is the one part up to the first space, tab, LF, form feed or CR; and what drops out is what is
--- empty or starts with `!` (document 01, "Lines"). Assumes nothing.
+-- THE THEOREM OF TOKENS: a token is the one part up to the first space, tab, LF, form feed or CR
+-- (document 01, "Lines"). Assumes nothing.
 use mathlib.Core.Path.{_≡_, refl, sym, _∙_, ap}
 use mathlib.Core.List.{List, [], _∷_, _++_}
 use mathlib.Core.Bool.{Bool, true, false}
@@ -12,9 +12,9 @@ use lib.Seq.{take-at}
 use borrow.Author.Tests.{eq-eqb, eqb-true}
 use Rattle.base.specs.Said.{pick}
 use Rattle.base.proofs.Pick.{true-not-false}
-use Rattle.text.specs.Characters.{Each, span, Among}
-use Rattle.text.specs.Reading.{EmptyOrComment, Splits, Stops, Token}
-use Rattle.text.specs.ReadLine.{splits, tokenLength, emptyOrComment}
+use Rattle.utf8.specs.Characters.{Each, span, Among}
+use Rattle.text.specs.Reading.{Splits, Stops, Token}
+use Rattle.text.specs.ReadLine.{splits, tokenLength}
 
 -- where one of a row of tests on b holds, b is among their numbers, and the other way round
 among-one : (n b : ℕ) {A : Type 0} {x : Bool} → (x ≡ true) ↔ A → (pick (eqb b n) true x ≡ true) ↔ (((n ≤ b) × (b ≤ n)) ⊎ A)
@@ -70,12 +70,3 @@ token-reach (b ∷ t) r x s = go (splits b) refl (token-reach t r (x .1) s)
 
 pub one-token : (m t : List ℕ) → Token m t → take (tokenLength m) m ≡ t
 one-token m t x = rw (x .whole) (take-at t (x .rest) (tokenLength (t ++ x .rest)) (sym (token-reach t (x .rest) (x .inside) (x .stops))))
-
--- what drops out
-pub drops-is : (m : List ℕ) → (emptyOrComment m ≡ true) ↔ EmptyOrComment m
-drops-is [] = (λ e. EmptyOrComment.empty refl, λ x. refl)
-drops-is (b ∷ m) = (λ e. EmptyOrComment.comment m (ap (λ (k : ℕ). k ∷ m) (eqb-true b 33 e)), back)
-  where
-    back : EmptyOrComment (b ∷ m) → eqb b 33 ≡ true
-    back (EmptyOrComment.empty e) = let z : _≡_ {A = ℕ} 0 1 = cc in absurd (omega arith)
-    back (EmptyOrComment.comment t e) = let p : b ≡ 33 = cc in eq-eqb b 33 p

@@ -1,4 +1,4 @@
--- The laws of a token's length along a slice, and of what drops out, as the code meets them. Assumes nothing.
+-- The laws of a token's length along a slice, as the code meets them. Assumes nothing.
 use mathlib.Core.Path.{_≡_, refl, ap}
 use mathlib.Core.List.{List, [], _∷_}
 use mathlib.Core.Bool.{Bool, true, false}
@@ -6,8 +6,9 @@ use Prim.Native.Nat.{ℕ, suc, _+_, _≤_, _<_}
 use native.Mathlib.Omega.{arith}
 use lib.Dec.{eqb}
 use lib.ListN.{length, getD, drop, drop-of-length-le}
+use borrow.Author.Tests.{ne-eqb}
 use Rattle.base.specs.Said.{pick}
-use Rattle.text.specs.ReadLine.{splits, tokenLength, emptyOrComment}
+use Rattle.text.specs.ReadLine.{splits, tokenLength}
 use Rattle.text.proofs.Cuts.{drop-next}
 
 -- the token is i bytes long and the token from there
@@ -42,11 +43,22 @@ token-le (b ∷ s) = go (splits b) (token-le s)
     go true h = omega arith
     go false h = omega arith
 
--- an empty line drops out; another goes by its first byte
-pub drops-empty : (s : List ℕ) → length s ≡ 0 → true ≡ emptyOrComment s
-drops-empty [] e = refl
-drops-empty (b ∷ s) e = absurd (omega arith)
+-- WHERE A TOKEN ENDS, test by test: space, tab, LF, form feed, CR
+module _ (b : ℕ) where
+  pub at-space : b ≡ 32 → true ≡ splits b
+  at-space e = rw e
 
-pub drops-first : (s : List ℕ) → (length s ≡ 0 → ⊥) → eqb (getD s 0 0) 33 ≡ emptyOrComment s
-drops-first [] n = absurd (n refl)
-drops-first (b ∷ s) n = refl
+  module _ (space : b ≡ 32 → ⊥) where
+    pub at-tab : b ≡ 9 → true ≡ splits b
+    at-tab e = rw e
+
+    module _ (tab : b ≡ 9 → ⊥) where
+      pub at-lf : b ≡ 10 → true ≡ splits b
+      at-lf e = rw e
+
+      module _ (lf : b ≡ 10 → ⊥) where
+        pub at-ff : b ≡ 12 → true ≡ splits b
+        at-ff e = rw e
+
+        pub at-cr : (b ≡ 12 → ⊥) → eqb b 13 ≡ splits b
+        at-cr ff = rw (ne-eqb b 32 space, ne-eqb b 9 tab, ne-eqb b 10 lf, ne-eqb b 12 ff)

@@ -1,8 +1,5 @@
 pub mod Lines
-pub mod Characters
 pub mod Reading
 pub mod Cut
-pub mod Eights
-pub mod Utf8Machine
-pub mod Trim
 pub mod ReadLine
+pub mod Placed

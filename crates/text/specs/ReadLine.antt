@@ -6,11 +6,12 @@ use Prim.Native.Nat.{ℕ, suc, _+_, _-_, _≤_}
 use lib.Dec.{eqb}
 use lib.ListN.{length, take, drop}
 use Rattle.base.specs.Said.{pick}
-use Rattle.text.specs.Reading.{Meaning, invalid, dropped, content}
-use Rattle.text.specs.Trim.{front, back, run, trimBy}
-use Rattle.text.specs.Utf8Machine.{fresh, utf8From}
+use Rattle.text.specs.Cut.{lines}
+use Rattle.text.specs.Reading.{Meaning, invalid, blank, comment, content}
+use Rattle.white.specs.Trim.{front, back, run, trimBy}
+use Rattle.utf8.specs.Utf8Machine.{fresh, utf8From}
 use Rattle.text.specs.declared.line.LineSays.{LineSays}
-use Rattle.text.specs.declared.line.LineSays.the-variants.{NotUtf8, Dropped, Content}
+use Rattle.text.specs.declared.line.LineSays.the-variants.{NotUtf8, Blank, Comment, Content}
 
 -- space, tab, LF, form feed or CR
 abbrev pub splits : ℕ → Bool
@@ -21,47 +22,46 @@ unfoldable pub tokenLength : List ℕ → ℕ
 tokenLength [] = 0
 tokenLength (b ∷ s) = pick (splits b) 0 (suc (tokenLength s))
 
--- empty, or starting with `!`
-abbrev pub emptyOrComment : List ℕ → Bool
-emptyOrComment [] = true
-emptyOrComment (b ∷ s) = eqb b 33
-
--- how a reading is carried out: which lines are texts, how long the trimmed character at the start is (and at the end, backwards),
--- and which trimmed lines drop out
+-- how a reading is carried out: which lines are texts, and how long the trimmed character at the start is (and at the end, backwards)
 pub record Way : Type 0 where
   pub valid : List ℕ → Bool
   pub ahead : List ℕ → ℕ
   pub behind : List ℕ → ℕ
-  pub drops : List ℕ → Bool
 
 -- document 01's reading
 abbrev pub strictly : Way
-strictly = record { valid = utf8From fresh; ahead = front; behind = back; drops = emptyOrComment }
+strictly = record { valid = utf8From fresh; ahead = front; behind = back }
 
 -- what the trimmed part m says
-abbrev pub partMeaning : Way → List ℕ → Meaning
-partMeaning w m = pick (w .drops m) dropped (content m (take (tokenLength m) m))
+abbrev pub partMeaning : List ℕ → Meaning
+partMeaning [] = blank
+partMeaning (b ∷ s) = pick (eqb b 33) comment (content (b ∷ s) (take (tokenLength (b ∷ s)) (b ∷ s)))
 
 -- what the line l says
 unfoldable pub meaningBy : Way → List ℕ → Meaning
-meaningBy w l = pick (w .valid l) (partMeaning w (trimBy (w .ahead) (w .behind) l)) invalid
+meaningBy w l = pick (w .valid l) (partMeaning (trimBy (w .ahead) (w .behind) l)) invalid
 
 -- what each of the lines says
 unfoldable pub meanings : Way → List (List ℕ) → List Meaning
 meanings w [] = []
 meanings w (l ∷ ls) = meaningBy w l ∷ meanings w ls
 
+-- what the lines of a text say, in document 01's reading
+abbrev pub saidIn : List ℕ → List Meaning
+saidIn text = meanings strictly (lines text)
+
 -- the part of a text from a to e: what a function sees that `&text[a..e]` is handed to
 abbrev pub part : List ℕ → ℕ → ℕ → List ℕ
 part text a e = take (e - a) (drop a text)
 
 -- what the trimmed part m says, which starts at k: where it starts and ends, and where its token ends
-abbrev pub partAt : Way → ℕ → List ℕ → LineSays
-partAt w k m = pick (w .drops m) Dropped (Content k (k + length m) (k + tokenLength m))
+abbrev pub partAt : ℕ → List ℕ → LineSays
+partAt k [] = Blank
+partAt k (b ∷ s) = pick (eqb b 33) Comment (Content k (k + length (b ∷ s)) (k + tokenLength (b ∷ s)))
 
 -- what the line l says, which starts at k
 unfoldable pub lineBy : Way → ℕ → List ℕ → LineSays
-lineBy w k l = pick (w .valid l) (partAt w (k + run (w .ahead) 0 l) (trimBy (w .ahead) (w .behind) l)) NotUtf8
+lineBy w k l = pick (w .valid l) (partAt (k + run (w .ahead) 0 l) (trimBy (w .ahead) (w .behind) l)) NotUtf8
 
 -- what the line of a text from a to e says
 abbrev pub lineOf : Way → List ℕ → ℕ → ℕ → LineSays
@@ -70,11 +70,13 @@ lineOf w text a e = lineBy w a (part text a e)
 -- what an answer says, in the text that it is of
 abbrev pub shown : List ℕ → LineSays → Meaning
 shown text NotUtf8 = invalid
-shown text Dropped = dropped
+shown text Blank = blank
+shown text Comment = comment
 shown text (Content a e t) = content (part text a e) (part text a t)
 
 -- the parts that an answer gives lie in the text, so that they can be handed on
 abbrev pub InText : List ℕ → LineSays → Type 0
 InText text NotUtf8 = Unit {0}
-InText text Dropped = Unit {0}
+InText text Blank = Unit {0}
+InText text Comment = Unit {0}
 InText text (Content a e t) = (a ≤ t) × (t ≤ e) × (e ≤ length text)

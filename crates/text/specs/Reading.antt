@@ -1,42 +1,22 @@
 -- Document 01, "Lines": "[A line] is trimmed of Unicode White_Space at both ends; empty ones and those starting with `!` drop out.
--- A line's token runs to the first space, tab, LF, form feed or CR". What a line is; no reader is named here. Assumes nothing.
+-- A line's token runs to the first space, tab, LF, form feed or CR". What a line is; which ones drop out is for the format of the
+-- file to say. No reader is named here. Assumes nothing.
 use mathlib.Core.Path.{_≡_}
 use mathlib.Core.List.{List, [], _∷_, _++_}
 use Prim.Native.Nat.{ℕ}
-use Rattle.text.specs.Characters.{Each, Row, inBytes, span, Among, Scalar, encode}
+use Rattle.utf8.specs.Characters.{Each, Row, span, Among, Scalar, encode}
+use Rattle.white.specs.White.{WhiteSpace, Trimmed}
 use Rattle.text.specs.Lines.{Lines}
 
--- what a line's reading depends on: the characters there are and their bytes, which are trimmed, and which trimmed lines drop out
+-- what a line's reading depends on: the characters there are and their bytes, and which of them are trimmed
 pub record Reading : Type 1 where
   pub Character : ℕ → Type 0
   pub bytes : ℕ → List ℕ
   pub White : ℕ → Type 0
-  pub Dropped : List ℕ → Type 0
 
--- Unicode's White_Space (PropList): U+0009-000D, 0020, 0085, 00A0, 1680, 2000-200A, 2028, 2029, 202F, 205F, 3000
-abbrev pub WhiteSpace : ℕ → Type 0
-WhiteSpace c =
-    Among (span 0x0009 0x000D ∷ span 0x0020 0x0020 ∷ span 0x0085 0x0085 ∷ span 0x00A0 0x00A0 ∷ span 0x1680 0x1680 ∷
-    span 0x2000 0x200A ∷ span 0x2028 0x2028 ∷ span 0x2029 0x2029 ∷ span 0x202F 0x202F ∷ span 0x205F 0x205F ∷ span 0x3000 0x3000 ∷ []) c
-
--- an empty line, or one that starts with `!` (33)
-pub data EmptyOrComment (m : List ℕ) : Type 0 where
-  empty : m ≡ [] → EmptyOrComment m
-  comment : (t : List ℕ) → m ≡ 33 ∷ t → EmptyOrComment m
-
--- document 01's reading: UTF-8, White_Space at both ends, empty lines and comments dropped
+-- document 01's reading: UTF-8, White_Space at both ends
 abbrev pub strict : Reading
-strict = record { Character = Scalar; bytes = encode; White = WhiteSpace; Dropped = EmptyOrComment }
-
--- m is s trimmed: white characters, m, white characters, and m neither starts nor ends with one
-pub record Trimmed (White : ℕ → Type 0) (bytes : ℕ → List ℕ) (s m : List ℕ) : Type 0 where
-  pub before : List ℕ
-  pub after : List ℕ
-  pub white-before : Each White before
-  pub white-after : Each White after
-  pub whole : s ≡ inBytes bytes before ++ (m ++ inBytes bytes after)
-  pub starts : (c : ℕ) (t : List ℕ) → White c → m ≡ bytes c ++ t → ⊥
-  pub ends : (c : ℕ) (t : List ℕ) → White c → m ≡ t ++ bytes c → ⊥
+strict = record { Character = Scalar; bytes = encode; White = WhiteSpace }
 
 -- space, tab, LF, form feed, CR: where a token ends (U+000B does not)
 abbrev pub Splits : ℕ → Type 0
@@ -54,17 +34,24 @@ pub record Token (m t : List ℕ) : Type 0 where
   pub inside : Each (λ b. Splits b → ⊥) t
   pub stops : Stops rest
 
--- what a line says: that it is no text of the reading's characters, that it drops out, or its trimmed part and its token
+-- a comment: it starts with `!` (33)
+abbrev pub Comment : List ℕ → Type 0
+Comment m = (t : List ℕ) × (m ≡ 33 ∷ t)
+
+-- what a line says: that it is no text of the reading's characters, that nothing of it is left, that it is a comment, or its trimmed
+-- part and its token
 pub data Meaning : Type 0 where
   invalid : Meaning
-  dropped : Meaning
+  blank : Meaning
+  comment : Meaning
   content : List ℕ → List ℕ → Meaning
 
 -- the line l says x
 pub data Line (R : Reading) (l : List ℕ) (x : Meaning) : Type 0 where
   not-text : (Row (R .Character) (R .bytes) l → ⊥) → x ≡ invalid → Line R l x
-  drops : Row (R .Character) (R .bytes) l → (m : List ℕ) → Trimmed (R .White) (R .bytes) l m → R .Dropped m → x ≡ dropped → Line R l x
-  says : Row (R .Character) (R .bytes) l → (m t : List ℕ) → Trimmed (R .White) (R .bytes) l m → (R .Dropped m → ⊥) → Token m t → x ≡ content m t → Line R l x
+  is-blank : Row (R .Character) (R .bytes) l → Trimmed (R .White) (R .bytes) l [] → x ≡ blank → Line R l x
+  is-comment : Row (R .Character) (R .bytes) l → (m : List ℕ) → Trimmed (R .White) (R .bytes) l m → Comment m → x ≡ comment → Line R l x
+  says : Row (R .Character) (R .bytes) l → (m t : List ℕ) → Trimmed (R .White) (R .bytes) l m → (m ≡ [] → ⊥) → (Comment m → ⊥) → Token m t → x ≡ content m t → Line R l x
 
 -- each of the lines says so
 abbrev pub EachLine : Reading → List (List ℕ) → List Meaning → Type 0

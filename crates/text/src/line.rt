@@ -1,18 +1,19 @@
-// What a line says. Document 01, "Lines": it must be UTF-8, is trimmed at both ends, and drops out where it is then empty or starts
-// with `!`; else it has its trimmed part and its token. Every part is a start and an end in the whole text.
-use crate::utf8::is_utf8;
-use crate::white::trim_end;
-use crate::white::trim_start;
+// What a line says. Document 01, "Lines": it must be UTF-8, and is trimmed at both ends; it is then blank, a comment (starting with
+// `!`), or has its trimmed part and its token. Every part is a start and an end in the whole text.
+use utf8::is_utf8;
+use white::trim_end;
+use white::trim_start;
 ghost use mathlib.Core.Path.{_≡_};
 ghost use Prim.Native.Nat.{ℕ, _+_, _^_, _≤_, _<_};
 ghost use lib.ListN.{length};
-ghost use Rattle.text.specs.Trim.{back, keepBy};
-ghost use Rattle.text.specs.ReadLine.{splits, tokenLength, emptyOrComment, strictly, partAt, lineOf};
+ghost use Rattle.white.specs.Trim.{back, keepBy};
+ghost use Rattle.text.specs.ReadLine.{splits, tokenLength, strictly, partAt, lineOf};
 
 // What a line says. Its content stands from `start` to `end`, and its token from `start` to `token_end`.
 pub enum LineSays {
     NotUtf8,
-    Dropped,
+    Blank,
+    Comment,
     Content {
         start: usize,
         end: usize,
@@ -53,27 +54,19 @@ pub fn token_end(s: &[u8]) -> usize
     i
 }
 
-// Whether a trimmed line drops out: empty, or starting with `!`.
-fn is_dropped(s: &[u8]) -> bool
-    ensures { λ r. ⌜ r ≡ emptyOrComment (now (s .entry)) ⌝ }
-{
-    if s.len() == 0 {
-        return true;
-    }
-    s[0] == 33
-}
-
 // What the rest of a line says, which starts at `at` and has no white space there.
 fn read_rest(s: &[u8], at: usize) -> LineSays
     requires { ⌜ at + length (now s) < 2 ^ 64 ⌝ }
-    ensures { λ r. ⌜ r ≡ partAt strictly at (keepBy back (now (s .entry))) ⌝ }
+    ensures { λ r. ⌜ r ≡ partAt at (keepBy back (now (s .entry))) ⌝ }
 {
     let n = trim_end(s);
-    let part = &s[..n];
-    if is_dropped(part) {
-        return LineSays::Dropped;
+    if n == 0 {
+        return LineSays::Blank;
     }
-    let k = token_end(part);
+    if s[0] == 33 {
+        return LineSays::Comment;
+    }
+    let k = token_end(&s[..n]);
     LineSays::Content {
         start: at,
         end: at + n,
@@ -87,7 +80,7 @@ fn read_within(text: &[u8], start: usize, end: usize) -> LineSays
     ensures { λ r. ⌜ r ≡ lineOf strictly (now (text .entry)) start end ⌝ }
 {
     if end <= start {
-        return LineSays::Dropped;
+        return LineSays::Blank;
     }
     let line = &text[start..end];
     if is_utf8(line) {

@@ -1,5 +1,5 @@
 // The lines of a text. Document 01, "Lines": a line ends at LF or at the end of the text; a CR directly before LF goes with it.
-use crate::eights::pass;
+use utf8::eights::pass;
 ghost use mathlib.Core.Path.{_≡_};
 ghost use lib.ListN.{drop};
 ghost use Rattle.text.specs.Cut.{cut};

@@ -2,7 +2,7 @@
 -- Assumes nothing.
 use mathlib.Core.Path.{sym, ap, _∙_}
 use denote.Ref.{now}
-use Rattle.kbm_write.specs.Answers.{saysSize}
+use Rattle.writing.specs.Answers.{saysSize}
 use Rattle.copying.proofs.Given.{given-size, given-bytes, given-always}
 use borrow.Author.Needs.{needs}
 use Rattle.copying.proofs.write_export.Statement.{statement}

@@ -4,7 +4,9 @@ use mathlib.Core.Path.{_∙_}
 use native.Mathlib.Omega.{arith}
 use denote.Ref.{now}
 use Rattle.copying.specs.Copy.{refusedText}
-use Rattle.copying.proofs.Texts.{number-short, refused-length, refused-short, refused-written, sets-over}
+use Rattle.writing.proofs.Lines.{number-short}
+use Rattle.writing.proofs.Room.{sets-over}
+use Rattle.copying.proofs.Texts.{refused-length, refused-short, refused-written}
 use borrow.Author.Needs.{needs}
 use Rattle.copying.proofs.write_refusal.Statement.{statement}
 use Rattle.copying.proofs.write_refusal.Tie as tie

@@ -7,7 +7,7 @@ use Rattle.explog.proofs.first_ten_steps.Statement.{statement}
 use Rattle.explog.proofs.first_ten_steps.Tie as tie
 
 power-steps-requires : tie.Need-power-steps-requires
-power-steps-requires c κs = (c .pre, omega arith, omega arith, start (c .args .b))
+power-steps-requires c κs = (omega arith, omega arith, start (c .args .b))
 
 returns : tie.Need-returns
 returns c = search needs

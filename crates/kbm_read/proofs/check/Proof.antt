@@ -6,10 +6,10 @@ use Prim.Native.Nat.{_≤_, _+_, _-_}
 use native.Mathlib.Omega.{arith}
 use denote.Ref.{now}
 use lib.ListN.{length, drop}
-use Rattle.text.proofs.Shown.{LineTurn, line-turn}
-use Rattle.text.specs.ReadLine.{strictly}
-use Rattle.kbm_read.specs.Reader.{readOf, walk, saidIn}
-use Rattle.kbm_read.proofs.Walks.{said-end, walk-end, walk-turn}
+use Rattle.listing.proofs.Given.{walk-end, walk-turn}
+use Rattle.text.proofs.Shown.{LineTurn, line-turn, said-end}
+use Rattle.text.specs.ReadLine.{strictly, saidIn}
+use Rattle.kbm_read.specs.Reader.{saysStep, takeMeaning, finished, readOf, walk}
 use Rattle.kbm_read.proofs.check.Statement.{statement}
 use Rattle.kbm_read.proofs.check.Tie as tie
 
@@ -44,7 +44,7 @@ enum-known-step : tie.Need-enum-known-step Inv-loop μ-loop
 enum-known-step c = search needs
 
 returns : tie.Need-returns Inv-loop μ-loop
-returns c = sym (c .before .before .before .before .before .before .before .loop .inv .2 ∙ walk-turn _ _ _ (the-turn (c .before .before .before .before) .first) (c .before .before .before .take-line .ensures) (c .before .step .given .1))
+returns c = sym (c .before .before .before .before .before .before .before .loop .inv .2 ∙ walk-turn (takeMeaning _) (finished _) _ _ saysStep (the-turn (c .before .before .before .before) .first) (c .before .before .before .take-line .ensures) (c .before .step .given .1))
 
 enum-known-step-2 : tie.Need-enum-known-step-2 Inv-loop μ-loop
 enum-known-step-2 c = search needs
@@ -59,13 +59,13 @@ loop-again : tie.Need-loop-again Inv-loop μ-loop
 loop-again c =
     let t = the-turn (c .before .before .before .before) in
     let i = c .before .before .before .before .before .before .before .loop .inv in
-    (t .stays, omega arith, i .2 ∙ walk-turn _ _ _ (t .first) (c .before .before .before .take-line .ensures) (c .before .step2 .given .1))
+    (t .stays, omega arith, i .2 ∙ walk-turn (takeMeaning _) (finished _) _ _ saysStep (t .first) (c .before .before .before .take-line .ensures) (c .before .step2 .given .1))
 
 finish-requires : tie.Need-finish-requires Inv-loop μ-loop
 finish-requires c κs = search needs
 
 returns-2 : tie.Need-returns-2 Inv-loop μ-loop
-returns-2 c = c .finish .ensures ∙ sym (c .before .before .loop .inv .2 ∙ walk-end _ _ _ (said-end _ _ (c .before .loop-test .left)))
+returns-2 c = c .finish .ensures ∙ sym (c .before .before .loop .inv .2 ∙ walk-end (takeMeaning _) (finished _) _ _ (said-end _ _ (c .before .loop-test .left)))
 
 pub check-spec : {M : Type 1} → statement M
 check-spec = tie.close (tie.spec Inv-loop μ-loop unread-requires loop-holds next-line-requires read-line-requires take-line-requires enum-known-step returns enum-known-step-2 add-line loop-less loop-again finish-requires returns-2)

@@ -8,10 +8,8 @@ use denote.Ref.{now}
 use lib.ListN.{length, drop, length-set}
 use mir.Facts.{toZ-ofZ}
 use mir.Syntax.{w32}
-use Rattle.text.proofs.Shown.{LineTurn, line-turn}
-use Rattle.text.specs.ReadLine.{strictly, shown}
-use Rattle.kbm_read.specs.Reader.{saidIn}
-use Rattle.kbm_read.proofs.Walks.{said-end}
+use Rattle.text.proofs.Shown.{LineTurn, line-turn, said-end}
+use Rattle.text.specs.ReadLine.{strictly, saidIn, shown}
 use Rattle.kbm_read.proofs.Fills.{Filled, filled-none, filled-end, filled-nothing, filled-required, filled-place, filled-entry, required-some}
 use Rattle.kbm_read.proofs.fill.Statement.{statement}
 use Rattle.kbm_read.proofs.fill.Tie as tie

@@ -8,6 +8,7 @@ use mir.Syntax.{w32}
 use Rattle.printing.specs.PrintText.{textOf, wholeText}
 use Rattle.kbm.specs.Table.{entriesOf}
 use Rattle.kbm_write.specs.Export.{keyTexts, entryTexts}
+use Rattle.kbm_write.proofs.Lines.{pitch-limited}
 use Rattle.kbm_write.proofs.Room.{four-length}
 use borrow.Author.Needs.{needs}
 use Rattle.kbm_write.proofs.mapping_length.Statement.{statement}
@@ -16,8 +17,8 @@ use Rattle.kbm_write.proofs.mapping_length.Tie as tie
 keys-length-requires : tie.Need-keys-length-requires
 keys-length-requires c κs = search needs
 
-pitch-length-requires : tie.Need-pitch-length-requires
-pitch-length-requires c κs = search needs
+decimal-length-requires : tie.Need-decimal-length-requires
+decimal-length-requires c κs = (pitch-limited (c .before .args .hz) (c .before .pre .0), omega arith)
 
 add-result : tie.Need-add-result
 add-result c = search needs
@@ -42,7 +43,7 @@ returns c =
     omega (
       arith,
       k,
-      c .before .before .pitch-length .ensures .0,
+      c .before .before .decimal-length .ensures .0,
       o,
       c .entries-length .ensures .0,
       four-length (keyTexts (s .args .size) (s .args .first) (s .args .last) (s .args .middle) (s .args .reference)) (textOf 3 false (s .args .hz)) (wholeText (s .args .octave)) (entryTexts (entriesOf (now (s .args .map)))),
@@ -53,7 +54,7 @@ mapping-length-spec =
     tie.close
     (tie.spec
     keys-length-requires
-    pitch-length-requires
+    decimal-length-requires
     add-result
     line-length-requires
     add-result-2

@@ -13,8 +13,11 @@ use mir.Syntax.{w32}
 use Rattle.printing.specs.PrintText.{textOf, wholeText}
 use Rattle.printing.proofs.Texts.{chain}
 use Rattle.kbm.specs.Table.{entriesOf}
-use Rattle.kbm_write.specs.Export.{line, linesText, keyTexts, entryTexts, tableText, mappingText}
-use Rattle.kbm_write.proofs.Room.{four-runs, four-length, too-long, long-enough}
+use Rattle.writing.specs.Lines.{line, linesText}
+use Rattle.kbm_write.specs.Export.{keyTexts, entryTexts, tableText, mappingText}
+use Rattle.writing.proofs.Room.{too-long, long-enough}
+use Rattle.kbm_write.proofs.Lines.{pitch-limited}
+use Rattle.kbm_write.proofs.Room.{four-runs, four-length}
 use borrow.Author.Needs.{needs}
 use Rattle.kbm_write.proofs.write_mapping.Statement.{statement}
 use Rattle.kbm_write.proofs.write_mapping.Tie as tie
@@ -42,7 +45,7 @@ told-keys c =
     rw (toZ-ofZ {w = w32} (s .fits .size), toZ-ofZ {w = w32} (s .fits .first), toZ-ofZ {w = w32} (s .fits .last), toZ-ofZ {w = w32} (s .fits .middle), toZ-ofZ {w = w32} (s .fits .reference)) at (c .write-keys .ensures)
 
 told-octave : (c : tie.After-write-line) → let p = c .before .before .before .before in let s = p .before .before .before .before .before .before .before .before .before in
-    (c .write-line .result ≡ p .write-pitch .result + length (line (wholeText (s .args .octave)))) × (c .write-line .last .1 .0 ≡ sets (p .write-pitch .last .1 .0) (p .write-pitch .result) (line (wholeText (s .args .octave))))
+    (c .write-line .result ≡ p .write-decimal .result + length (line (wholeText (s .args .octave)))) × (c .write-line .last .1 .0 ≡ sets (p .write-decimal .last .1 .1 .0) (p .write-decimal .result) (line (wholeText (s .args .octave))))
 told-octave c =
     let s = c .before .before .before .before .before .before .before .before .before .before .before .before .before in
     rw (toZ-ofZ {w = w32} (s .fits .octave)) at (c .write-line .ensures)
@@ -61,12 +64,12 @@ write-keys-requires c κs =
     let s = m .before .before in
     rw (toZ-ofZ {w = w32} (s .fits .size), toZ-ofZ {w = w32} (s .fits .first), toZ-ofZ {w = w32} (s .fits .last), toZ-ofZ {w = w32} (s .fits .middle), toZ-ofZ {w = w32} (s .fits .reference)) (omega (arith, total m, runs s, c .before .if1 .left))
 
-write-pitch-requires : tie.Need-write-pitch-requires
-write-pitch-requires c κs =
+write-decimal-requires : tie.Need-write-decimal-requires
+write-decimal-requires c κs =
     let k = c .before .before .before in
     let m = k .before .before .before in
     let s = m .before .before in
-    (s .pre .0, omega (arith, total m, runs s, told-keys k .0, k .before .before .if1 .left))
+    (pitch-limited (s .args .hz) (s .pre .0), omega arith, omega (arith, total m, runs s, told-keys k .0, k .before .before .if1 .left))
 
 write-line-requires : tie.Need-write-line-requires
 write-line-requires c κs =
@@ -74,7 +77,7 @@ write-line-requires c κs =
     let k = p .before .before .before .before in
     let m = k .before .before .before in
     let s = m .before .before in
-    rw (toZ-ofZ {w = w32} (s .fits .octave)) (omega (arith, total m, runs s, told-keys k .0, p .write-pitch .ensures .0, k .before .before .if1 .left))
+    rw (toZ-ofZ {w = w32} (s .fits .octave)) (omega (arith, total m, runs s, told-keys k .0, p .write-decimal .ensures .0, k .before .before .if1 .left))
 
 write-entries-requires : tie.Need-write-entries-requires
 write-entries-requires c κs =
@@ -83,7 +86,7 @@ write-entries-requires c κs =
     let k = p .before .before .before .before in
     let m = k .before .before .before in
     let s = m .before .before in
-    (s .pre .1, omega (arith, total m, runs s, told-keys k .0, p .write-pitch .ensures .0, told-octave o .0, k .before .before .if1 .left))
+    (s .pre .1, omega (arith, total m, runs s, told-keys k .0, p .write-decimal .ensures .0, told-octave o .0, k .before .before .if1 .left))
 
 same-length : tie.Need-same-length
 same-length c = search needs
@@ -103,11 +106,11 @@ returns-2 c =
     let E = tableText (now (s .args .map)) in
     long-enough l (e .write-entries .last .1 .0) (e .write-entries .result) (text s)
     (omega (arith, total m, k .before .before .if1 .left))
-    (omega (arith, runs s, told-keys k .0, p .write-pitch .ensures .0, told-octave o .0, e .write-entries .ensures .0))
-    (chain l (k .write-keys .last .1 .1 .1 .1 .1 .0) (p .write-pitch .last .1 .0) (o .write-line .last .1 .0) (e .write-entries .last .1 .0)
-    0 (k .write-keys .result) (p .write-pitch .result) (o .write-line .result) K P O E
-    (told-keys k .1) (p .write-pitch .ensures .1) (told-octave o .1) (e .write-entries .ensures .1)
-    (omega (arith, told-keys k .0)) (p .write-pitch .ensures .0) (told-octave o .0)
+    (omega (arith, runs s, told-keys k .0, p .write-decimal .ensures .0, told-octave o .0, e .write-entries .ensures .0))
+    (chain l (k .write-keys .last .1 .1 .1 .1 .1 .0) (p .write-decimal .last .1 .1 .0) (o .write-line .last .1 .0) (e .write-entries .last .1 .0)
+    0 (k .write-keys .result) (p .write-decimal .result) (o .write-line .result) K P O E
+    (told-keys k .1) (p .write-decimal .ensures .1) (told-octave o .1) (e .write-entries .ensures .1)
+    (omega (arith, told-keys k .0)) (p .write-decimal .ensures .0) (told-octave o .0)
     ∙ ap (λ (t : List ℕ). sets l 0 t) (sym (four-runs (keys s) (textOf 3 false (s .args .hz)) (wholeText (s .args .octave)) (entryTexts (entriesOf (now (s .args .map)))))))
 
 pub write-mapping-spec : {M : Type 1} → statement M
@@ -117,7 +120,7 @@ write-mapping-spec =
     mapping-length-requires
     returns
     write-keys-requires
-    write-pitch-requires
+    write-decimal-requires
     write-line-requires
     write-entries-requires
     same-length

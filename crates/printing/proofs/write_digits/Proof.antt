@@ -6,7 +6,7 @@ use native.Mathlib.Omega.{arith}
 use lib.ListN.{length, length-set}
 use lib.Seq.{sets}
 use Rattle.printing.specs.PrintText.{digitsOf}
-use Rattle.decimals.proofs.Tens.{ten-pos}
+use Rattle.integers.proofs.Tens.{ten-pos}
 use Rattle.printing.proofs.Texts.{step-digits}
 use Rattle.printing.proofs.write_digits.Statement.{statement}
 use Rattle.printing.proofs.write_digits.Tie as tie

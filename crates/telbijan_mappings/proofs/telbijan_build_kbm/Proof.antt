@@ -5,7 +5,7 @@ use denote.Ref.{now}
 use mir.Facts.{toZ-ofZ}
 use mir.Syntax.{w16}
 use Rattle.kbm.specs.Answers.{saysKbm}
-use Rattle.kbm.specs.Builder.{built}
+use Rattle.kbm_build.specs.Builder.{built}
 use Rattle.telbijan_mappings.specs.Mappings.{builderWith, octaveWith}
 use Rattle.telbijan_answers.proofs.Interface.{accepted, refused, stays-part, stored-part}
 use Rattle.telbijan_mappings.proofs.telbijan_build_kbm.Statement.{statement}

@@ -5,8 +5,9 @@ use denote.Ref.{now}
 use lib.ListN.{length}
 use mir.Facts.{toZ-ofZ}
 use Rattle.base.specs.Tables.{after}
-use Rattle.kbm_write.specs.Answers.{saysSize}
-use Rattle.kbm_write.specs.Export.{exportOf, textLength}
+use Rattle.writing.specs.Answers.{saysSize}
+use Rattle.writing.specs.Fitted.{textLength}
+use Rattle.kbm_write.specs.Export.{exportOf}
 use Rattle.telbijan_mappings.specs.Mappings.{mappingWith}
 use Rattle.telbijan_answers.proofs.Interface.{accepted, refused, stays, stored}
 use Rattle.telbijan_mappings.proofs.telbijan_export_kbm.Statement.{statement}

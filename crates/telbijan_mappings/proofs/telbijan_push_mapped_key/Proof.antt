@@ -3,9 +3,9 @@ use mathlib.Core.Path.{_≡_, refl}
 use borrow.Author.Needs.{needs}
 use denote.Ref.{now}
 use mir.Facts.{toZ-ofZ}
-use Rattle.kbm.specs.Answers.{saysBuilder}
-use Rattle.kbm.specs.Builder.{pushed, afterPush}
 use Rattle.kbm.specs.declared.Entry.the-variants.{Mapped}
+use Rattle.kbm_build.specs.Answers.{saysBuilder}
+use Rattle.kbm_build.specs.Builder.{pushed, afterPush}
 use Rattle.telbijan_mappings.specs.Mappings.{pushingWith}
 use Rattle.telbijan_answers.proofs.Interface.{accepted, refused, stays-part, stored-part}
 use Rattle.telbijan_mappings.proofs.telbijan_push_mapped_key.Statement.{statement}

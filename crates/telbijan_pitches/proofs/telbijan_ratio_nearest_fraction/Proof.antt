@@ -4,8 +4,8 @@ use borrow.Author.Needs.{needs}
 use denote.Ref.{now}
 use mir.Facts.{toZ-ofZ}
 use mir.Syntax.{w32}
-use Rattle.pitch.specs.Answers.{saysNearest}
-use Rattle.pitch.specs.NearestFraction.{nearestFraction}
+use Rattle.fraction.specs.Answers.{saysNearest}
+use Rattle.fraction.specs.NearestFraction.{nearestFraction}
 use Rattle.telbijan_answers.proofs.Interface.{accepted, refused, stays-part, stored-part}
 use Rattle.telbijan_pitches.proofs.telbijan_ratio_nearest_fraction.Statement.{statement}
 use Rattle.telbijan_pitches.proofs.telbijan_ratio_nearest_fraction.Tie as tie

@@ -8,7 +8,9 @@ use mir.Facts.{toZ-ofZ}
 use mir.Syntax.{w16, w32}
 use mir.Val.{SFits}
 use Rattle.integers.specs.Integer.{u16Of, i16Of, i32Of}
-use Rattle.kbm_read.proofs.Takes.{int-step, next-fits, last-over, last-is, pitch-refused, pitch-is, pitch-out, due-step}
+use Rattle.base.specs.Numbers.{int-value}
+use Rattle.integers.proofs.AtLine.{int-step}
+use Rattle.kbm_read.proofs.Takes.{next-fits, last-over, last-is, pitch-refused, pitch-is, pitch-out, due-step}
 use Rattle.kbm_read.proofs.line.take_token.Statement.{statement}
 use Rattle.kbm_read.proofs.line.take_token.Tie as tie
 
@@ -28,7 +30,7 @@ refused-requires : tie.Need-refused-requires
 refused-requires c κs = search needs
 
 returns : tie.Need-returns
-returns c = c .refused .ensures ∙ int-step u16Of _ _ (c .before .before .before .read-u16 .ensures) (c .before .enum-told2 .given .1) ∙ due-step _ _ _ _ (c .before .before .before .before .enum-told .given .1)
+returns c = c .refused .ensures ∙ int-step u16Of int-value _ _ (c .before .before .before .read-u16 .ensures) (c .before .enum-told2 .given .1) ∙ due-step _ _ _ _ (c .before .before .before .before .enum-told .given .1)
 
 goes-on-requires : tie.Need-goes-on-requires
 goes-on-requires c κs = search needs
@@ -49,7 +51,7 @@ refused-requires-2 : tie.Need-refused-requires-2
 refused-requires-2 c κs = search needs
 
 returns-2 : tie.Need-returns-2
-returns-2 c = c .refused2 .ensures ∙ int-step i32Of _ _ (c .before .before .before .read-i32 .ensures) (c .before .enum-told4 .given .1) ∙ due-step _ _ _ _ (c .before .before .before .before .enum-told3 .given .1)
+returns-2 c = c .refused2 .ensures ∙ int-step i32Of int-value _ _ (c .before .before .before .read-i32 .ensures) (c .before .enum-told4 .given .1) ∙ due-step _ _ _ _ (c .before .before .before .before .enum-told3 .given .1)
 
 goes-on-requires-2 : tie.Need-goes-on-requires-2
 goes-on-requires-2 c κs = search needs
@@ -70,7 +72,7 @@ refused-requires-3 : tie.Need-refused-requires-3
 refused-requires-3 c κs = search needs
 
 returns-3 : tie.Need-returns-3
-returns-3 c = c .refused3 .ensures ∙ int-step i32Of _ _ (c .before .before .before .read-i322 .ensures) (c .before .enum-told6 .given .1) ∙ due-step _ _ _ _ (c .before .before .before .before .enum-told5 .given .1)
+returns-3 c = c .refused3 .ensures ∙ int-step i32Of int-value _ _ (c .before .before .before .read-i322 .ensures) (c .before .enum-told6 .given .1) ∙ due-step _ _ _ _ (c .before .before .before .before .enum-told5 .given .1)
 
 -- the last key that was read fits its type
 fits : (c : tie.After-known-told3) → SFits w32 (c .before .last .given .0 .0)
@@ -108,7 +110,7 @@ refused-requires-5 : tie.Need-refused-requires-5
 refused-requires-5 c κs = search needs
 
 returns-5 : tie.Need-returns-5
-returns-5 c = c .refused5 .ensures ∙ int-step i16Of _ _ (c .before .before .before .read-i16 .ensures) (c .before .enum-told8 .given .1) ∙ due-step _ _ _ _ (c .before .before .before .before .enum-told7 .given .1)
+returns-5 c = c .refused5 .ensures ∙ int-step i16Of int-value _ _ (c .before .before .before .read-i16 .ensures) (c .before .enum-told8 .given .1) ∙ due-step _ _ _ _ (c .before .before .before .before .enum-told7 .given .1)
 
 goes-on-requires-4 : tie.Need-goes-on-requires-4
 goes-on-requires-4 c κs = search needs
@@ -129,7 +131,7 @@ refused-requires-6 : tie.Need-refused-requires-6
 refused-requires-6 c κs = search needs
 
 returns-6 : tie.Need-returns-6
-returns-6 c = c .refused6 .ensures ∙ int-step i16Of _ _ (c .before .before .before .read-i162 .ensures) (c .before .enum-told10 .given .1) ∙ due-step _ _ _ _ (c .before .before .before .before .enum-told9 .given .1)
+returns-6 c = c .refused6 .ensures ∙ int-step i16Of int-value _ _ (c .before .before .before .read-i162 .ensures) (c .before .enum-told10 .given .1) ∙ due-step _ _ _ _ (c .before .before .before .before .enum-told9 .given .1)
 
 goes-on-requires-5 : tie.Need-goes-on-requires-5
 goes-on-requires-5 c κs = search needs
@@ -177,7 +179,7 @@ refused-requires-8 : tie.Need-refused-requires-8
 refused-requires-8 c κs = search needs
 
 returns-9 : tie.Need-returns-9
-returns-9 c = c .refused8 .ensures ∙ int-step i16Of _ _ (c .before .before .before .read-i163 .ensures) (c .before .enum-told13 .given .1) ∙ due-step _ _ _ _ (c .before .before .before .before .enum-told12 .given .1)
+returns-9 c = c .refused8 .ensures ∙ int-step i16Of int-value _ _ (c .before .before .before .read-i163 .ensures) (c .before .enum-told13 .given .1) ∙ due-step _ _ _ _ (c .before .before .before .before .enum-told12 .given .1)
 
 goes-on-requires-7 : tie.Need-goes-on-requires-7
 goes-on-requires-7 c κs = search needs
@@ -189,12 +191,12 @@ take-entry-requires : tie.Need-take-entry-requires
 take-entry-requires c κs = search needs
 
 returns-10 : tie.Need-returns-10
-returns-10 c = c .goes-on .ensures ∙ int-step u16Of _ _ (c .before .before .before .before .read-u16 .ensures) (c .before .before .size .given .1) ∙ due-step _ _ _ _ (c .before .before .before .before .before .enum-told .given .1)
+returns-10 c = c .goes-on .ensures ∙ int-step u16Of int-value _ _ (c .before .before .before .before .read-u16 .ensures) (c .before .before .size .given .1) ∙ due-step _ _ _ _ (c .before .before .before .before .before .enum-told .given .1)
 
 returns-11 : tie.Need-returns-11
 returns-11 c =
     let f : SFits w32 (c .before .before .first .given .0 .0) = record { sfits = omega (arith, c .before .known-told2) } in
-    (rw (toZ-ofZ f) at (c .goes-on2 .ensures)) ∙ int-step i32Of _ _ (c .before .before .before .before .read-i32 .ensures) (c .before .before .first .given .1) ∙ due-step _ _ _ _ (c .before .before .before .before .before .enum-told3 .given .1)
+    (rw (toZ-ofZ f) at (c .goes-on2 .ensures)) ∙ int-step i32Of int-value _ _ (c .before .before .before .before .read-i32 .ensures) (c .before .before .first .given .1) ∙ due-step _ _ _ _ (c .before .before .before .before .before .enum-told3 .given .1)
 
 returns-12 : tie.Need-returns-12
 returns-12 c =
@@ -204,12 +206,12 @@ returns-12 c =
 returns-13 : tie.Need-returns-13
 returns-13 c =
     let f : SFits w16 (c .before .before .middle .given .0 .0) = record { sfits = omega (arith, c .before .known-told4) } in
-    (rw (toZ-ofZ f) at (c .goes-on4 .ensures)) ∙ int-step i16Of _ _ (c .before .before .before .before .read-i16 .ensures) (c .before .before .middle .given .1) ∙ due-step _ _ _ _ (c .before .before .before .before .before .enum-told7 .given .1)
+    (rw (toZ-ofZ f) at (c .goes-on4 .ensures)) ∙ int-step i16Of int-value _ _ (c .before .before .before .before .read-i16 .ensures) (c .before .before .middle .given .1) ∙ due-step _ _ _ _ (c .before .before .before .before .before .enum-told7 .given .1)
 
 returns-14 : tie.Need-returns-14
 returns-14 c =
     let f : SFits w16 (c .before .before .reference .given .0 .0) = record { sfits = omega (arith, c .before .known-told5) } in
-    (rw (toZ-ofZ f) at (c .goes-on5 .ensures)) ∙ int-step i16Of _ _ (c .before .before .before .before .read-i162 .ensures) (c .before .before .reference .given .1) ∙ due-step _ _ _ _ (c .before .before .before .before .before .enum-told9 .given .1)
+    (rw (toZ-ofZ f) at (c .goes-on5 .ensures)) ∙ int-step i16Of int-value _ _ (c .before .before .before .before .read-i162 .ensures) (c .before .before .reference .given .1) ∙ due-step _ _ _ _ (c .before .before .before .before .before .enum-told9 .given .1)
 
 returns-15 : tie.Need-returns-15
 returns-15 c = c .refused7 .ensures ∙ pitch-out _ _ (c .before .before .before .before .before .before .before .before .before .before .before .args .state .head) (c .before .before .before .before .before .before .read-decimal .ensures) (c .before .before .before .before .answer .given .1) (c .before .before .is-in-pitch .ensures) (c .before .if2 .left) ∙ due-step _ _ _ _ (c .before .before .before .before .before .before .before .enum-told11 .given .1)
@@ -217,7 +219,7 @@ returns-15 c = c .refused7 .ensures ∙ pitch-out _ _ (c .before .before .before
 returns-16 : tie.Need-returns-16
 returns-16 c =
     let f : SFits w16 (c .before .before .octave .given .0 .0) = record { sfits = omega (arith, c .before .known-told7) } in
-    (rw (toZ-ofZ f) at (c .goes-on7 .ensures)) ∙ int-step i16Of _ _ (c .before .before .before .before .read-i163 .ensures) (c .before .before .octave .given .1) ∙ due-step _ _ _ _ (c .before .before .before .before .before .enum-told12 .given .1)
+    (rw (toZ-ofZ f) at (c .goes-on7 .ensures)) ∙ int-step i16Of int-value _ _ (c .before .before .before .before .read-i163 .ensures) (c .before .before .octave .given .1) ∙ due-step _ _ _ _ (c .before .before .before .before .before .enum-told12 .given .1)
 
 returns-17 : tie.Need-returns-17
 returns-17 c = c .take-entry .ensures ∙ due-step _ _ _ _ (c .before .enum-told14 .given .1)

@@ -3,12 +3,10 @@
 use mathlib.Core.Path.{_≡_}
 use borrow.Author.Needs.{needs}
 use lib.IntN.{_+ℤ_}
-use mir.Facts.{toZ-ofZ}
-use mir.Syntax.{w32}
 use Rattle.base.specs.Integers.{held}
 use Rattle.integer_math.specs.Answers.{saysI32}
 use Rattle.base.proofs.Machine.{told-held}
-use Rattle.key.proofs.Keys.{key-after}
+use Rattle.key.proofs.Keys.{key-after, key-made}
 use Rattle.key.proofs.PianoKey.plus_steps.Statement.{statement}
 use Rattle.key.proofs.PianoKey.plus_steps.Tie as tie
 
@@ -34,7 +32,7 @@ returns : tie.Need-returns
 returns c =
     let match = c .before .before .before in
     let start = match .before .before .before in
-    rw (toZ-ofZ {w = w32} {z = c .before .number .given .0 .0} (search needs)) (key-after (start .args .self) (start .args .steps) (said match) (c .before .number .given .1))
+    key-made (start .args .self) (start .args .steps) (c .before .number .given .0 .0) (search needs) (said match) (c .before .number .given .1)
 
 returns-2 : tie.Need-returns-2
 returns-2 c =

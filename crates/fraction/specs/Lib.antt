@@ -1,0 +1,3 @@
+pub mod NearestFraction
+pub mod Answers
+pub mod Samples

@@ -1,0 +1,4 @@
+pub mod Pushes
+pub mod Appends
+pub mod Plain
+pub mod Theorems

@@ -1,0 +1,6 @@
+pub mod Walks
+pub mod Leads
+pub mod Follows
+pub mod Language
+pub mod Given
+pub mod Details

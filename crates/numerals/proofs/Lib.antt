@@ -1,0 +1,9 @@
+pub mod Runs
+pub mod Bounds
+pub mod Small
+pub mod Values
+pub mod Places
+pub mod Words
+pub mod Numbers
+pub mod Scans
+pub mod Theorems

@@ -1,0 +1,2 @@
+pub mod FloatText
+pub mod Scan

@@ -1,0 +1,59 @@
+-- Safe: so many places are there. Assumes nothing.
+use native.Mathlib.Omega.{arith}
+use lib.ListN.{length-take}
+use borrow.Author.Needs.{needs}
+use Rattle.replay_scl.proofs.first.after_run.Statement.{statement}
+use Rattle.replay_scl.proofs.first.after_run.Tie as tie
+
+returns : tie.Need-returns
+returns c = search needs
+
+slice-relend-prefix-after-run : tie.Need-slice-relend-prefix-after-run
+slice-relend-prefix-after-run c = search needs
+
+slice-aggregate-after-run : tie.Need-slice-aggregate-after-run
+slice-aggregate-after-run c = simp length-take (omega arith)
+
+after-run-requires : tie.Need-after-run-requires
+after-run-requires c κs = search needs
+
+same-length : tie.Need-same-length
+same-length c = search needs
+
+same-length-2 : tie.Need-same-length-2
+same-length-2 c = search needs
+
+same-length-3 : tie.Need-same-length-3
+same-length-3 c = search needs
+
+same-length-4 : tie.Need-same-length-4
+same-length-4 c = search needs
+
+same-length-5 : tie.Need-same-length-5
+same-length-5 c = search needs
+
+same-length-6 : tie.Need-same-length-6
+same-length-6 c = search needs
+
+same-length-7 : tie.Need-same-length-7
+same-length-7 c = search needs
+
+returns-2 : tie.Need-returns-2
+returns-2 c = search needs
+
+pub after-run-spec : {M : Type 1} → statement M
+after-run-spec =
+    tie.close
+    (tie.spec
+    returns
+    slice-relend-prefix-after-run
+    slice-aggregate-after-run
+    after-run-requires
+    same-length
+    same-length-2
+    same-length-3
+    same-length-4
+    same-length-5
+    same-length-6
+    same-length-7
+    returns-2)

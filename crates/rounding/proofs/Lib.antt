@@ -1,0 +1,6 @@
+pub mod Scale
+pub mod Power
+pub mod Steps
+pub mod Nearest
+pub mod Assemble
+pub mod Theorems

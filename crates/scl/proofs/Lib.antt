@@ -1,0 +1,5 @@
+pub mod Items
+pub mod Table
+pub mod Writing
+pub mod Numbers
+pub mod Theorems

@@ -1,0 +1,50 @@
+-- What the calls on items come to, and that each has one result. Document 01, "Scale". Assumes nothing.
+use mathlib.Core.Path.{_≡_, refl}
+use mathlib.Core.Logic.{inl, inr}
+use mathlib.Core.Bool.{true}
+use Prim.Native.Nat.{ℕ}
+use lib.Ieee.{Float}
+use Rattle.base.specs.Said.{Said, gives}
+use Rattle.base.proofs.Said.{One, Split, one-result, one-answer}
+use Rattle.floats.specs.Ranges.{inGenerator}
+use Rattle.floats.proofs.Between.{within-generator}
+use Rattle.pitch.specs.Answers.{saysRatio}
+use Rattle.pitch.proofs.Theorems.{ratio-one}
+use Rattle.scl.specs.Answers.{saysScl}
+use Rattle.scl.specs.Items.{isUsableCents, isUsable, denomOf, ratioOf, Held}
+use Rattle.scl.specs.Table.{ItemTable, itemOf, isItems}
+use Rattle.scl.specs.declared.Denom.{Denom}
+use Rattle.scl.specs.declared.Item.{Item}
+use Rattle.scl.specs.declared.SclAnswer.the-variants as OfScl
+use Rattle.scl.proofs.Items.{item-ratio}
+
+-- "Usable: numerator and denominator at least 1; cents from -38,400 to 38,400": the ratio of such an item lies in 2^-32..2^32, so
+-- it never gives 18
+pub usable-ratio : (i : Item) → Held i → isUsable i ≡ true → (r : Float) × ((ratioOf i ≡ gives r) × (inGenerator r ≡ true))
+usable-ratio i h u = let t = item-ratio i h u in (t .value, (t .is, within-generator (t .between)))
+
+-- ---- two results of one input are equal
+pub scl-split : Split OfScl.Is OfScl.Refused
+scl-split (OfScl.Is x) = inl (x, refl)
+scl-split (OfScl.Refused r) = inr (r, refl)
+
+pub scl-one : (s : Said ℕ) → One saysScl s
+scl-one = one-answer scl-split saysScl (λ x. x .count) (λ a b e i. record { count = e i }) (λ a. refl) (λ r. refl)
+
+pub is-usable-cents-one : (cents : Float) → One (λ r. r) (isUsableCents cents)
+is-usable-cents-one cents = one-result (isUsableCents cents)
+
+pub denom-of-one : (d : Denom) → One (λ r. r) (denomOf d)
+denom-of-one d = one-result (denomOf d)
+
+pub is-usable-one : (i : Item) → One (λ r. r) (isUsable i)
+is-usable-one i = one-result (isUsable i)
+
+pub as-ratio-one : (i : Item) → One saysRatio (ratioOf i)
+as-ratio-one i = ratio-one (ratioOf i)
+
+pub item-of-one : (kind : ℕ) (cents : Float) (numer denom : ℕ) → One (λ r. r) (itemOf kind cents numer denom)
+item-of-one kind cents numer denom = one-result (itemOf kind cents numer denom)
+
+pub is-items-one : (t : ItemTable) (count : ℕ) → One (λ r. r) (isItems count t)
+is-items-one t count = one-result (isItems count t)

@@ -1,0 +1,5 @@
+pub mod Pushes
+pub mod Builds
+pub mod Appends
+pub mod Numbers
+pub mod Theorems

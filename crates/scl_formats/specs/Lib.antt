@@ -1,0 +1,4 @@
+pub mod Again
+pub mod Samples
+pub mod Agree
+pub mod Limits

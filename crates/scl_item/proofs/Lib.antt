@@ -1,0 +1,4 @@
+pub mod Finds
+pub mod Takes
+pub mod Language
+pub mod Theorems

@@ -1,0 +1,2 @@
+pub mod ItemText
+pub mod Tokens

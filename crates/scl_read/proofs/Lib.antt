@@ -1,0 +1,11 @@
+pub mod Takes
+pub mod Usable
+pub mod Stands
+pub mod Fills
+pub mod Ends
+pub mod Language
+pub mod Describes
+pub mod Leaves
+pub mod Theorems
+pub mod Samples
+pub mod Numbers

@@ -1,0 +1,8 @@
+pub mod Order
+pub mod Theory
+pub mod Sift
+pub mod Columns
+pub mod Work
+pub mod Turns
+pub mod InOrder
+pub mod Stable

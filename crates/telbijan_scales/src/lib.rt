@@ -1,0 +1,243 @@
+// Scales for C: seven lent columns, the items' four and the sorted list's three, and beside them the count of items.
+use pitch::Ratio;
+use scl::SclAnswer;
+use scl_build::SclBuilder;
+use scl_build::SclBuilderAnswer;
+use scl_read::SclReadAnswer;
+ghost use mathlib.Core.Path.{_≡_};
+ghost use Rattle.scl.specs.Items.{ratioOf};
+ghost use Rattle.scl.specs.Table.{itemOf, itemTable};
+ghost use Rattle.scl.specs.declared.Denom.the-variants.{Given, Lacking};
+ghost use Rattle.scl.specs.declared.Item.the-variants.{Cents, Fraction};
+ghost use Rattle.sorted.specs.Lent.{listTable};
+ghost use Rattle.scl_tables.specs.Build.{afterList};
+ghost use Rattle.scl_tables.specs.Room.{roomOf};
+ghost use Rattle.scl_build.specs.Answers.{saysBuilder};
+ghost use Rattle.scl_build.specs.Builder.{state, builderOf, afterNew, pushed, afterPush, pushedRatio, afterRatio, built, counted};
+ghost use Rattle.scl_read.specs.Reader.{readOf, afterItems, afterSorted};
+ghost use Rattle.telbijan_answers.specs.Interface.{result, kept, fieldOf};
+
+// The ratio of an item, stored: 18 for an unknown kind, and where the ratio lies outside 2^-900..2^900; never for a usable item.
+#[no_mangle]
+pub extern "C" fn telbijan_item_as_ratio(
+    kind: u8,
+    cents: f64,
+    numer: u32,
+    denom: u32,
+    ratio: &mut f64,
+) -> u64
+    ensures { λ r. ⌜ r ≡ result (ratioOf (itemOf kind cents numer denom)) ⌝ }
+    ensures { λ _. ⌜ now (ratio .exit) ≡ kept (ratioOf (itemOf kind cents numer denom)) (now (ratio .entry)) ⌝ }
+{
+    telbijan_answers::store_ratio(scl::item_of(kind, cents, numer, denom).as_ratio(), ratio)
+}
+
+// A scale file, read: its items go to the places after place 0, which gets the implicit 0.0 cents, and their sorted list to the
+// first places of the list; the places behind keep their values. Stored are the count of items, and where the description starts
+// and ends in the text. The refusals are 1, 3, 4, 5, 6, 9, 10 and 12 with their line; 2 with which required line is missing (1
+// description, 2 count); 13, 14 and 18 with 0, after the last line; and 12 with 0, first, where a column has no place.
+#[no_mangle]
+pub extern "C" fn telbijan_read_scl(
+    text: &[u8],
+    kind: &mut [u8],
+    cents: &mut [f64],
+    numer: &mut [u32],
+    denom: &mut [u32],
+    place: &mut [u32],
+    ratio: &mut [f64],
+    wraps: &mut [i32],
+    count: &mut u16,
+    start: &mut usize,
+    end: &mut usize,
+) -> u64
+    ensures { λ r. ⌜ r ≡ result (readOf (roomOf (itemTable (now (kind .entry)) (now (cents .entry)) (now (numer .entry)) (now (denom .entry))) (listTable (now (place .entry)) (now (ratio .entry)) (now (wraps .entry)))) (now (text .entry))) ⌝ }
+    ensures { λ _. ⌜ itemTable (now (kind .exit)) (now (cents .exit)) (now (numer .exit)) (now (denom .exit))
+        ≡ afterItems (now (text .entry)) (itemTable (now (kind .entry)) (now (cents .entry)) (now (numer .entry)) (now (denom .entry))) (listTable (now (place .entry)) (now (ratio .entry)) (now (wraps .entry))) ⌝ }
+    ensures { λ _. ⌜ listTable (now (place .exit)) (now (ratio .exit)) (now (wraps .exit))
+        ≡ afterSorted (now (text .entry)) (itemTable (now (kind .entry)) (now (cents .entry)) (now (numer .entry)) (now (denom .entry))) (listTable (now (place .entry)) (now (ratio .entry)) (now (wraps .entry))) ⌝ }
+    ensures { λ _. ⌜ now (count .exit) ≡ kept (fieldOf (λ s. s .scl .count) (readOf (roomOf (itemTable (now (kind .entry)) (now (cents .entry)) (now (numer .entry)) (now (denom .entry))) (listTable (now (place .entry)) (now (ratio .entry)) (now (wraps .entry)))) (now (text .entry)))) (now (count .entry)) ⌝ }
+    ensures { λ _. ⌜ now (start .exit) ≡ kept (fieldOf (λ s. s .description .start) (readOf (roomOf (itemTable (now (kind .entry)) (now (cents .entry)) (now (numer .entry)) (now (denom .entry))) (listTable (now (place .entry)) (now (ratio .entry)) (now (wraps .entry)))) (now (text .entry)))) (now (start .entry)) ⌝ }
+    ensures { λ _. ⌜ now (end .exit) ≡ kept (fieldOf (λ s. s .description .end) (readOf (roomOf (itemTable (now (kind .entry)) (now (cents .entry)) (now (numer .entry)) (now (denom .entry))) (listTable (now (place .entry)) (now (ratio .entry)) (now (wraps .entry)))) (now (text .entry)))) (now (end .entry)) ⌝ }
+{
+    match scl_read::read_scl(text, kind, cents, numer, denom, place, ratio, wraps) {
+        SclReadAnswer::Is(read) => {
+            let scl = read.scl;
+            let size = scl.count;
+            let description = read.description;
+            let from = description.start;
+            let to = description.end;
+            *count = size;
+            *start = from;
+            *end = to;
+            0
+        }
+        SclReadAnswer::Refused(refusal) => telbijan_answers::code_of(refusal),
+    }
+}
+
+// A builder with nothing pushed: place 0 gets the implicit 0.0 cents, and the room is stored, the places of the shortest column; the
+// count is 0. 12 where a column has no place. The list's columns are only measured.
+#[no_mangle]
+pub extern "C" fn telbijan_new_scl(
+    kind: &mut [u8],
+    cents: &mut [f64],
+    numer: &mut [u32],
+    denom: &mut [u32],
+    place: &[u32],
+    ratio: &[f64],
+    wraps: &[i32],
+    room: &mut usize,
+) -> u64
+    ensures { λ r. ⌜ r ≡ result (builderOf (itemTable (now (kind .entry)) (now (cents .entry)) (now (numer .entry)) (now (denom .entry))) (listTable (now (place .entry)) (now (ratio .entry)) (now (wraps .entry)))) ⌝ }
+    ensures { λ _. ⌜ itemTable (now (kind .exit)) (now (cents .exit)) (now (numer .exit)) (now (denom .exit))
+        ≡ afterNew (itemTable (now (kind .entry)) (now (cents .entry)) (now (numer .entry)) (now (denom .entry))) (listTable (now (place .entry)) (now (ratio .entry)) (now (wraps .entry))) ⌝ }
+    ensures { λ _. ⌜ now (room .exit) ≡ kept (fieldOf (λ b. b .room) (builderOf (itemTable (now (kind .entry)) (now (cents .entry)) (now (numer .entry)) (now (denom .entry))) (listTable (now (place .entry)) (now (ratio .entry)) (now (wraps .entry))))) (now (room .entry)) ⌝ }
+{
+    match SclBuilder::new(kind, cents, numer, denom, place, ratio, wraps) {
+        SclBuilderAnswer::Is(builder) => {
+            let places = builder.room;
+            *room = places;
+            0
+        }
+        SclBuilderAnswer::Refused(refusal) => telbijan_answers::code_of(refusal),
+    }
+}
+
+// Stores the count of a builder.
+fn store_count(answer: SclBuilderAnswer, after: &mut usize) -> u64
+    ensures { λ r. ⌜ r ≡ result (saysBuilder answer) ⌝ }
+    ensures { λ _. ⌜ now (after .exit) ≡ kept (fieldOf (λ b. b .count) (saysBuilder answer)) (now (after .entry)) ⌝ }
+{
+    match answer {
+        SclBuilderAnswer::Is(builder) => {
+            let next = builder.count;
+            *after = next;
+            0
+        }
+        SclBuilderAnswer::Refused(refusal) => telbijan_answers::code_of(refusal),
+    }
+}
+
+// One item in cents more, at place `count` + 1 of columns of `room` places; the new count is stored. 10 for a room or count that is
+// not the columns', and for cents outside -38400..38400; 12 with no place left.
+#[no_mangle]
+pub extern "C" fn telbijan_push_cents(
+    kind: &mut [u8],
+    cents: &mut [f64],
+    numer: &mut [u32],
+    denom: &mut [u32],
+    room: usize,
+    count: usize,
+    value: f64,
+    after: &mut usize,
+) -> u64
+    ensures { λ r. ⌜ r ≡ result (pushed (state room count) (itemTable (now (kind .entry)) (now (cents .entry)) (now (numer .entry)) (now (denom .entry))) (Cents value)) ⌝ }
+    ensures { λ _. ⌜ itemTable (now (kind .exit)) (now (cents .exit)) (now (numer .exit)) (now (denom .exit))
+        ≡ afterPush (state room count) (itemTable (now (kind .entry)) (now (cents .entry)) (now (numer .entry)) (now (denom .entry))) (Cents value) ⌝ }
+    ensures { λ _. ⌜ now (after .exit) ≡ kept (fieldOf (λ b. b .count) (pushed (state room count) (itemTable (now (kind .entry)) (now (cents .entry)) (now (numer .entry)) (now (denom .entry))) (Cents value))) (now (after .entry)) ⌝ }
+{
+    let builder = SclBuilder { room, count };
+    store_count(builder.push_cents(kind, cents, numer, denom, value), after)
+}
+
+// One ratio more, kept as its cents, in the same way; 10 for a ratio outside 2^-900..2^900 too.
+#[no_mangle]
+pub extern "C" fn telbijan_push_ratio(
+    kind: &mut [u8],
+    cents: &mut [f64],
+    numer: &mut [u32],
+    denom: &mut [u32],
+    room: usize,
+    count: usize,
+    value: f64,
+    after: &mut usize,
+) -> u64
+    ensures { λ r. ⌜ r ≡ result (pushedRatio (state room count) (itemTable (now (kind .entry)) (now (cents .entry)) (now (numer .entry)) (now (denom .entry))) value) ⌝ }
+    ensures { λ _. ⌜ itemTable (now (kind .exit)) (now (cents .exit)) (now (numer .exit)) (now (denom .exit))
+        ≡ afterRatio (state room count) (itemTable (now (kind .entry)) (now (cents .entry)) (now (numer .entry)) (now (denom .entry))) value ⌝ }
+    ensures { λ _. ⌜ now (after .exit) ≡ kept (fieldOf (λ b. b .count) (pushedRatio (state room count) (itemTable (now (kind .entry)) (now (cents .entry)) (now (numer .entry)) (now (denom .entry))) value)) (now (after .entry)) ⌝ }
+{
+    let builder = SclBuilder { room, count };
+    store_count(
+        builder.push_ratio(kind, cents, numer, denom, Ratio(value)),
+        after,
+    )
+}
+
+// One integer more, a fraction whose denominator is lacking, in the same way; 10 for 0.
+#[no_mangle]
+pub extern "C" fn telbijan_push_int(
+    kind: &mut [u8],
+    cents: &mut [f64],
+    numer: &mut [u32],
+    denom: &mut [u32],
+    room: usize,
+    count: usize,
+    value: u32,
+    after: &mut usize,
+) -> u64
+    ensures { λ r. ⌜ r ≡ result (pushed (state room count) (itemTable (now (kind .entry)) (now (cents .entry)) (now (numer .entry)) (now (denom .entry))) (Fraction value Lacking)) ⌝ }
+    ensures { λ _. ⌜ itemTable (now (kind .exit)) (now (cents .exit)) (now (numer .exit)) (now (denom .exit))
+        ≡ afterPush (state room count) (itemTable (now (kind .entry)) (now (cents .entry)) (now (numer .entry)) (now (denom .entry))) (Fraction value Lacking) ⌝ }
+    ensures { λ _. ⌜ now (after .exit) ≡ kept (fieldOf (λ b. b .count) (pushed (state room count) (itemTable (now (kind .entry)) (now (cents .entry)) (now (numer .entry)) (now (denom .entry))) (Fraction value Lacking))) (now (after .entry)) ⌝ }
+{
+    let builder = SclBuilder { room, count };
+    store_count(builder.push_int(kind, cents, numer, denom, value), after)
+}
+
+// One fraction more, in the same way; 10 where either number is 0.
+#[no_mangle]
+pub extern "C" fn telbijan_push_fraction(
+    kind: &mut [u8],
+    cents: &mut [f64],
+    numer: &mut [u32],
+    denom: &mut [u32],
+    room: usize,
+    count: usize,
+    above: u32,
+    below: u32,
+    after: &mut usize,
+) -> u64
+    ensures { λ r. ⌜ r ≡ result (pushed (state room count) (itemTable (now (kind .entry)) (now (cents .entry)) (now (numer .entry)) (now (denom .entry))) (Fraction above (Given below))) ⌝ }
+    ensures { λ _. ⌜ itemTable (now (kind .exit)) (now (cents .exit)) (now (numer .exit)) (now (denom .exit))
+        ≡ afterPush (state room count) (itemTable (now (kind .entry)) (now (cents .entry)) (now (numer .entry)) (now (denom .entry))) (Fraction above (Given below)) ⌝ }
+    ensures { λ _. ⌜ now (after .exit) ≡ kept (fieldOf (λ b. b .count) (pushed (state room count) (itemTable (now (kind .entry)) (now (cents .entry)) (now (numer .entry)) (now (denom .entry))) (Fraction above (Given below)))) (now (after .entry)) ⌝ }
+{
+    let builder = SclBuilder { room, count };
+    store_count(
+        builder.push_fraction(kind, cents, numer, denom, above, below),
+        after,
+    )
+}
+
+// The scale of the items that were pushed: its sorted list goes to the first `count` + 1 places of the list, and the count of items
+// is stored; the items stay. 10 for a state or an item that cannot be used, 13 over 65,535 items, 18 where two or more items
+// have the period 1.0.
+#[no_mangle]
+pub extern "C" fn telbijan_build_scl(
+    kind: &[u8],
+    cents: &[f64],
+    numer: &[u32],
+    denom: &[u32],
+    place: &mut [u32],
+    ratio: &mut [f64],
+    wraps: &mut [i32],
+    room: usize,
+    count: usize,
+    items: &mut u16,
+) -> u64
+    ensures { λ r. ⌜ r ≡ result (counted (state room count) (built (state room count) (itemTable (now (kind .entry)) (now (cents .entry)) (now (numer .entry)) (now (denom .entry))) (listTable (now (place .entry)) (now (ratio .entry)) (now (wraps .entry))))) ⌝ }
+    ensures { λ _. ⌜ listTable (now (place .exit)) (now (ratio .exit)) (now (wraps .exit))
+        ≡ afterList (built (state room count) (itemTable (now (kind .entry)) (now (cents .entry)) (now (numer .entry)) (now (denom .entry))) (listTable (now (place .entry)) (now (ratio .entry)) (now (wraps .entry)))) (listTable (now (place .entry)) (now (ratio .entry)) (now (wraps .entry))) ⌝ }
+    ensures { λ _. ⌜ now (items .exit) ≡ kept (counted (state room count) (built (state room count) (itemTable (now (kind .entry)) (now (cents .entry)) (now (numer .entry)) (now (denom .entry))) (listTable (now (place .entry)) (now (ratio .entry)) (now (wraps .entry))))) (now (items .entry)) ⌝ }
+{
+    let builder = SclBuilder { room, count };
+    match builder.build(kind, cents, numer, denom, place, ratio, wraps) {
+        SclAnswer::Is(scl) => {
+            let size = scl.count;
+            *items = size;
+            0
+        }
+        SclAnswer::Refused(refusal) => telbijan_answers::code_of(refusal),
+    }
+}

@@ -1,0 +1,3 @@
+pub mod Characters
+pub mod Eights
+pub mod Utf8Machine
