@@ -26,11 +26,11 @@ use Rattle.scl_item.specs.declared.ItemRead.{ItemRead}
 use Rattle.scl_item.specs.declared.ItemRead.the-variants as item
 use Rattle.text.specs.Reading.{Meaning, invalid, blank, comment, content}
 use Rattle.scl_read.specs.Reader.{saysStep, itemPlaced, takeCount, takeDue, takeToken, takeMeaning, listed, givenFrom}
-use Rattle.scl_read.specs.declared.line.Due.{Due}
-use Rattle.scl_read.specs.declared.line.Due.the-variants as due
-use Rattle.scl_read.specs.declared.line.State.{State}
-use Rattle.scl_read.specs.declared.line.Step.{Step}
-use Rattle.scl_read.specs.declared.line.Step.the-variants as step
+use Rattle.scl_line.specs.declared.Due.{Due}
+use Rattle.scl_line.specs.declared.Due.the-variants as due
+use Rattle.scl_line.specs.declared.State.{State}
+use Rattle.scl_line.specs.declared.Step.{Step}
+use Rattle.scl_line.specs.declared.Step.the-variants as step
 
 -- an item of the language
 pub item-usable : {t : List ℕ} {i : Item} → ItemText t i → isUsable i ≡ true
