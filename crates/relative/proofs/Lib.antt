@@ -1,0 +1,4 @@
+pub mod Places
+pub mod Opened
+pub mod Refusals
+pub mod Theorems
