@@ -1,22 +1,23 @@
+-- `find_key_by_pitch` meets its contract: the degree's search, then 11 for the key.
+-- Assumes nothing.
+use mathlib.Core.Path.{_∙_, ap}
+use Rattle.base.specs.Said.{Said, andThen}
+use Rattle.approximation.specs.Degrees.{keyOf}
+use Rattle.approximation.specs.declared.Approximation.{Approximation}
 use borrow.Author.Needs.{needs}
 use Rattle.finding.proofs.find_key_by_pitch.Statement.{statement}
 use Rattle.finding.proofs.find_key_by_pitch.Tie as tie
-use Rattle.finding.proofs.find_key_by_pitch.Reads as reads
-use Rattle.finding.proofs.find_key_by_pitch.Lts as lts
-use Rattle.approximation.proofs.key_from.Reads as key-from-reads
-use Rattle.finding.proofs.find_by_pitch.Reads as find-by-pitch-reads
 
--- src/lib.rt:309:9
 find-by-pitch-requires : tie.Need-find-by-pitch-requires
 find-by-pitch-requires c κs = search needs
 
--- src/lib.rt:321:5
 key-from-requires : tie.Need-key-from-requires
 key-from-requires c κs = search needs
 
--- src/lib.rt:294:1
 returns : tie.Need-returns
-returns c = ?
+returns c =
+    let s = c .before .before .before .before .before .before .before .before in
+    c .key-from .ensures ∙ ap (λ (t : Said Approximation). andThen t (keyOf (s .args .root))) (c .before .find-by-pitch .ensures)
 
 pub find-key-by-pitch-spec : {M : Type 1} → statement M
 find-key-by-pitch-spec = tie.close (tie.spec find-by-pitch-requires key-from-requires returns)
