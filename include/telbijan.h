@@ -231,6 +231,56 @@ uint64_t telbijan_build_kbm(const int32_t *map, size_t map_length, size_t room, 
    first key, 3 last key, 4 middle key, 5 reference key, 6 pitch, 7 formal octave); 12, 13 and 14 with 0, after the last line. */
 uint64_t telbijan_read_kbm(const uint8_t *text, size_t text_length, int32_t *map, size_t map_length, uint16_t *count, int32_t *start, int32_t *end, int32_t *reference, double *hz, int32_t *offset, int16_t *octave);
 
+/* ---- Pitches for C: of degrees and keys, over a scale's lent columns, and a root or a mapping beside them. */
+
+/* The period of a scale, the ratio of its last item, stored; of a scale without items that of place 0. 10 for items that cannot be used. */
+uint64_t telbijan_period(const uint8_t *kind, size_t kind_length, const double *cents, size_t cents_length, const uint32_t *numer, size_t numer_length, const uint32_t *denom, size_t denom_length, uint16_t count, double *period);
+
+/* The ratio of a degree to degree 0, stored: 10 for items that cannot be used, 18 where the ratio lies outside 2^-900..2^900. */
+uint64_t telbijan_relative_pitch_of(const uint8_t *kind, size_t kind_length, const double *cents, size_t cents_length, const uint32_t *numer, size_t numer_length, const uint32_t *denom, size_t denom_length, uint16_t count, int32_t degree, double *relative);
+
+/* The same of a degree in ascending order: 10 for items or a list that cannot be used, 18. */
+uint64_t telbijan_sorted_relative_pitch_of(const uint8_t *kind, size_t kind_length, const double *cents, size_t cents_length, const uint32_t *numer, size_t numer_length, const uint32_t *denom, size_t denom_length, const uint32_t *place, size_t place_length, const double *ratio, size_t ratio_length, const int32_t *wraps, size_t wraps_length, uint16_t count, int32_t degree, double *relative);
+
+/* The pitch of a degree in Hz, stored: 10 for items that cannot be used or a root's pitch outside 2^-10..2^20, 11 for the root offset
+   -2147483648, 18 where a pitch or ratio lies outside 2^-900..2^900. */
+uint64_t telbijan_pitch_of(const uint8_t *kind, size_t kind_length, const double *cents, size_t cents_length, const uint32_t *numer, size_t numer_length, const uint32_t *denom, size_t denom_length, uint16_t count, int32_t reference, double hz, int32_t offset, int32_t degree, double *pitch);
+
+/* The pitch of a key, whose degree is its distance from the reference key: 10, 11 where the distance passes 32 bits, 11 for the root
+   offset -2147483648, 18. */
+uint64_t telbijan_pitch_of_key(const uint8_t *kind, size_t kind_length, const double *cents, size_t cents_length, const uint32_t *numer, size_t numer_length, const uint32_t *denom, size_t denom_length, uint16_t count, int32_t reference, double hz, int32_t offset, int32_t number, double *pitch);
+
+/* The pitch of a degree in ascending order: 10 for the list too, 11 for the root offset -2147483648, 18. */
+uint64_t telbijan_sorted_pitch_of(const uint8_t *kind, size_t kind_length, const double *cents, size_t cents_length, const uint32_t *numer, size_t numer_length, const uint32_t *denom, size_t denom_length, const uint32_t *place, size_t place_length, const double *ratio, size_t ratio_length, const int32_t *wraps, size_t wraps_length, uint16_t count, int32_t reference, double hz, int32_t offset, int32_t degree, double *pitch);
+
+/* The pitch of a key of a mapping, stored: 10 for tables or a root's pitch that cannot be used, 16 outside start..end, 11 where the
+   distance from the reference key passes 32 bits, 17 unmapped, 11 where the degree does, 11 for the root offset -2147483648, 18. */
+uint64_t telbijan_maybe_pitch_of(const uint8_t *kind, size_t kind_length, const double *cents, size_t cents_length, const uint32_t *numer, size_t numer_length, const uint32_t *denom, size_t denom_length, uint16_t count, const int32_t *map, size_t map_length, uint16_t size, int32_t start, int32_t end, int32_t reference, double hz, int32_t offset, int16_t octave, int32_t number, double *pitch);
+
+/* The same of the key so many steps above the reference key: 11 where that key passes 32 bits, after 10. */
+uint64_t telbijan_maybe_pitch_of_degree(const uint8_t *kind, size_t kind_length, const double *cents, size_t cents_length, const uint32_t *numer, size_t numer_length, const uint32_t *denom, size_t denom_length, uint16_t count, const int32_t *map, size_t map_length, uint16_t size, int32_t start, int32_t end, int32_t reference, double hz, int32_t offset, int16_t octave, int32_t degree, double *pitch);
+
+/* ---- Searches for C: the degree or key that comes nearest to a ratio or a pitch, over a scale's lent columns. */
+
+/* The degree whose relative pitch comes nearest to a ratio, and how far the ratio lies above it, a ratio, both stored: 10 for items or a
+   list that cannot be used and for a ratio outside 2^-64..2^64, 18 in a scale of one item with period 1.0, 11 where the degree passes 32
+   bits. Of two that come equally near, within 0.999999, it is the lower one. */
+uint64_t telbijan_find_by_relative_pitch(const uint8_t *kind, size_t kind_length, const double *cents, size_t cents_length, const uint32_t *numer, size_t numer_length, const uint32_t *denom, size_t denom_length, const uint32_t *place, size_t place_length, const double *ratio, size_t ratio_length, const int32_t *wraps, size_t wraps_length, uint16_t count, double target, int32_t *degree, double *deviation);
+
+/* The same, the degree counted in ascending order. */
+uint64_t telbijan_find_by_relative_pitch_sorted(const uint8_t *kind, size_t kind_length, const double *cents, size_t cents_length, const uint32_t *numer, size_t numer_length, const uint32_t *denom, size_t denom_length, const uint32_t *place, size_t place_length, const double *ratio, size_t ratio_length, const int32_t *wraps, size_t wraps_length, uint16_t count, double target, int32_t *degree, double *deviation);
+
+/* The degree whose pitch comes nearest to a pitch in Hz, and the deviation from it, both stored: 10 for tables, a root's pitch or a pitch
+   outside 2^-10..2^20 that cannot be used, 11 for the root offset -2147483648, 18 where a ratio leaves its range, 11 where the degree
+   passes 32 bits. */
+uint64_t telbijan_find_by_pitch(const uint8_t *kind, size_t kind_length, const double *cents, size_t cents_length, const uint32_t *numer, size_t numer_length, const uint32_t *denom, size_t denom_length, const uint32_t *place, size_t place_length, const double *ratio, size_t ratio_length, const int32_t *wraps, size_t wraps_length, uint16_t count, int32_t reference, double hz, int32_t offset, double pitch, int32_t *degree, double *deviation);
+
+/* The same, the degree counted in ascending order. */
+uint64_t telbijan_find_by_pitch_sorted(const uint8_t *kind, size_t kind_length, const double *cents, size_t cents_length, const uint32_t *numer, size_t numer_length, const uint32_t *denom, size_t denom_length, const uint32_t *place, size_t place_length, const double *ratio, size_t ratio_length, const int32_t *wraps, size_t wraps_length, uint16_t count, int32_t reference, double hz, int32_t offset, double pitch, int32_t *degree, double *deviation);
+
+/* The key whose pitch comes nearest, that degree above the reference key, in the same way; 11 where the key passes 32 bits too. */
+uint64_t telbijan_find_key_by_pitch(const uint8_t *kind, size_t kind_length, const double *cents, size_t cents_length, const uint32_t *numer, size_t numer_length, const uint32_t *denom, size_t denom_length, const uint32_t *place, size_t place_length, const double *ratio, size_t ratio_length, const int32_t *wraps, size_t wraps_length, uint16_t count, int32_t reference, double hz, int32_t offset, double pitch, int32_t *number, double *deviation);
+
 #ifdef __cplusplus
 }
 #endif

@@ -86,6 +86,7 @@ fn compare() -> ExitCode {
     kbm_read::compare(&mut all);
     kbm_use::compare(&mut all);
     kbm_build::compare(&mut all);
+    tuning::compare(&mut all);
     differences::compare(&mut all);
     untouched::report();
     all.verdict()

@@ -98,9 +98,10 @@ impl Report {
         }
     }
 
-    /// Compares a range of document 01's, which the Rust does not have: every case is by the rules, and there is one.
-    pub fn range(&mut self, name: &str, cases: impl FnOnce(&mut Tally)) {
-        let by = self.tried(name, &[], cases);
+    /// Compares what the Rust does not have, a range of document 01's or tables that no build leaves: every case is by the rules, and there
+    /// is one.
+    pub fn ruled(&mut self, name: &str, numbers: &[u64], cases: impl FnOnce(&mut Tally)) {
+        let by = self.tried(name, numbers, cases);
         if by[2] == 0 {
             println!("{name}: no case");
             self.failed = true;

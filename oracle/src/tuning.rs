@@ -277,7 +277,7 @@ fn ten<T>(old: T) -> Said<T> {
 
 /// Every call on tables that cannot be used; a call that does not lend the list does not test it. 10 comes before 16 and 11.
 fn lent_wrong(all: &mut Report) {
-    all.range("lent tables, 10", |tally| {
+    all.ruled("lent tables, 10", &[10], |tally| {
         for (k, ((c, count), part)) in bad_tables().iter().enumerate() {
             let (count, m) = (*count, Mapping { count: 0, start: 0, end: 0, reference: i32::MIN, hz: Float::of(440.0), offset: i32::MIN, octave: 0 });
             let far = Root { reference: i32::MIN, offset: i32::MIN, ..USUAL };
@@ -327,7 +327,7 @@ fn lent_wrong(all: &mut Report) {
 
 /// Lists that no build leaves: ratios at the ends of the reach, any wraparounds, place 0 that is not 1.0, a period of 1.0.
 fn lent_strange(all: &mut Report) {
-    all.range("lent lists, strange", |tally| {
+    all.ruled("lent lists, strange", &[11, 18], |tally| {
         let mut random = Random::new(40);
         for k in 0..20_000 {
             let count = random.next() as u16 % 5;
@@ -428,6 +428,7 @@ pub fn compare(all: &mut Report) {
         });
     });
     searches(all);
+    fixed(all);
     lent_wrong(all);
     lent_strange(all);
 }
@@ -446,9 +447,80 @@ fn random_mapping(random: &mut Random) -> (Mapping, Vec<i32>, Kbm) {
     (m, map, kbm)
 }
 
+/// What the Rust was seen to answer where a port would go astray, each beside ours: a search's number and deviation.
+fn fixed(all: &mut Report) {
+    use crate::ffi_scl::Push::{Cents, Fraction, Int};
+    let third = Built::new([2; 7], &[Int(3)]).unwrap();
+    let built = |pushes: &[crate::ffi_scl::Push]| Built::new([pushes.len() + 1; 7], pushes).unwrap();
+    let cents = |x: f64| powers::e(x / 1200.0).unwrap();
+    let just: &[crate::ffi_scl::Push] = &[Fraction(9, 8), Fraction(5, 4), Int(2)];
+    let repeats: &[crate::ffi_scl::Push] = &[Int(1), Int(1), Int(1), Int(1), Int(1), Int(2)];
+    all.function("searches, fixed", &[11, 18], |tally| {
+        let declared: [(&[crate::ffi_scl::Push], f64, Answer<i32>, Option<f64>); 15] = [
+            (&[Int(2)], 3.0, Ok(2), Some(0.7499999999999999)),
+            // the found degree's pitch need not be the target: div_euclid truncates a rounded quotient, the remainder is exact
+            (&[Int(3)], 129140162.99999967, Ok(18), Some(0.9999999999999987)),
+            (&[Fraction(5, 3), Fraction(80, 3), Int(2)], 5.0 / 3.0, Ok(-10), Some(1.0000000000000002)),
+            (&[Cents(-700.0), Cents(-0.001)], 2.0, Ok(-2), Some(1.9999988447550325)),
+            (&[Cents(-300.0), Cents(-1200.0)], 0.9, Ok(1), None),
+            (&[Cents(-1e-13), Int(3)], 3.0, Ok(2), Some(1.0)),
+            (&[Cents(-1e-13), Int(3)], 2.9999999999999996, Ok(3), Some(1.0000000000000002)),
+            (just, 1.19, Ok(2), Some(0.9520000000000002)),
+            (&[Cents(100.0)], cents(50.0008), Ok(0), None),
+            (&[Cents(100.0)], cents(50.0009), Ok(1), None),
+            (&[Cents(0.0001)], 1.5, Ok(0), Some(1.5)),
+            (&[Int(1)], 1.5, Err(18), None),
+            (&[], 1.5, Ok(0), Some(1.5)),
+            (repeats, 1.0000000000000002, Ok(0), Some(1.0000000000000002)),
+            (repeats, 1.0, Ok(0), Some(1.0)),
+        ];
+        for (k, (pushes, x, number, deviation)) in declared.into_iter().enumerate() {
+            let b = built(pushes);
+            let ours = ffi::find_by_relative_pitch(&b.columns, b.count, x);
+            tally.same((k, x), ours, find(&b, x));
+            let said = match number {
+                Ok(number) => ours.1.0 == number && deviation.is_none_or(|deviation| ours.1.1 == Float::of(deviation)),
+                Err(number) => ours.0 == Code::refusal(number, 0),
+            };
+            tally.require(said, (k, x, ours));
+        }
+        // in ascending order; a target that equals two entries starts at the first of them, where the Rust says 4
+        for (k, (pushes, x, number)) in [(&[Cents(-300.0), Cents(-1200.0)][..], 0.9, 3), (&[Cents(-1e-13), Int(3)], 2.9999999999999996, 1), (&[Cents(0.0001)], 1.5, 1), (repeats, 1.0, 0), (repeats, 1.0000000000000002, 5)].into_iter().enumerate() {
+            let b = built(pushes);
+            let ours = ffi::find_by_relative_pitch_sorted(&b.columns, b.count, x);
+            tally.same((k, x), ours, find_sorted(&b, x));
+            tally.require(ours.1.0 == number, (k, x, ours));
+        }
+        tally.require(built(repeats).scl.find_by_relative_pitch_sorted(Ratio::from_float(1.0)).approx_value == 4, "the Rust's equal target");
+        for (degree, x) in [(17, 129140162.99999967), (18, 387420488.99999946)] {
+            let ours = ffi::relative_pitch_of(&third.columns, 1, degree);
+            tally.same(degree, ours, relative(&third, degree));
+            tally.require(ours.1 == Float::of(x), (degree, ours));
+        }
+        // the reference key need not sound the reference pitch
+        let b = built(just);
+        for (key, hz) in [(69, 55.0), (60, 6.875)] {
+            let ours = ffi::pitch_of_key(&b.columns, 3, USUAL, key);
+            tally.same(key, ours, key_pitch(&b, USUAL, key));
+            tally.require(ours.1 == Float::of(hz), (key, ours));
+        }
+        let ours = ffi::find_key_by_pitch(&b.columns, 3, USUAL, 440.0);
+        tally.same(440, ours, find_key(&b, USUAL, 440.0));
+        tally.require(ours.1.0 == 78, ours);
+        // 65,535 items and a small period: degrees up to the ends of 32 bits, and past them
+        let many: Vec<_> = (1..=65_535).map(|k| if k == 65_535 { Fraction(1_000_001, 1_000_000) } else { Fraction(1_000_000 + k % 2, 1_000_000) }).collect();
+        let b = built(&many);
+        for x in [2f64.powi(64), 1.5, 1.00001, 1.0000105, 0.99, 2f64.powi(-64)] {
+            tally.same(x, ffi::find_by_relative_pitch(&b.columns, b.count, x), find(&b, x));
+            tally.same(x, ffi::find_by_relative_pitch_sorted(&b.columns, b.count, x), find_sorted(&b, x));
+        }
+        tally.require(ffi::find_by_relative_pitch(&b.columns, b.count, 2f64.powi(64)).0 == Code::refusal(11, 0), "2^64");
+    });
+}
+
 fn searches(all: &mut Report) {
     let limits: Vec<f64> = f64_limits().into_iter().filter(|x| x.abs() < 1e20 || x.is_nan()).collect();
-    all.function("find_by_relative_pitch", &[10, 18], |tally| {
+    all.function("find_by_relative_pitch", &[10, 11, 18], |tally| {
         over(tally, 49, 10, |tally, random, b| {
             let x = random_target(random, b);
             tally.same((&b.columns, x), ffi::find_by_relative_pitch(&b.columns, b.count, x), find(b, x));
@@ -459,7 +531,7 @@ fn searches(all: &mut Report) {
             }
         }
     });
-    all.function("find_by_relative_p.._sorted", &[10, 18], |tally| {
+    all.function("find_by_rel_pitch_sorted", &[10, 11, 18], |tally| {
         over(tally, 50, 10, |tally, random, b| {
             let x = random_target(random, b);
             tally.same((&b.columns, x), ffi::find_by_relative_pitch_sorted(&b.columns, b.count, x), find_sorted(b, x));
