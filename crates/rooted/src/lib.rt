@@ -35,7 +35,7 @@ fn over_answer(pitch: Pitch, ratio: RatioAnswer) -> PitchAnswer
 }
 
 // A pitch times an answered ratio.
-fn times_answer(pitch: Pitch, ratio: RatioAnswer) -> PitchAnswer
+pub fn times_answer(pitch: Pitch, ratio: RatioAnswer) -> PitchAnswer
     ensures { λ r. ⌜ saysPitch r ≡ andThen (saysRatio ratio) (pitchTimes (pitch .0)) ⌝ }
 {
     match ratio {
