@@ -35,6 +35,7 @@ mod rules_scl;
 mod rust_kbm;
 mod rust_scl;
 mod scl_build;
+mod scl_export;
 mod scl_read;
 mod tally;
 mod texts;
@@ -80,6 +81,7 @@ fn compare() -> ExitCode {
     numerals::compare(&mut all);
     scl_read::compare(&mut all);
     scl_build::compare(&mut all);
+    scl_export::compare(&mut all);
     kbm_read::compare(&mut all);
     kbm_use::compare(&mut all);
     kbm_build::compare(&mut all);
