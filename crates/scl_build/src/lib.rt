@@ -241,7 +241,7 @@ impl SclBuilder {
             if 65535 < count {
                 return SclAnswer::Refused(TOO_MANY);
             }
-            let last = scl_tables::item_at(kind, cents, numer, denom, count);
+            let last = scl::item_at(kind, cents, numer, denom, count);
             if scl_tables::is_beyond(last, count) {
                 return SclAnswer::Refused(OUT_OF_REACH);
             }
