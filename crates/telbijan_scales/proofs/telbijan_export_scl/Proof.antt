@@ -30,7 +30,7 @@ returns c =
     let call = c .before .before .before .before .before in
     let is = c .before .size .given .1 in
     let told = call .export-scl .ensures in
-    (accepted saysSize (told .0) is refl, (told .1, stored saysSize (told .0) is (now (begun call .args .written)) refl refl))
+    (accepted saysSize (told .0) is refl, (told .1 .0, (stored saysSize (told .0) is (now (begun call .args .written)) refl refl, rw (told .0) at (told .1 .1))))
 
 same-length-2 : tie.Need-same-length-2
 same-length-2 c = search needs
@@ -40,7 +40,7 @@ returns-2 c =
     let call = c .before .before .before .before .before .before in
     let is = c .before .before .refusal .given .1 in
     let told = call .export-scl .ensures in
-    (refused saysSize (told .0) is _ refl (c .code-of .ensures), (told .1, stays saysSize (told .0) is _ (now (begun call .args .written)) refl))
+    (refused saysSize (told .0) is _ refl (c .code-of .ensures), (told .1 .0, (stays saysSize (told .0) is _ (now (begun call .args .written)) refl, rw (told .0) at (told .1 .1))))
 
 pub telbijan-export-scl-spec : {M : Type 1} → statement M
 telbijan-export-scl-spec =
