@@ -68,6 +68,9 @@ extern "C" {
 /* An export of so many entries never takes more bytes than this (proved). */
 #define TELBIJAN_KBM_ROOM(count) (73 + 7 * (size_t)(count))
 
+/* Nor an export of so many items under a description of so many bytes (proved). */
+#define TELBIJAN_SCL_ROOM(description_length, count) ((size_t)(description_length) + 7 + 22 * (size_t)(count))
+
 /* ---- math.rs for C: division rounded down, and the odd part. */
 
 /* The quotient rounded down, stored; 10 for denominator 0. */
@@ -199,6 +202,11 @@ uint64_t telbijan_push_fraction(uint8_t *kind, size_t kind_length, double *cents
    is stored; the items stay. 10 for a state or an item that cannot be used, 13 over 65,535 items, 18 where two or more items
    have the period 1.0. */
 uint64_t telbijan_build_scl(const uint8_t *kind, size_t kind_length, const double *cents, size_t cents_length, const uint32_t *numer, size_t numer_length, const uint32_t *denom, size_t denom_length, uint32_t *place, size_t place_length, double *ratio, size_t ratio_length, int32_t *wraps, size_t wraps_length, size_t room, size_t count, uint16_t *items);
+
+/* The text of a scale, written into the lent bytes: the description as it is, the count, the items. The number of bytes is stored, and
+   bytes behind it keep their values. 10 for a table that cannot be used or a description that is not UTF-8, 12 where the text is
+   longer than the bytes: never where they are the description's length + 7 + 22 for each item. */
+uint64_t telbijan_export_scl(const uint8_t *description, size_t description_length, const uint8_t *kind, size_t kind_length, const double *cents, size_t cents_length, const uint32_t *numer, size_t numer_length, const uint32_t *denom, size_t denom_length, uint16_t count, uint8_t *out, size_t out_length, size_t *written);
 
 /* ---- Keyboard mappings for C: a lent table of entries, and beside it the mapping's numbers. An entry is a degree from -32768 to 32767, or -2147483648 for none. */
 

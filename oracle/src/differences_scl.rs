@@ -40,11 +40,7 @@ fn ours(text: &[u8], room: usize, part: fn(Shown) -> String) -> String {
         return if code.number() == 2 { format!("2, required line {}", code.detail()) } else { refused(code) };
     }
     let places = usize::from(count) + 1;
-    let items = (0..places).map(|k| match columns.kind[k] {
-        0 => Item::Cents(columns.cents[k]),
-        1 => Item::Fraction(columns.numer[k], Some(columns.denom[k])),
-        _ => Item::Fraction(columns.numer[k], None),
-    });
+    let items = (0..places).map(|k| columns.item(k).unwrap());
     part(Shown { description: String::from_utf8(text[start..end].to_vec()).unwrap(), items: items.collect(), list: columns.list(places) })
 }
 
@@ -164,6 +160,42 @@ fn builders() -> Vec<Row> {
     ]
 }
 
+/// The Rust's text of these items.
+fn their_export(description: &str, pushes: &[Push]) -> String {
+    rust_scl::pushes(pushes).build_with_description(description).unwrap().export().to_string()
+}
+
+/// And the text that is written here, into so many bytes.
+fn our_export(description: &[u8], items: &[Item], room: usize) -> Result<String, String> {
+    let mut columns = Columns::new([items.len() + 1; 7]);
+    columns.put_items(0, &[Item::cents(0.0)]);
+    columns.put_items(1, items);
+    let mut out = vec![0; room];
+    match ffi_scl::export_scl(description, &mut columns, items.len() as u16, &mut out) {
+        (Code::ACCEPTED, written) => Ok(String::from_utf8(out[..written].to_vec()).unwrap()),
+        (code, _) => Err(refused(code)),
+    }
+}
+
+fn quoted(text: &str) -> String {
+    format!("`{}`", text.escape_debug())
+}
+
+fn shown(answer: Result<String, String>) -> String {
+    answer.map_or_else(|number| number, |text| quoted(&text))
+}
+
+fn exports() -> Vec<Row> {
+    vec![
+        row("`Scl::export`", "item 3/0: text", || quoted(&their_export("d", &[Push::Fraction(3, 0)])), "`d\\n1\\n3/0\\n`", || shown(our_export(b"d", &[Item::Fraction(3, Some(0))], 99)), "10"),
+        row("`Scl::export`", "item 38400.1 cents: text", || quoted(&their_export("d", &[Push::Cents(38_400.1)])), "`d\\n1\\n38400.100\\n`", || shown(our_export(b"d", &[Item::cents(38_400.1)], 99)), "10"),
+        row("`Scl::export`", "a description that is not UTF-8", || CANNOT_BE.to_string(), CANNOT_BE, || shown(our_export(b"\xff", &[], 99)), "10"),
+        row("`Scl::export`", "8 bytes of text, 7 lent: bytes written", || their_export("d", &[Push::Fraction(2, 1)]).len().to_string(), "8", || shown(our_export(b"d", &[Item::Fraction(2, Some(1))], 7)), "12"),
+        row("`Scl::export`", "description `!a`, LF, `b`, item 2/1: text", || quoted(&their_export("!a\nb", &[Push::Fraction(2, 1)])), "`!a\\nb\\n1\\n2/1\\n`", || shown(our_export(b"!a\nb", &[Item::Fraction(2, Some(1))], 99)), "`!a\\nb\\n1\\n2/1\\n`"),
+        row("`Scl::export`", "items 0.0625 and -0.0 cents: text", || quoted(&their_export("d", &[Push::Cents(0.0625), Push::Cents(-0.0)])), "`d\\n2\\n0.062\\n-0.000\\n`", || shown(our_export(b"d", &[Item::cents(0.0625), Item::cents(-0.0)], 99)), "`d\\n2\\n0.062\\n-0.000\\n`"),
+    ]
+}
+
 pub fn scales() -> Vec<Row> {
-    [files(), builders()].into_iter().flatten().collect()
+    [files(), builders(), exports()].into_iter().flatten().collect()
 }

@@ -37,6 +37,7 @@ mod rules_tuning;
 mod rust_kbm;
 mod rust_scl;
 mod scl_build;
+mod scl_export;
 mod scl_read;
 mod tally;
 mod texts;
@@ -83,6 +84,7 @@ fn compare() -> ExitCode {
     numerals::compare(&mut all);
     scl_read::compare(&mut all);
     scl_build::compare(&mut all);
+    scl_export::compare(&mut all);
     kbm_read::compare(&mut all);
     kbm_use::compare(&mut all);
     kbm_build::compare(&mut all);
