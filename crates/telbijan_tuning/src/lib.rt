@@ -1,10 +1,13 @@
 // Pitches for C: of degrees and keys, over a scale's lent columns, and a root or a mapping beside them.
 use key::Degree;
 use key::PianoKey;
+use key_pitches::RunAnswer;
 use scl::Scl;
 ghost use mathlib.Core.Path.{_≡_};
+ghost use lib.ListN.{length};
 ghost use Rattle.key.specs.Keys.{key};
-ghost use Rattle.scl.specs.Table.{itemTable};
+ghost use Rattle.key_pitches.specs.Run.{keyPitches, runOf, afterHz, afterNumbers};
+ghost use Rattle.scl.specs.Table.{itemTable, itemsIn};
 ghost use Rattle.sorted.specs.Lent.{listTable};
 ghost use Rattle.telbijan_answers.specs.Interface.{result, kept};
 ghost use Rattle.telbijan_mappings.specs.Mappings.{rootWith, mappingWith};
@@ -232,4 +235,51 @@ pub extern "C" fn telbijan_maybe_pitch_of_degree(
         tuning::maybe_pitch_of_degree(scl, kind, cents, numer, denom, kbm, map, Degree(degree)),
         pitch,
     )
+}
+
+// The pitches of `keys` keys of a mapping, from key `first` on, and beside each its refusal's number, 0 for a pitch: 10 for tables or a
+// root's pitch that cannot be used, 12 where a slice is shorter than the run. Else each key answers as telbijan_maybe_pitch_of does, and
+// 11 where there is no such key; a refused key's pitch stays as it was, and so do the places behind the run. The tables are tested once.
+#[no_mangle]
+pub extern "C" fn telbijan_pitches_of(
+    kind: &[u8],
+    cents: &[f64],
+    numer: &[u32],
+    denom: &[u32],
+    count: u16,
+    map: &[i32],
+    size: u16,
+    start: i32,
+    end: i32,
+    reference: i32,
+    hz: f64,
+    offset: i32,
+    octave: i16,
+    first: i32,
+    keys: u32,
+    pitches: &mut [f64],
+    numbers: &mut [u32],
+) -> u64
+    ensures { λ r. ⌜ r ≡ result (runOf count (itemTable (now (kind .entry)) (now (cents .entry)) (now (numer .entry)) (now (denom .entry))) (mappingWith size start end reference hz offset octave) (now (map .entry)) keys (length (now (pitches .entry))) (length (now (numbers .entry)))) ⌝ }
+    ensures { λ _. ⌜ now (pitches .exit) ≡ afterHz (runOf count (itemTable (now (kind .entry)) (now (cents .entry)) (now (numer .entry)) (now (denom .entry))) (mappingWith size start end reference hz offset octave) (now (map .entry)) keys (length (now (pitches .entry))) (length (now (numbers .entry)))) (keyPitches (itemsIn count (itemTable (now (kind .entry)) (now (cents .entry)) (now (numer .entry)) (now (denom .entry)))) (mappingWith size start end reference hz offset octave) (now (map .entry)) (key first)) keys (now (pitches .entry)) ⌝ }
+    ensures { λ _. ⌜ now (numbers .exit) ≡ afterNumbers (runOf count (itemTable (now (kind .entry)) (now (cents .entry)) (now (numer .entry)) (now (denom .entry))) (mappingWith size start end reference hz offset octave) (now (map .entry)) keys (length (now (pitches .entry))) (length (now (numbers .entry)))) (keyPitches (itemsIn count (itemTable (now (kind .entry)) (now (cents .entry)) (now (numer .entry)) (now (denom .entry)))) (mappingWith size start end reference hz offset octave) (now (map .entry)) (key first)) keys (now (numbers .entry)) ⌝ }
+{
+    let scl = Scl { count };
+    let kbm = telbijan_mappings::mapping(size, start, end, reference, hz, offset, octave);
+    match key_pitches::pitches_of(
+        scl,
+        kind,
+        cents,
+        numer,
+        denom,
+        kbm,
+        map,
+        PianoKey(first),
+        keys,
+        pitches,
+        numbers,
+    ) {
+        RunAnswer::Done => 0,
+        RunAnswer::Refused(refusal) => telbijan_answers::code_of(refusal),
+    }
 }
