@@ -1,2 +1,4 @@
 pub mod Opened
 pub mod Within
+pub mod Parting
+pub mod Theorems
