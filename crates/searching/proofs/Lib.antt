@@ -1,4 +1,5 @@
 pub mod Opened
 pub mod Within
 pub mod Parting
+pub mod Given
 pub mod Theorems
