@@ -1,20 +1,22 @@
 -- WHAT AN ACCEPTED READ OR BUILD LEAVES is used by every call on tunings: no 10 for the tables, and which refusals are left.
 -- Document 01, "Scales and searches". Assumes nothing.
-use mathlib.Core.Path.{_≡_, refl, sym, _∙_, ap, subst}
-use mathlib.Core.Bool.{Bool, true, false, _&&_}
-use mathlib.Core.List.{List, [], _∷_}
-use Prim.Native.Nat.{ℕ, _+_, _≤_, _<_}
+use mathlib.Core.Path.{_≡_, sym, _∙_, ap}
+use mathlib.Core.Bool.{true, _&&_}
+use mathlib.Core.List.{List, _∷_}
+use Prim.Native.Nat.{ℕ, _≤_, _<_}
 use native.Mathlib.Omega.{arith}
+use lib.Dec.{leb}
 use lib.IntN.{ℤ}
 use lib.ListN.{length}
 use lib.Ieee.{Float, binary64, fits}
 use Rattle.base.specs.Numbers.{unusable, too-large, beyond-reach}
-use Rattle.base.specs.Said.{Said, gives, refuses, pick, andThen}
+use Rattle.base.specs.Said.{Said, gives}
 use Rattle.floats.specs.Floats.{oneF}
 use Rattle.floats.specs.Ranges.{inSearch}
+use Rattle.key.specs.Keys.{stepsBetween}
 use Rattle.key.specs.declared.PianoKey.{PianoKey}
 use Rattle.sorting.specs.Entries.{Entry}
-use Rattle.sorted.specs.Lent.{ListTable, listIn, isList}
+use Rattle.sorted.specs.Lent.{ListTable, listIn}
 use Rattle.scl.specs.Items.{ratioOf, AllHeld}
 use Rattle.scl.specs.Table.{ItemTable, implicit, itemsIn, isItems}
 use Rattle.scl.specs.declared.Item.{Item}
@@ -22,6 +24,7 @@ use Rattle.scl.proofs.Table.{items-usable}
 use Rattle.scl_tables.specs.Build.{lastOf, countOf, sortedOf, scaleOf, sizedOf, isBeyond, afterList}
 use Rattle.scl_tables.specs.Room.{roomOf}
 use Rattle.scl_tables.proofs.Beyond.{Given, scale-looks}
+use Rattle.scl_tables.proofs.Theorems.{list-leaves}
 use Rattle.scl_build.specs.Builder.{isReady, built}
 use Rattle.scl_build.specs.declared.SclBuilder.{SclBuilder}
 use Rattle.scl_build.proofs.Theorems.{build-leaves}
@@ -35,19 +38,18 @@ use Rattle.kbm.specs.Root.{isRoot}
 use Rattle.kbm.specs.Table.{isTable, tableOf}
 use Rattle.kbm.specs.declared.Entry.{Entry as MapEntry}
 use Rattle.kbm.specs.declared.Kbm.{Kbm}
-use Rattle.kbm.specs.declared.KbmRoot.{KbmRoot}
 use Rattle.kbm_read.specs.Language.{MappingText}
 use Rattle.kbm_read.specs.Reader.{afterRead}
 use Rattle.kbm_read.proofs.Tables.{leaves-meaning}
 use Rattle.relative.specs.Refusals.{Reached}
 use Rattle.relative.specs.Scales.{tested, isScale}
 use Rattle.relative.proofs.Back.{pick-given, pick-other}
-use Rattle.relative.proofs.Places.{items-length, list-length}
+use Rattle.relative.proofs.Places.{items-length}
 use Rattle.rooted.specs.Pitches.{pitchOf, sortedPitchOf}
 use Rattle.rooted.specs.Refusals.{Pitched, pitched, unturned}
 use Rattle.tuning.specs.Keys.{keyPitchOf, maybePitchOf}
 use Rattle.tuning.specs.Refusals.{Sounds}
-use Rattle.tuning.proofs.Theorems.{pitch-of-refusals, sorted-pitch-of-refusals, maybe-pitch-of-refusals}
+use Rattle.tuning.proofs.Theorems.{pitch-of-refusals, pitch-of-key-refusals, sorted-pitch-of-refusals, maybe-pitch-of-refusals}
 use Rattle.searching.specs.Search.{searchOf}
 use Rattle.tuning_formats.proofs.Mappings.{read-root}
 use Rattle.tuning_formats.proofs.Scales.{left-is, list-search}
@@ -63,7 +65,7 @@ module _ (b : SclBuilder) (t : ItemTable) (l : ListTable) (es : List Entry) (hel
   built-sorted =
       let items = itemsIn (b .count) t in
       let r = pick-given (isReady b t l) (sizedOf items) unusable e in
-      let s = pick-given (lib.Dec.leb (countOf items) 65535) (scaleOf items) too-large (r .1) in
+      let s = pick-given (leb (countOf items) 65535) (scaleOf items) too-large (r .1) in
       pick-other (isBeyond (countOf items) (lastOf items)) (sortedOf items) beyond-reach (sym (scale-looks items) ∙ s .1)
 
   -- and a search of any ratio in 2^-64..2^64 is given: no 18, but for the one item whose ratio is 1.0 ("A search in a scale of one item
@@ -75,7 +77,7 @@ module _ (b : SclBuilder) (t : ItemTable) (l : ListTable) (es : List Entry) (hel
       let v = build-leaves b t l es held e in
       let n = items-length (b .count) t (v .items) in
       let g = list-search items (omega (arith, n)) held (items-usable (b .count) t (v .items)) es built-sorted x fx sx (λ two one. except (omega (arith, n, two)) one) in
-      let m = left-is (b .count) es l (Rattle.scl_tables.proofs.Theorems.list-leaves items (omega (arith, n)) held (items-usable (b .count) t (v .items)) es built-sorted .size ∙ n) in
+      let m = left-is (b .count) es l (list-leaves items (omega (arith, n)) held (items-usable (b .count) t (v .items)) es built-sorted .size ∙ n) in
       record { value = g .value; is = ap (λ (fs : List Entry). searchOf items fs x) m ∙ g .is }
 
 -- ---- A READ of a scale
@@ -88,7 +90,7 @@ module _ (text : List ℕ) (t : ItemTable) (l : ListTable) {d : List ℕ} {items
   read-search x fx sx except =
       let so = text-reading s .sorted in
       let g = list-search (implicit ∷ items) (omega arith) (lines-held (s .lines)) (lines-usable (s .lines)) list so x fx sx (λ two one. except (omega (arith, two)) one) in
-      let size = Rattle.scl_tables.proofs.Theorems.list-leaves (implicit ∷ items) (omega arith) (lines-held (s .lines)) (lines-usable (s .lines)) list so .size in
+      let size = list-leaves (implicit ∷ items) (omega arith) (lines-held (s .lines)) (lines-usable (s .lines)) list so .size in
       let m = ap (listIn (length items)) (leaves-list text t l s room .1) ∙ left-is (length items) list l (omega (arith, size)) in
       record { value = g .value; is = ap (λ (is : List Item). searchOf is (listIn (length items) (afterSorted text t l)) x) (leaves-items text t l s room .1) ∙ ap (λ (fs : List Entry). searchOf (implicit ∷ items) fs x) m ∙ g .is }
 
@@ -105,7 +107,15 @@ module _ (text : List ℕ) (t : ItemTable) (l : ListTable) {d : List ℕ} {items
     pub read-sorted-pitch-of : (z : ℤ) → Reached (tested (isScale (length items) (afterItems text t l) (afterSorted text t l) && isRoot (k .root)) (sortedPitchOf (itemsIn (length items) (afterItems text t l)) (listIn (length items) (afterSorted text t l)) (k .root) z))
     read-sorted-pitch-of z = only-reached (sorted-pitch-of-refusals (length items) (afterItems text t l) (leaves-items text t l s room .0) (k .root) (read-root r .pitch) (read-root r .offset) (afterSorted text t l) (leaves-list text t l s room .0) z)
 
-    -- the pitch of a key: 16, 17 or 11 exactly where its degree is refused so, else 18 alone
+    -- the pitch of a key counted from the reference key: 11 exactly where its distance passes 32 bits, else 18 alone
+    pub read-pitch-of-key : (key : PianoKey) → Sounds (k .root) (stepsBetween (k .root .reference) key) (tested (isItems (length items) (afterItems text t l) && isRoot (k .root)) (keyPitchOf (itemsIn (length items) (afterItems text t l)) (k .root) key))
+    read-pitch-of-key key = pitch-of-key-refusals (length items) (afterItems text t l) (leaves-items text t l s room .0) (k .root) (read-root r .pitch) (read-root r .offset) key
+
+    -- whose offset is never refused
+    pub read-turns : {p : Said Float} → Pitched (k .root) p → Reached p
+    read-turns = only-reached
+
+    -- the pitch of a key of the mapping: 16, 17 or 11 exactly where its degree is refused so, else 18 alone
     pub read-maybe-pitch-of : (key : PianoKey) → Sounds (k .root) (degreeOf k (tableOf (k .count) (afterRead mapping map)) key)
         (tested (isItems (length items) (afterItems text t l) && isRoot (k .root)) (tested (isTable (k .count) (afterRead mapping map)) (maybePitchOf (itemsIn (length items) (afterItems text t l)) k (afterRead mapping map) key)))
     read-maybe-pitch-of key = maybe-pitch-of-refusals (length items) (afterItems text t l) (leaves-items text t l s room .0) k (afterRead mapping map) (read-root r .pitch) (read-root r .offset) (leaves-meaning mapping map k es r fits .0) key
