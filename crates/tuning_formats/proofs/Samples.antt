@@ -1,7 +1,7 @@
 -- The samples, as the definitions compute them. Assumes nothing.
 use mathlib.Core.Path.{_≡_, refl}
 use mathlib.Core.Bool.{false}
-use lib.IntN.{pos}
+use lib.IntN.{pos, negsuc}
 use lib.Ieee.{fin, le, lt, eq, neg, add, sub, mul, div, rem, round, size, ofBits, ofFields, odd, climb, span, ofInt, toSigned}
 use Rattle.base.specs.Integers.{held}
 use Rattle.base.specs.Said.{gives, andThen}
@@ -14,7 +14,7 @@ use Rattle.scl_tables.specs.Build.{sortedOf}
 use Rattle.relative.specs.Relative.{periodsOf, placeOf, relativePitchOf}
 use Rattle.searching.specs.Search.{chosenOf, nearestOf, searchOf}
 use Rattle.approximation.specs.Degrees.{declaredOf, ascendingOf}
-use Rattle.tuning_formats.specs.Samples.{only, onlyList, twoF, threeF, threeAnswer, seventeenth, eighteenth, partedAnswer, repeated, repeatedList, repeatedAnswer}
+use Rattle.tuning_formats.specs.Samples.{only, onlyList, twoF, threeF, threeAnswer, seventeenth, eighteenth, partedAnswer, repeated, repeatedList, repeatedAnswer, three, belowPitch}
 
 -- the lists are those of the scales
 pub two-sorted : sortedOf (only 2) ≡ gives (onlyList twoF)
@@ -52,3 +52,8 @@ repeated-sorted = refl
 pub repeated-found : andThen (searchOf repeated repeatedList (fin false 1 (pos 0))) (ascendingOf 6) ≡ gives repeatedAnswer
 unfolding searchOf chosenOf nearestOf held le lt eq neg add sub mul div rem round size ofBits ofFields odd climb span ofInt toSigned trunc abs tOf pOf bOf yOf root rootFrom E L floorOf timesPower powerOf logOf logAt ratioOf
 repeated-found = refl
+
+-- a degree below place 0 goes down a whole period
+pub floors : relativePitchOf three (negsuc 0) ≡ gives belowPitch
+unfolding relativePitchOf periodsOf placeOf le lt eq neg add sub mul div rem round size ofBits ofFields odd climb span ofInt toSigned trunc abs tOf pOf bOf yOf root rootFrom E L floorOf timesPower powerOf logOf logAt ratioOf
+floors = refl

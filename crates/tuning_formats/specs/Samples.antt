@@ -58,3 +58,11 @@ repeatedList = first ∷ first ∷ first ∷ first ∷ first ∷ first ∷ entry
 -- "Its start is the first entry not below the target": the ascending degree is the first of the equal ones
 abbrev pub repeatedAnswer : Approximation
 repeatedAnswer = approximation (fin false 1 (pos 0)) (pos 0)
+
+-- ---- items 9/8, 5/4 and 2/1: a degree below place 0
+abbrev pub three : List Item
+three = implicit ∷ Fraction 9 (Given 8) ∷ Fraction 5 (Given 4) ∷ Fraction 2 (Given 1) ∷ []
+
+-- 0.625: one period down and 5/4 up ("Truncating, not flooring" is ruled out: it would be 9/8)
+abbrev pub belowPitch : Float
+belowPitch = fin false 5 (negsuc 2)
