@@ -1,5 +1,5 @@
 -- Each call has one result. Document 01, "What the contracts settle". Assumes nothing.
-use mathlib.Core.Path.{_≡_, refl}
+use mathlib.Core.Path.{refl}
 use mathlib.Core.Logic.{inl, inr}
 use Prim.Native.Nat.{ℕ}
 use Rattle.base.specs.Said.{Said, andThen}

@@ -1,9 +1,8 @@
 -- What the searches say, and that each call has one result. Document 01, "Scales and searches". Assumes nothing.
-use mathlib.Core.Path.{_≡_, refl, sym, _∙_, subst}
-use mathlib.Core.Bool.{Bool, true, _&&_}
+use mathlib.Core.Path.{_≡_, subst}
+use mathlib.Core.Bool.{true, _&&_}
 use mathlib.Core.List.{List}
 use Prim.Native.Nat.{ℕ, _<_}
-use lib.IntN.{ℤ}
 use lib.Ieee.{Float, binary64, fits, div}
 use lib.Ieee.Bits.{is-true}
 use lib.Ieee.Fits.{div-fits}

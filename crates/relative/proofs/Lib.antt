@@ -4,3 +4,4 @@ pub mod Back
 pub mod Ratios
 pub mod Refusals
 pub mod Theorems
+pub mod Rising

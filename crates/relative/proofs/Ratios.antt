@@ -6,11 +6,10 @@ use lib.Ieee.{Float, binary64, fits, div, ofInt}
 use lib.Ieee.Bits.{is-true}
 use lib.Ieee.Fits.{div-fits}
 use Rattle.base.specs.Numbers.{beyond-reach}
-use Rattle.base.specs.Said.{Said, gives, refuses, pick, andThen}
+use Rattle.base.specs.Said.{Said, gives}
 use Rattle.base.proofs.Said.{same-value}
 use Rattle.floats.specs.Ranges.{inReach}
-use Rattle.explog.specs.Rules.{E, inPowers, floorOf, powerOf}
-use Rattle.pitch.specs.Given.{computed}
+use Rattle.explog.specs.Rules.{E, inPowers}
 use Rattle.pitch.specs.Ratios.{centsF, fromOctaves}
 use Rattle.scl.specs.Items.{denomOf, ratioOf}
 use Rattle.scl.specs.declared.Item.{Item}

@@ -9,31 +9,30 @@ use lib.Dec.{eqb, ltb, lit≤}
 use lib.IntN.{ℤ, pos}
 use lib.ListN.{length, getD}
 use lib.Ieee.{Float, binary64, fits, le, lt, eq, mul, div, ofBits}
-use borrow.Author.Tests.{eqb-true, eqb-false, ltb-true, ltb-false}
+use borrow.Author.Tests.{eqb-true, eqb-false, ltb-false}
 use Rattle.base.specs.Numbers.{beyond-reach}
 use Rattle.base.specs.Said.{Said, gives, refuses, pick, andThen}
 use Rattle.floats.specs.Floats.{zeroF, oneF}
 use Rattle.floats.specs.Ranges.{inReach, inSearch}
-use Rattle.floats.proofs.Between.{within-more, within-reach, inverse-within}
+use Rattle.floats.proofs.Between.{within-more, within-reach, inverse-within, over-within}
 use Rattle.floats.proofs.Ranges.{Within, within-says, search-says}
-use Rattle.explog.specs.Rules.{L, logOf}
+use Rattle.explog.specs.Rules.{logOf}
 use Rattle.pitch.specs.Ratios.{inverse}
 use Rattle.sorting.specs.Entries.{Entry}
 use Rattle.sorting.proofs.Work.{All}
 use Rattle.sorted.specs.Lent.{ratiosOf, firstNotBelow}
-use Rattle.scl.specs.Items.{ratioOf, AllHeld}
+use Rattle.scl.specs.Items.{AllHeld}
 use Rattle.scl.specs.Table.{areUsable}
 use Rattle.scl.specs.declared.Item.{Item}
 use Rattle.scl.proofs.Items.{ratio-reach}
 use Rattle.reduction.specs.Reduce.{reducedBy}
 use Rattle.reduction.specs.declared.Reduced.{Reduced}
 use Rattle.reduction.proofs.Reaches.{log-gives, period-one, reduced-reaches}
-use Rattle.scl_tables.specs.Build.{lastOf, countOf}
 use Rattle.scl_tables.proofs.Beyond.{Given, Fine, Leaves, period-ratio}
 use Rattle.relative.specs.Scales.{noEntry}
 use Rattle.searching.specs.Search.{tolerance, choice, chosenOf, clamped, upperOf, indexOf, foundAt, nearestOf, searchOf}
 use Rattle.searching.proofs.Opened.{lastly, chosen-is, pickedAt, search-none, search-some}
-use Rattle.searching.proofs.Within.{div-within, mul-within}
+use Rattle.searching.proofs.Within.{mul-within}
 
 -- a step that goes on from a value
 on : {A B : Type 0} (s : Said A) (f : A → Said B) → Given s → ((a : A) → Given (f a)) → Given (andThen s f)
@@ -46,10 +45,10 @@ near-one = within-says 0 0 tolerance refl
 -- ---- of two neighbours
 module _ (lower upper target : Float) (l : Within 32 32 lower) (u : Within 32 32 upper) (t : Within 64 64 target) where
   up-within : Within 96 96 (div binary64 upper target)
-  up-within = div-within {a = 32} {b = 32} {c = 64} {d = 64} (lit≤ tt) (lit≤ tt) u t
+  up-within = over-within {a = 32} {b = 32} {c = 64} {d = 64} (lit≤ tt) (lit≤ tt) u t
 
   down-within : Within 96 96 (div binary64 target lower)
-  down-within = div-within {a = 64} {b = 64} {c = 32} {d = 32} (lit≤ tt) (lit≤ tt) t l
+  down-within = over-within {a = 64} {b = 64} {c = 32} {d = 32} (lit≤ tt) (lit≤ tt) t l
 
   bound-within : Within 97 96 (mul binary64 (div binary64 target lower) tolerance)
   bound-within = mul-within {a = 96} {b = 96} {c = 1} {d = 0} (lit≤ tt) (lit≤ tt) down-within near-one

@@ -10,7 +10,7 @@ use lib.Dec.{eqb}
 use lib.IntN.{ℤ, pos}
 use lib.ListN.{length, getD, length-map}
 use lib.Ieee.{Float, binary64, fits, lt, eq, mul, div}
-use borrow.Author.Tests.{ne-eqb, eq-eqb}
+use borrow.Author.Tests.{ne-eqb}
 use Rattle.base.specs.Numbers.{unusable, beyond-reach}
 use Rattle.base.specs.Said.{Said, gives, refuses, pick, andThen}
 use Rattle.base.proofs.Said.{One, Split, one-plain, same-value}

@@ -9,7 +9,7 @@ use lib.Signed.{mag}
 use Rattle.base.specs.Integers.{inI32, held}
 use Rattle.base.specs.Numbers.{overflow}
 use Rattle.base.specs.Said.{Said, gives, refuses, pick, andThen}
-use Rattle.base.proofs.Said.{One, one-result}
+use Rattle.base.proofs.Said.{One}
 use Rattle.key.specs.Keys.{key, stepsBetween}
 use Rattle.key.specs.declared.PianoKey.{PianoKey}
 use Rattle.pitch.specs.Answers.{saysPitch}
@@ -89,9 +89,6 @@ module _ (count : ℕ) (t : ItemTable) (it : isItems count t ≡ true) where
     maybe-pitch-of-degree-is d e = rw (it, o, u, e) refl
 
 -- ---- two results of one input are equal
-pub is-rooted-scale-one : (count : ℕ) (t : ItemTable) (l : ListTable) (root : KbmRoot) → One (λ r. r) (isScale count t l && isRoot root)
-is-rooted-scale-one count t l root = one-result (isScale count t l && isRoot root)
-
 pub pitch-of-one : (count : ℕ) (t : ItemTable) (root : KbmRoot) (d : ℤ) → One saysPitch (tested (isItems count t && isRoot root) (pitchOf (itemsIn count t) root d))
 pitch-of-one count t root d = pitch-one (tested (isItems count t && isRoot root) (pitchOf (itemsIn count t) root d))
 

@@ -1,7 +1,6 @@
 -- Which refusals the pitch of a key leaves once tables and root are usable: what refuses its degree, then 11 for the root offset, then 18.
 -- That the calls say no other is proofs/Theorems.antt. Assumes nothing.
 use mathlib.Core.Path.{_≡_}
-use Prim.Native.Nat.{ℕ}
 use lib.IntN.{ℤ}
 use lib.Ieee.{Float}
 use Rattle.base.specs.Numbers.{overflow, key-out-of-range, unmapped-key}
