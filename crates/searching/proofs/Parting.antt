@@ -4,7 +4,7 @@ use mathlib.Core.Bool.{Bool, true, false}
 use mathlib.Core.Logic.{_⊎_, inl, inr}
 use mathlib.Core.List.{List, [], _∷_}
 use Prim.Native.Nat.{ℕ, zero, suc, _-_, _≤_, _<_}
-use native.Mathlib.Nat.{le-of-suc-le-suc, not-suc-le-zero, eq-or-lt-of-le}
+use native.Mathlib.Nat.{eq-or-lt-of-le}
 use native.Mathlib.Omega.{arith}
 use lib.Dec.{eqb, ltb}
 use lib.ListN.{length, getD, length-map}
@@ -16,29 +16,12 @@ use Rattle.sorting.specs.Entries.{Entry}
 use Rattle.sorting.specs.Stable.{NeverFalls}
 use Rattle.sorted.specs.Lent.{ratiosOf, AllInReach, firstNotBelow}
 use Rattle.sorted.proofs.Search.{le-le}
+use Rattle.sorted.proofs.Theorems.{below-before, not-below-at}
 use Rattle.sorted.proofs.Usable.{reach-positive}
 use Rattle.searching.specs.Nearest.{ratioAt, Parts}
 use Rattle.searching.specs.Search.{upperOf}
 
--- every entry before the first not below is below
-pub below-before : (rs : List Float) (x : Float) (k : ℕ) → k < firstNotBelow rs x → lt (getD rs k nan) x ≡ true
-below-before [] x k h = absurd (not-suc-le-zero h)
-below-before (r ∷ rs) x k h = go (λ j. below-before rs x j) (lt r x) refl k h
-  where
-    go : ((j : ℕ) → j < firstNotBelow rs x → lt (getD rs j nan) x ≡ true) → (b : Bool) → lt r x ≡ b → (k : ℕ) → k < pick b (suc (firstNotBelow rs x)) 0 → lt (getD (r ∷ rs) k nan) x ≡ true
-    go more true e zero h = e
-    go more true e (suc k) h = more k (le-of-suc-le-suc h)
-    go more false e k h = absurd (not-suc-le-zero h)
-
--- and it is not
-pub not-below-at : (rs : List Float) (x : Float) → firstNotBelow rs x < length rs → lt (getD rs (firstNotBelow rs x) nan) x ≡ false
-not-below-at [] x h = absurd (not-suc-le-zero h)
-not-below-at (r ∷ rs) x h = go (not-below-at rs x) (lt r x) refl h
-  where
-    go : (firstNotBelow rs x < length rs → lt (getD rs (firstNotBelow rs x) nan) x ≡ false) → (b : Bool) → lt r x ≡ b → pick b (suc (firstNotBelow rs x)) 0 < suc (length rs) → lt (getD (r ∷ rs) (pick b (suc (firstNotBelow rs x)) 0) nan) x ≡ false
-    go more true e h = more (le-of-suc-le-suc h)
-    go more false e h = e
-
+-- the ratio at a place of the list, in its column
 pub ratio-at : (es : List Entry) (k : ℕ) → getD (ratiosOf es) k nan ≡ ratioAt es k
 ratio-at [] k = refl
 ratio-at (e ∷ es) zero = refl
