@@ -33,6 +33,14 @@ use Rattle.approximation.proofs.Theorems.{degree-search-one, key-search-one}
 use Rattle.finding.specs.Find.{computedSearch, pitchSearchFrom, pitchSearchOf}
 use Rattle.finding.specs.Says.{Finds, FindsPitch}
 
+-- the ratio of two pitches is an f64
+pub quotient-held : (first second x : Float) → betweenPitches first second ≡ gives x → fits binary64 x ≡ true
+quotient-held first second x e =
+    let q = div binary64 second first in
+    let p = pick-given (inReach first && inReach second) (computed q) unusable e in
+    let v = pick-given (inReach q) (gives q) beyond-reach (p .1) in
+    subst (λ (y : Float). fits binary64 y ≡ true) (same-value q x (v .1)) (is-true (fits binary64 q) (div-fits binary64 second first))
+
 -- ---- what an answer says: of a scale with items (one without is `search-says-none`)
 module _ (count : ℕ) (t : ItemTable) (l : ListTable) (some : 0 < count) (degree : Found → Said Approximation) (a : Approximation) where
   abbrev items : List Item
@@ -55,14 +63,6 @@ module _ (count : ℕ) (t : ItemTable) (l : ListTable) (some : 0 < count) (degre
       let p = pick-given (isScale count t l && inSearch x) (andThen (searchOf items es x) degree) unusable e in
       let u = both (isScale count t l) (inSearch x) (p .0) in
       ratio-finds x fx (u .0) (u .1) (p .1)
-
-  -- the ratio of two pitches is an f64
-  quotient-held : (first second x : Float) → betweenPitches first second ≡ gives x → fits binary64 x ≡ true
-  quotient-held first second x e =
-      let q = div binary64 second first in
-      let p = pick-given (inReach first && inReach second) (computed q) unusable e in
-      let v = pick-given (inReach q) (gives q) beyond-reach (p .1) in
-      subst (λ (y : Float). fits binary64 y ≡ true) (same-value q x (v .1)) (is-true (fits binary64 q) (div-fits binary64 second first))
 
   -- of a pitch
   pub pitch-finds : (root : KbmRoot) (pitch : Float) → tested (isScale count t l && (isRoot root && inPitch pitch)) (andThen (pitchSearchOf items es root pitch) degree) ≡ gives a → FindsPitch items es root pitch degree a

@@ -5,7 +5,8 @@ use mathlib.Core.Bool.{true}
 use mathlib.Core.List.{List}
 use lib.IntN.{ℤ}
 use lib.Ieee.{Float}
-use Rattle.base.specs.Said.{Said, gives}
+use Rattle.base.specs.Numbers.{overflow, beyond-reach}
+use Rattle.base.specs.Said.{Said, gives, refuses}
 use Rattle.floats.specs.Ranges.{inSearch}
 use Rattle.pitch.specs.Pitches.{betweenPitches}
 use Rattle.sorting.specs.Entries.{Entry}
@@ -32,3 +33,9 @@ pub record FindsPitch (items : List Item) (es : List Entry) (root : KbmRoot) (pi
   pub is-ratio : betweenPitches root-pitch pitch ≡ gives ratio
   pub in-search : inSearch ratio ≡ true
   pub finds : Finds items es ratio degree a
+
+-- ---- which refusals are left, once tables, root and target are usable: a degree or key, 11 or 18
+pub data Answers (s : Said Approximation) : Type 0 where
+  answered : (a : Approximation) → s ≡ gives a → Answers s
+  passed : s ≡ refuses overflow 0 → Answers s
+  beyond : s ≡ refuses beyond-reach 0 → Answers s

@@ -71,7 +71,7 @@ module _ (root : KbmRoot) where
 
 -- ---- refusals
 module _ (items : List Item) (hz : Float) (h : inReach hz ≡ true) where
-  root-reached : (at : ℤ) → Reached (rootPitch items hz at)
+  pub root-reached : (at : ℤ) → Reached (rootPitch items hz at)
   unfolding rootPitch
   root-reached at = and-reached (pitchOver hz) (relative-refusals items at) (λ x r. move (rw (h, r) refl) (computed-reached (div binary64 hz x)))
 

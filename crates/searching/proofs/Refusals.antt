@@ -39,20 +39,20 @@ use Rattle.searching.proofs.Given.{clamped-in}
 use Rattle.searching.proofs.Opened.{lastly, chosen-is, pickedAt}
 
 -- ---- steps
-move : {A : Type 0} {s t : Said A} → t ≡ s → OrBeyond s → OrBeyond t
+pub move : {A : Type 0} {s t : Said A} → t ≡ s → OrBeyond s → OrBeyond t
 move e (given a h) = given a (e ∙ h)
 move e (beyond h) = beyond (e ∙ h)
 
-value : {A : Type 0} (a : A) → OrBeyond (gives a)
+pub value : {A : Type 0} (a : A) → OrBeyond (gives a)
 value a = given a refl
 
 -- a step that goes on from a value
-on : {A B : Type 0} {s : Said A} (f : A → Said B) → OrBeyond s → ((a : A) → s ≡ gives a → OrBeyond (f a)) → OrBeyond (andThen s f)
+pub on : {A B : Type 0} {s : Said A} (f : A → Said B) → OrBeyond s → ((a : A) → s ≡ gives a → OrBeyond (f a)) → OrBeyond (andThen s f)
 on f (given a e) k = move (ap (λ t. andThen t f) e) (k a e)
 on f (beyond e) k = beyond (ap (λ t. andThen t f) e)
 
 -- a test that gives 18
-where-held : {A : Type 0} (b : Bool) {s : Said A} → OrBeyond s → OrBeyond (pick b s (refuses beyond-reach 0))
+pub where-held : {A : Type 0} (b : Bool) {s : Said A} → OrBeyond s → OrBeyond (pick b s (refuses beyond-reach 0))
 where-held true h = h
 where-held false h = beyond refl
 
@@ -69,7 +69,7 @@ log-or : (x : Float) → OrBeyond (L x)
 unfolding L
 log-or x = where-held (inReach x) (value (logOf x))
 
-computed-or : (x : Float) → OrBeyond (computed x)
+pub computed-or : (x : Float) → OrBeyond (computed x)
 computed-or x = where-held (inReach x) (value x)
 
 octaves-or : (x : Float) → OrBeyond (fromOctaves x)
