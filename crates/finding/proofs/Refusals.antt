@@ -3,13 +3,12 @@
 use mathlib.Core.Path.{_≡_, refl, _∙_, ap}
 use mathlib.Core.Bool.{Bool, true, false, _&&_}
 use mathlib.Core.List.{List}
-use Prim.Native.Nat.{ℕ, _<_}
+use Prim.Native.Nat.{ℕ}
 use lib.Dec.{lit≤}
-use lib.IntN.{ℤ, pos, negsuc, _+ℤ_, _-ℤ_, _*ℤ_}
+use lib.IntN.{ℤ, pos, _+ℤ_, _-ℤ_, _*ℤ_}
 use lib.Ieee.{Float, binary64, fits, div}
-use lib.Signed.{mag}
 use Rattle.base.specs.Integers.{inI32, held}
-use Rattle.base.specs.Numbers.{unusable, overflow}
+use Rattle.base.specs.Numbers.{overflow}
 use Rattle.base.specs.Said.{Said, gives, refuses, pick, andThen}
 use Rattle.floats.specs.Ranges.{inReach, inSearch, inPitch}
 use Rattle.floats.proofs.Between.{within-more, within-reach}
@@ -23,12 +22,12 @@ use Rattle.kbm.specs.Root.{isRoot}
 use Rattle.kbm.specs.declared.KbmRoot.{KbmRoot}
 use Rattle.relative.specs.Refusals.{Reached}
 use Rattle.relative.specs.Scales.{tested, isScale}
-use Rattle.rooted.specs.Pitches.{rootDegree, rootPitch}
+use Rattle.rooted.specs.Pitches.{rootPitch}
 use Rattle.rooted.proofs.Theorems.{root-reached}
 use Rattle.searching.specs.Refusals.{OrBeyond}
 use Rattle.searching.specs.Search.{searchOf}
 use Rattle.searching.specs.declared.Found.{Found}
-use Rattle.searching.proofs.Refusals.{move, on, where-held, computed-or, search-refusals}
+use Rattle.searching.proofs.Refusals.{move, on, computed-or, search-refusals}
 use Rattle.searching.proofs.Within.{search-reach}
 use Rattle.approximation.specs.Degrees.{approximation, declaredOf, ascendingOf, keyOf}
 use Rattle.approximation.specs.declared.Approximation.{Approximation}

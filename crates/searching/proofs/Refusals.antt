@@ -1,5 +1,5 @@
 -- A search in usable tables is refused by 18 alone. Assumes nothing.
-use mathlib.Core.Path.{_≡_, refl, sym, _∙_, ap, subst}
+use mathlib.Core.Path.{_≡_, refl, sym, _∙_, ap}
 use mathlib.Core.Bool.{Bool, true, false, _&&_}
 use mathlib.Core.List.{List}
 use Prim.Native.Nat.{ℕ, _-_, _≤_, _<_}
@@ -23,18 +23,15 @@ use Rattle.scl.specs.Items.{ratioOf}
 use Rattle.scl.specs.Table.{ItemTable, itemsIn, isItems}
 use Rattle.scl.specs.declared.Item.{Item}
 use Rattle.reduction.specs.Reduce.{reducedTo, reducedOctaves, reducedBy}
-use Rattle.reduction.specs.declared.Reduced.{Reduced}
 use Rattle.reduction.proofs.Reaches.{reduced-reach}
 use Rattle.scl_tables.specs.Build.{lastOf, countOf}
-use Rattle.relative.specs.Refusals.{Reached, reached}
+use Rattle.relative.specs.Refusals.{Reached}
 use Rattle.relative.specs.Scales.{noEntry}
-use Rattle.relative.proofs.Places.{items-count, list-at, list-length, list-count, ratio-reach}
+use Rattle.relative.proofs.Places.{items-count, list-at, list-count, ratio-reach}
 use Rattle.relative.proofs.Ratios.{item-held}
 use Rattle.relative.proofs.Refusals.{item-reached}
 use Rattle.searching.specs.Refusals.{OrBeyond, given, beyond}
 use Rattle.searching.specs.Search.{tolerance, choice, chosenOf, upperOf, foundAt, nearestOf, searchOf}
-use Rattle.searching.specs.declared.Choice.{Choice}
-use Rattle.searching.specs.declared.Found.{Found}
 use Rattle.searching.proofs.Given.{clamped-in}
 use Rattle.searching.proofs.Opened.{lastly, chosen-is, pickedAt}
 
