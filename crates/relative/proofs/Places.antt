@@ -1,7 +1,6 @@
 -- Usable lent tables: what stands at their places. Assumes nothing.
 use mathlib.Core.Path.{_≡_, refl, sym, _∙_, ap, subst}
 use mathlib.Core.Bool.{true}
-use mathlib.Core.List.{List}
 use Prim.Native.Nat.{ℕ, _+_, _-_, _≤_, _<_}
 use native.Mathlib.Omega.{arith}
 use lib.IntN.{pos}
@@ -9,7 +8,6 @@ use lib.ListN.{length, getD, take}
 use lib.Seq.{getD-take, length-take-le}
 use lib.Ieee.{Float, nan}
 use Rattle.floats.specs.Ranges.{inReach}
-use Rattle.sorting.specs.Entries.{Entry}
 use Rattle.sorting.specs.Stable.{NeverFalls}
 use Rattle.sorting.proofs.Columns.{length-zip, zip-at}
 use Rattle.sorted.specs.Lent.{ListTable, ratiosOf, listIn, AllInReach, isList, Listed}

@@ -3,7 +3,7 @@ use mathlib.Core.Path.{_≡_, refl, _∙_, ap}
 use mathlib.Core.Logic.{_⊎_, inl, inr}
 use mathlib.Core.Bool.{Bool, true, false}
 use mathlib.Core.List.{List}
-use Prim.Native.Nat.{ℕ, zero, suc, _≤_, _<_}
+use Prim.Native.Nat.{ℕ, zero, suc, _<_}
 use native.Mathlib.Omega.{arith}
 use lib.Dec.{eqb, leb, lit≤}
 use lib.IntN.{ℤ, pos, negsuc, _-ℤ_}
@@ -71,7 +71,7 @@ module _ (root : KbmRoot) where
 
 -- ---- refusals
 module _ (items : List Item) (hz : Float) (h : inReach hz ≡ true) where
-  root-reached : (at : ℤ) → Reached (rootPitch items hz at)
+  pub root-reached : (at : ℤ) → Reached (rootPitch items hz at)
   unfolding rootPitch
   root-reached at = and-reached (pitchOver hz) (relative-refusals items at) (λ x r. move (rw (h, r) refl) (computed-reached (div binary64 hz x)))
 

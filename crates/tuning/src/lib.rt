@@ -40,7 +40,7 @@ fn is_rooted(
 }
 
 // Whether all tables of a scale and a root can be used.
-pub fn is_rooted_scale(
+fn is_rooted_scale(
     kind: &[u8],
     cents: &[f64],
     numer: &[u32],
