@@ -1,2 +1,3 @@
+pub mod Items
 pub mod Made
 pub mod Theorems

@@ -4,12 +4,13 @@ use mathlib.Core.Bool.{Bool, true, false, _&&_}
 use mathlib.Core.List.{List, [], _∷_}
 use Prim.Native.Nat.{ℕ, zero, suc, _+_, _-_, _≤_, _<_}
 use native.Mathlib.Omega.{arith}
+use lib.Dec.{ltb}
 use lib.Ieee.{fits, le, lt, eq, neg, ofBits}
 use lib.ListN.{length}
-use borrow.Author.Tests.{lt-ltb, le-ltb, le-leb}
+use borrow.Author.Tests.{ltb-false, lt-ltb, le-ltb, le-leb}
 use Rattle.base.specs.Numbers.{no-room, beyond-reach}
 use Rattle.base.specs.Said.{Said, gives, refuses, pick, andThen}
-use Rattle.base.proofs.Said.{no-value, same-value}
+use Rattle.base.proofs.Said.{no-value, no-refusal, same-value}
 use Rattle.sorting.specs.Entries.{Entry}
 use Rattle.sorted.specs.Lent.{ListTable}
 use Rattle.scl.specs.Items.{isUsable, Held, AllHeld}
@@ -20,7 +21,8 @@ use Rattle.scl_tables.specs.Build.{lastOf, countOf, sortedOf, isBeyond, afterLi
 use Rattle.scl_tables.specs.Room.{roomOf}
 use Rattle.scl_tables.proofs.Beyond.{scale-looks}
 use Rattle.scl_tables.proofs.Theorems.{list-given}
-use Rattle.scl_build.specs.Builder.{acceptedOf}
+use Rattle.scl_build.specs.Builder.{state, builderOf, acceptedOf}
+use Rattle.scl_build.specs.declared.SclBuilder.{SclBuilder}
 use Rattle.scl_build.proofs.Theorems.{run-built}
 use Rattle.generate.specs.Generated.{runOf, listOf, madeOf, countedOf, itemsLeft, listLeft}
 
@@ -32,6 +34,22 @@ implicit-usable = refl
 pub implicit-held : Held implicit
 unfolding fits ofBits
 implicit-held = refl
+
+-- ---- a new builder, or one with no room
+module _ (t : ItemTable) (l : ListTable) where
+  pub begun : {b : SclBuilder} → gives b ≡ builderOf t l → b ≡ state (roomOf t l) 0
+  begun {b} e = go (ltb 0 (roomOf t l)) e
+    where
+      go : (x : Bool) → gives b ≡ pick x (gives (state (roomOf t l) 0)) (refuses no-room 0) → b ≡ state (roomOf t l) 0
+      go true q = same-value b (state (roomOf t l) 0) q
+      go false q = no-refusal q
+
+  pub begun-none : {n d : ℕ} → refuses n d ≡ builderOf t l → state 0 0 ≡ state (roomOf t l) 0
+  begun-none {n} {d} e = go (ltb 0 (roomOf t l)) refl e
+    where
+      go : (x : Bool) → ltb 0 (roomOf t l) ≡ x → refuses n d ≡ pick x (gives (state (roomOf t l) 0)) (refuses no-room 0) → state 0 0 ≡ state (roomOf t l) 0
+      go true h q = no-value q
+      go false h q = let z : 0 ≡ roomOf t l = omega (arith, ltb-false 0 (roomOf t l) h) in ap (λ (x : ℕ). state x 0) z
 
 -- ---- usable items with room are all accepted
 pub accepted-all : (places : ℕ) (is : List Item) → length is ≤ places → areUsable is ≡ true → acceptedOf places is ≡ is

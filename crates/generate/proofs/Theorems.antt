@@ -39,7 +39,7 @@ module _ (t : ItemTable) (l : ListTable) (is : List Item) (few : length is ≤ 6
     left = runOf t l is .table
 
     -- the build is accepted
-    listed : listOf t l is ≡ gives (some-list t l is few room usable held .0)
+    pub listed : listOf t l is ≡ gives (some-list t l is few room usable held .0)
     listed = list-looks t l is few room usable held ∙ rw within (some-list t l is few room usable held .1)
 
     held-left : AllHeld (itemsIn (b .count) left)
@@ -48,7 +48,7 @@ module _ (t : ItemTable) (l : ListTable) (is : List Item) (few : length is ≤ 6
     built-leaves : Built.Leaves b left l (gives (some-list t l is few room usable held .0))
     built-leaves = build-leaves b left l (some-list t l is few room usable held .0) held-left listed
 
-    count-is : b .count ≡ length is
+    pub count-is : b .count ≡ length is
     count-is = omega (arith, length-first (b .count + 1) left (items-roomy (b .count) left (built-leaves .items)), ap length left-items)
 
     -- WHAT IT LEAVES: place 0 and the items, tables that every later call takes
