@@ -1,2 +1,3 @@
 pub mod Casts
 pub mod Fractions
+pub mod Harmonics

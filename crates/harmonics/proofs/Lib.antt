@@ -1,0 +1,4 @@
+pub mod Pushes
+pub mod Sizes
+pub mod Reaches
+pub mod Plans
