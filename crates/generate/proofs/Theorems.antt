@@ -64,8 +64,7 @@ module _ (t : ItemTable) (l : ListTable) (is : List Item) (few : length is ≤ 6
   pub beyond-when : (madeOf t l (length is) (gives is) ≡ refuses beyond-reach 0) ↔ ((2 ≤ length is) × (ratioOf (lastOf (implicit ∷ is)) ≡ gives oneF))
   beyond-when =
       let k = beyond-reach-is (implicit ∷ is) (omega arith) (implicit-held, held) (all-usable t l is few room usable held) in
-      let n : countOf (implicit ∷ is) ≡ length is = omega arith in
-      (
+      let n : countOf (implicit ∷ is) ≡ length is = omega arith in (
         (λ e. let x = k .0 (scale-beyond e) in (omega (arith, x .0, n), x .1)),
         (λ x. made-beyond t l is few room usable held (is-beyond (k .1 (omega (arith, x .0, n), x .1)))),
       )

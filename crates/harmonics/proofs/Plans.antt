@@ -131,6 +131,19 @@ module _ (type : SegmentType) (start size : ℕ) (some : 0 < start) (s-small : s
           none zero w = (all-items f n 1 (λ j a b. absurd (omega arith)), sym (too-few n _ (omega (arith, w))))
           none (suc k) w = let z : 1 + n - 1 ≡ n = omega arith in no-value (ap (λ (s : Said (List Item)). andThen s goes) (sym (none-of f n 1 (omega (arith, w)) (ap f z ∙ q) (λ j a b. h j))) ∙ e)
 
+-- the look answers the steps themselves
+looked-same : (type : SegmentType) (start size n : ℕ) (steps other : Steps) → looked type start size n steps ≡ gives other → steps ≡ other
+unfolding looked
+looked-same type start size n steps other e = go (itemsFrom (itemAt type start size steps) 1 n) e
+  where
+    by : (b : Bool) → pick b (refuses beyond-reach 0) (gives steps) ≡ gives other → steps ≡ other
+    by true q = no-value q
+    by false q = same-value steps other q
+
+    go : (s : Said (List Item)) → andThen s (λ is. pick (isBeyond n (lastOf (implicit ∷ is))) (refuses beyond-reach 0) (gives steps)) ≡ gives other → steps ≡ other
+    go (gives is) q = by (isBeyond n (lastOf (implicit ∷ is))) q
+    go (refuses a d) q = no-value q
+
 -- ---- THE CALL
 module _ (t : ItemTable) (l : ListTable) (type : SegmentType) (start size : ℕ) (divisions : Divisions) where
   abbrev made : Said (List Item)
@@ -198,3 +211,44 @@ module _ (t : ItemTable) (l : ListTable) (type : SegmentType) (start size : ℕ)
           go (refuses x y) h q =
               let z = same-refuses q in
               made-by (ap (λ (s : Said Steps). andThen s (λ steps. itemsFrom (itemAt type start size steps) 1 (countOf size divisions))) h) ∙ made-refused t l (countOf size divisions) room ∙ rw (z .0, z .1)
+
+      -- what is written is what the definition leaves
+      pub plan-given : {steps : Steps} → gives steps ≡ planned type start size divisions → {x : Said ℕ} {t′ : ItemTable} {l′ : ListTable}
+          → x ≡ counted (runOf t l (saidFrom (itemAt type start size steps) 1 (countOf size divisions)) .builder) (listOf t l (saidFrom (itemAt type start size steps) 1 (countOf size divisions)))
+          → t′ ≡ runOf t l (saidFrom (itemAt type start size steps) 1 (countOf size divisions)) .table
+          → l′ ≡ afterList (listOf t l (saidFrom (itemAt type start size steps) 1 (countOf size divisions))) l
+          → (x ≡ countedOf made) × (t′ ≡ itemsLeft made t l) × (l′ ≡ listLeft made t l)
+      plan-given {steps} e {x} {t′} {l′} ex et el = go (stepsOf start size divisions) refl e
+        where
+          n : ℕ
+          n = countOf size divisions
+
+          all : Reaches size n steps → stepsOf start size divisions ≡ gives steps → looked type start size n steps ≡ gives steps → (x ≡ countedOf made) × (t′ ≡ itemsLeft made t l) × (l′ ≡ listLeft made t l)
+          all r h q =
+              let w = looked-given type start size some s-small z-small n small steps r q in
+              let m = w .0 in
+              let is = m .items in
+              let y : length is ≡ n = m .size in
+              let b : isBeyond (length is) (lastOf (implicit ∷ is)) ≡ false = ap (λ (k : ℕ). isBeyond k (lastOf (implicit ∷ is))) y ∙ w .1 in
+              let few : length is ≤ 65535 = omega (arith, y) in
+              let fit : length is < roomOf t l = omega (arith, y, room) in
+              let g : made ≡ gives is =
+              made-by (ap (λ (s : Said Steps). andThen s (λ steps. itemsFrom (itemAt type start size steps) 1 n)) h ∙ m .are)
+              ∙ ap (λ (k : ℕ). madeOf t l k (gives is)) (sym y) ∙ made-given t l is few fit (m .usable) (m .held) b in
+              let said : saidFrom (itemAt type start size steps) 1 n ≡ is = said-all (itemAt type start size steps) n 1 (m .are) in
+              let a = all-given t l g (et ∙ ap (λ (z : List Item). runOf t l z .table) said) (el ∙ ap (λ (z : List Item). afterList (listOf t l z) l) said) in (
+                ex ∙ ap (λ (z : List Item). counted (runOf t l z .builder) (listOf t l z)) said
+                    ∙ ap (counted (runOf t l is .builder)) (listed t l is few fit (m .usable) (m .held) b)
+                    ∙ ap gives (count-is t l is few fit (m .usable) (m .held) b) ∙ a .0,
+                a .1,
+                a .2,
+              )
+
+          go : (s : Said Steps) → stepsOf start size divisions ≡ s → gives steps ≡ andThen s (λ z. looked type start size n z) → (x ≡ countedOf made) × (t′ ≡ itemsLeft made t l) × (l′ ≡ listLeft made t l)
+          go (refuses a d) h q = no-refusal q
+          go (gives steps′) h q = by (looked-same type start size n steps′ steps (sym q))
+            where
+              by : steps′ ≡ steps → (x ≡ countedOf made) × (t′ ≡ itemsLeft made t l) × (l′ ≡ listLeft made t l)
+              by z =
+                  let h′ : stepsOf start size divisions ≡ gives steps = h ∙ ap gives z in
+                  all (steps-reach start size divisions steps h′) h′ (ap (looked type start size n) (sym z) ∙ sym q)

@@ -62,7 +62,15 @@ fn push_at(
         ≡ afterSaid (beside state (itemTable (now (kind .entry)) (now (cents .entry)) (now (numer .entry)) (now (denom .entry)))) (itemAt «segment_type» start size steps j) ⌝ }
 {
     match segment::fraction_at(segment_type, start, size, steps, j) {
-        FractionAnswer::Is(item) => pushed(state, kind, cents, numer, denom, item.numer, item.denom),
+        FractionAnswer::Is(item) => pushed(
+            state,
+            kind,
+            cents,
+            numer,
+            denom,
+            item.numer,
+            item.denom,
+        ),
         FractionAnswer::Refused(_) => state,
     }
 }
@@ -87,7 +95,18 @@ fn push_all(
     let mut i: u16 = 0;
     while i < n {
         i += 1;
-        builder = push_at(builder, kind, cents, numer, denom, segment_type, start, size, steps, i);
+        builder = push_at(
+            builder,
+            kind,
+            cents,
+            numer,
+            denom,
+            segment_type,
+            start,
+            size,
+            steps,
+            i,
+        );
     }
     builder
 }
@@ -115,7 +134,18 @@ fn write(
         ≡ afterList (listOf (itemTable (now (kind .entry)) (now (cents .entry)) (now (numer .entry)) (now (denom .entry))) (listTable (now (place .entry)) (now (ratio .entry)) (now (wraps .entry))) (saidFrom (itemAt «segment_type» start size steps) 1 n)) (listTable (now (place .entry)) (now (ratio .entry)) (now (wraps .entry))) ⌝ }
 {
     let state = generate::begin(kind, cents, numer, denom, place, ratio, wraps);
-    let builder = push_all(state, kind, cents, numer, denom, segment_type, start, size, steps, n);
+    let builder = push_all(
+        state,
+        kind,
+        cents,
+        numer,
+        denom,
+        segment_type,
+        start,
+        size,
+        steps,
+        n,
+    );
     builder.build(kind, cents, numer, denom, place, ratio, wraps)
 }
 
@@ -147,7 +177,13 @@ fn plan(segment_type: SegmentType, start: u16, size: u16, divisions: Divisions) 
     match segment::steps_of(start, size, divisions) {
         StepsAnswer::Refused(refusal) => StepsAnswer::Refused(refusal),
         StepsAnswer::Is(steps) => {
-            look(segment_type, start, size, steps, segment::count_of(size, divisions))
+            look(
+                segment_type,
+                start,
+                size,
+                steps,
+                segment::count_of(size, divisions),
+            )
         }
     }
 }
