@@ -2,3 +2,4 @@ pub mod Pushes
 pub mod Sizes
 pub mod Reaches
 pub mod Plans
+pub mod Theorems
