@@ -6,7 +6,7 @@ use native.Mathlib.Omega.{arith}
 use lib.Dec.{leb, lit<, lit≤}
 use lib.IntN.{pos}
 use lib.Ieee.{Float, binary64, fits, mul, neg, ofInt, ofBits}
-use borrow.Author.Tests.{le-leb, lt-leb}
+use borrow.Author.Tests.{le-leb, lt-leb, eq-eqb, ne-eqb}
 use Rattle.base.specs.Said.{Said, gives, refuses, pick}
 use Rattle.base.proofs.Said.{same-value, no-refusal}
 use Rattle.floats.specs.Ranges.{inReach, inGenerator}
@@ -19,7 +19,7 @@ use Rattle.pitch.specs.Ratios.{twelveF, hundredF, asCents, fromCents}
 use Rattle.scl.specs.Items.{isUsableCents}
 use Rattle.scl.proofs.Items.{cents-ratio}
 use Rattle.notes.specs.Asked.{SomeCents}
-use Rattle.notes.specs.Notes.{float, generationAt, boundedAt, noteAt}
+use Rattle.notes.specs.Notes.{float, generationAt, boundedAt, noteAt, pitchAt}
 use Rattle.notes.proofs.Sizes.{mul-sized, usable-sized, sized-usable, bounded-sized}
 
 -- ---- cents
@@ -90,3 +90,10 @@ module _ (generator period : Float) (g : isUsableCents generator ≡ true) (p : 
 
   pub note-never : {n d : ℕ} {X : Type 0} → refuses n d ≡ noteAt generator period positive i → X
   note-never e = no-refusal (sym (cents-ratio (boundedAt generator period positive i) bounded-usable .is) ∙ sym e)
+
+-- ---- pitch values: the period, then the notes
+pub pitch-first : (ratio generator period : Float) (positive i : ℕ) → i ≡ 0 → gives ratio ≡ pitchAt ratio generator period positive i
+pitch-first ratio generator period positive i h = rw (eq-eqb i 0 h)
+
+pub pitch-later : (ratio generator period : Float) (positive i : ℕ) {s : Said Float} → (i ≡ 0 → ⊥) → s ≡ noteAt generator period positive i → s ≡ pitchAt ratio generator period positive i
+pitch-later ratio generator period positive i h e = rw (ne-eqb i 0 h) e

@@ -1,2 +1,4 @@
 pub mod Sizes
 pub mod Given
+pub mod Heights
+pub mod Ascends
