@@ -31,18 +31,18 @@ hundred-sized : Sized 100 hundredF
 unfolding ofBits
 hundred-sized = sized false 25 (pos 2) (lit≤ tt)
 
-log-said : (x : Float) → inReach x ≡ true → L x ≡ gives (logOf x)
+pub log-said : (x : Float) → inReach x ≡ true → L x ≡ gives (logOf x)
 unfolding L
 log-said x h = rw h
 
 module _ (r : Float) (held : fits binary64 r ≡ true) (g : inGenerator r ≡ true) where
-  reach : inReach r ≡ true
+  pub reach : inReach r ≡ true
   reach = within-reach (within-more (lit≤ tt) (lit≤ tt) (generator-says r g))
 
   abbrev cents : Float
   cents = mul binary64 (mul binary64 (logOf r) twelveF) hundredF
 
-  cents-said : asCents r ≡ gives cents
+  pub cents-said : asCents r ≡ gives cents
   cents-said = rw (reach, log-said r reach)
 
   cents-usable : isUsableCents cents ≡ true

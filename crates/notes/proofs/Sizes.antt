@@ -46,7 +46,7 @@ zero-level : (s : Bool) → (lib.Dec.eqb 0 0 && (mathlib.Core.Bool._||_ (mathlib
 zero-level true q = subst T q tt
 zero-level false q = subst T q tt
 
-not-zero : (s : Bool) (m : ℕ) (e : ℤ) → eq (fin s m e) Zero ≡ false → m ≡ 0 → ⊥
+pub not-zero : (s : Bool) (m : ℕ) (e : ℤ) → eq (fin s m e) Zero ≡ false → m ≡ 0 → ⊥
 unfolding eq
 not-zero s m e h z =
     let x : m * up e * 1 ≡ 0 = omega (arith, ap (λ (k : ℕ). k * up e) z, zero-mul (up e)) in
