@@ -94,6 +94,11 @@ impl Columns {
         }
     }
 
+    /// The places of the shortest column.
+    pub fn room(&self) -> usize {
+        [self.kind.len(), self.cents.len(), self.numer.len(), self.denom.len(), self.place.len(), self.ratio.len(), self.wraps.len()].into_iter().min().unwrap()
+    }
+
     pub fn put_items(&mut self, from: usize, items: &[Item]) {
         for (k, item) in items.iter().enumerate() {
             (self.kind[from + k], self.cents[from + k], self.numer[from + k], self.denom[from + k]) = item.row();

@@ -32,6 +32,10 @@ mod raw {
         with_items!(telbijan_pitch_of_key(count: u16, reference: i32, hz: f64, offset: i32, key: i32, pitch: *mut f64));
         with_items!(telbijan_maybe_pitch_of(count: u16, map: *const i32, entries: usize, size: u16, start: i32, end: i32, reference: i32, hz: f64, offset: i32, octave: i16, key: i32, pitch: *mut f64));
         with_items!(telbijan_maybe_pitch_of_degree(count: u16, map: *const i32, entries: usize, size: u16, start: i32, end: i32, reference: i32, hz: f64, offset: i32, octave: i16, degree: i32, pitch: *mut f64));
+        with_items!(telbijan_pitches_of(
+            count: u16, map: *const i32, entries: usize, size: u16, start: i32, end: i32, reference: i32, hz: f64, offset: i32, octave: i16, first: i32, keys: u32, pitches: *mut f64, pitches_length: usize,
+            numbers: *mut u32, numbers_length: usize
+        ));
         with_scale!(telbijan_sorted_relative_pitch_of(count: u16, degree: i32, relative: *mut f64));
         with_scale!(telbijan_sorted_pitch_of(count: u16, reference: i32, hz: f64, offset: i32, degree: i32, pitch: *mut f64));
         with_scale!(telbijan_find_by_relative_pitch(count: u16, target: f64, degree: *mut i32, deviation: *mut f64));
@@ -114,6 +118,16 @@ pub fn maybe_pitch_of(c: &Columns, count: u16, m: Mapping, map: &[i32], key: i32
 
 pub fn maybe_pitch_of_degree(c: &Columns, count: u16, m: Mapping, map: &[i32], degree: i32) -> (Code, Float) {
     items_call!(c, telbijan_maybe_pitch_of_degree(count, map.as_ptr(), map.len(), m.count, m.start, m.end, m.reference, m.pitch(), m.offset, m.octave, degree))
+}
+
+/// A run of keys, into pitches that are lent as their bits and numbers.
+pub fn pitches_of(c: &Columns, count: u16, m: Mapping, map: &[i32], first: i32, keys: u32, pitches: &mut [u64], numbers: &mut [u32]) -> Code {
+    Code(unsafe {
+        raw::telbijan_pitches_of(
+            c.kind.as_ptr(), c.kind.len(), c.cents.as_ptr().cast(), c.cents.len(), c.numer.as_ptr(), c.numer.len(), c.denom.as_ptr(), c.denom.len(), count, map.as_ptr(), map.len(), m.count, m.start,
+            m.end, m.reference, m.pitch(), m.offset, m.octave, first, keys, pitches.as_mut_ptr().cast(), pitches.len(), numbers.as_mut_ptr(), numbers.len(),
+        )
+    })
 }
 
 pub fn find_by_relative_pitch(c: &Columns, count: u16, target: f64) -> (Code, Found) {

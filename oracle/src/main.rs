@@ -10,7 +10,9 @@ mod bench;
 mod differences;
 mod differences_kbm;
 mod differences_scl;
+mod differences_tuning;
 mod ffi;
+mod ffi_generators;
 mod ffi_kbm;
 mod ffi_scl;
 mod ffi_tuning;
@@ -20,6 +22,7 @@ mod freeze_kbm;
 mod freeze_numbers;
 mod freeze_scl;
 mod freeze_text;
+mod generators;
 mod inputs;
 mod kbm_build;
 mod kbm_read;
@@ -89,6 +92,7 @@ fn compare() -> ExitCode {
     kbm_use::compare(&mut all);
     kbm_build::compare(&mut all);
     tuning::compare(&mut all);
+    generators::compare(&mut all);
     differences::compare(&mut all);
     untouched::report();
     all.verdict()

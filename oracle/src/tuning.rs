@@ -1,12 +1,13 @@
 //! Pitches and searches, ours beside the rules and the Rust: scales that the Rust built, mappings, keys, degrees and targets; and lent
 //! tables that no build leaves, by the rules alone.
 
+use crate::ffi::OLD_U32;
 use crate::ffi_kbm::Mapping;
 use crate::ffi_scl::{Columns, Item};
 use crate::ffi_tuning::{self as ffi, Found, OLD_FOUND};
 use crate::inputs::{Random, f64_limits};
 use crate::kbm_use::is_wrong;
-use crate::lent::Float;
+use crate::lent::{self, Float};
 use crate::rules_tuning::{self as rules, Answer, Root};
 use crate::tally::{Code, Report, Said, Tally, Who, caught};
 use crate::{rules as keys, rules_scl, rust_kbm, rust_scl, scl_build};
@@ -43,7 +44,7 @@ impl Built {
 }
 
 /// What the Rust answers, where it asks E and L only inside their domain.
-fn asked<T>(call: impl FnOnce() -> T) -> Option<T> {
+pub fn asked<T>(call: impl FnOnce() -> T) -> Option<T> {
     powers::left_domain();
     let answer = caught(call);
     if powers::left_domain() { None } else { answer }
@@ -427,10 +428,46 @@ pub fn compare(all: &mut Report) {
             }
         });
     });
+    runs(all);
     searches(all);
     fixed(all);
     lent_wrong(all);
     lent_strange(all);
+}
+
+/// Runs of keys: each key as the single call, the places behind it and the pitch of a refused key as they were.
+fn runs(all: &mut Report) {
+    all.function("pitches_of, a run of keys", &[10, 12], |tally| {
+        over(tally, 55, 1, |tally, random, b| {
+            let (m, map, kbm) = random_mapping(random);
+            let first = [m.reference.saturating_sub(20), 0, i32::MAX - 5, i32::MIN, random.i32()][random.next() as usize % 5];
+            let (keys, places) = (random.next() as u32 % 40, random.next() as usize % 44);
+            let (old, mut numbers) = (lent::column(places), vec![OLD_U32; places + random.next() as usize % 3]);
+            let mut pitches = old.clone();
+            let code = ffi::pitches_of(&b.columns, b.count, m, &map, first, keys, &mut pitches, &mut numbers);
+            if keys as usize > places {
+                tally.same((keys, places), (code, (pitches, numbers.clone())), Said::refused(Who::Rules, 12, 0, (old, vec![OLD_U32; numbers.len()])));
+                return;
+            }
+            let (mut said, mut refused, mut who) = (old, vec![OLD_U32; numbers.len()], Who::Rules);
+            for k in 0..keys as usize {
+                let key = i64::from(first) + k as i64;
+                let one = i32::try_from(key).map_or(Said::refused(Who::Rules, 11, 0, Float::Untouched), |key| maybe_pitch(b, m, &map, &kbm, key));
+                refused[k] = one.code.number() as u32;
+                if let Float::Is(bits) = one.value {
+                    (said[k], who) = (bits, Who::Second);
+                }
+            }
+            tally.same((m, first, keys), (code, (pitches, numbers)), Said::gives(who, (said, refused)));
+        });
+        // tables that cannot be used, before a slice that is too short
+        for ((c, count), part) in bad_tables() {
+            let m = Mapping { count: 0, start: 0, end: 128, reference: 60, hz: Float::of(440.0), offset: 0, octave: 0 };
+            let (old, mut pitches, mut numbers) = (vec![7; 3], vec![7; 3], vec![OLD_U32; 3]);
+            let code = ffi::pitches_of(&c, count, m, &[], 60, 4, &mut pitches, &mut numbers);
+            tally.same(part, (code, (pitches, numbers)), Said::refused(Who::Rules, if part == 0 { 10 } else { 12 }, 0, (old, vec![OLD_U32; 3])));
+        }
+    });
 }
 
 /// A mapping with its root in the range of 01, over all keys or some.
