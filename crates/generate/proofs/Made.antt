@@ -5,7 +5,7 @@ use mathlib.Core.List.{List, [], _∷_}
 use Prim.Native.Nat.{ℕ, zero, suc, _+_, _-_, _≤_, _<_}
 use native.Mathlib.Omega.{arith}
 use lib.Dec.{ltb}
-use lib.Ieee.{fits, le, lt, eq, neg, ofBits}
+use lib.Ieee.{le, lt, eq, neg, ofBits}
 use lib.ListN.{length}
 use borrow.Author.Tests.{ltb-false, lt-ltb, le-ltb, le-leb}
 use Rattle.base.specs.Numbers.{no-room, beyond-reach}
@@ -32,8 +32,7 @@ unfolding le lt eq neg ofBits
 implicit-usable = refl
 
 pub implicit-held : Held implicit
-unfolding fits ofBits
-implicit-held = refl
+implicit-held = tt
 
 -- ---- a new builder, or one with no room
 module _ (t : ItemTable) (l : ListTable) where

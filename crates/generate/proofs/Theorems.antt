@@ -45,7 +45,7 @@ module _ (t : ItemTable) (l : ListTable) (is : List Item) (few : length is ≤ 6
     held-left : AllHeld (itemsIn (b .count) left)
     held-left = rw left-items (implicit-held, held)
 
-    built-leaves : Built.Leaves b left l (gives (some-list t l is few room usable held .0))
+    built-leaves : Built.Leaves (b .count) left (afterList (gives (some-list t l is few room usable held .0)) l)
     built-leaves = build-leaves b left l (some-list t l is few room usable held .0) held-left listed
 
     pub count-is : b .count ≡ length is

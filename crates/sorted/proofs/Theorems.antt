@@ -42,6 +42,9 @@ pub arrange-one : (place : List ℕ) (ratio : List Float) (wraps : List ℤ) {ps
     → (ps ≡ ps′) × (rs ≡ rs′) × (ws ≡ ws′)
 arrange-one place ratio wraps = columns-one (arranged (zip (from 0 (length place)) ratio wraps))
 
+pub number-one : (place : List ℕ) → One (λ r. r) (from 0 (length place))
+number-one place = one-result (from 0 (length place))
+
 pub is-list-one : (t : ListTable) (count : ℕ) → One (λ r. r) (isList count t)
 is-list-one t count = one-result (isList count t)
 
