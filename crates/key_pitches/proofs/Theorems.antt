@@ -33,11 +33,14 @@ module _ (count : ℕ) (t : ItemTable) (kbm : Kbm) (map : List ℤ) (keys hz num
   pitches-of-numbers f l = one-result (afterNumbers (runOf count t kbm map keys hz numbers) f keys l)
 
 -- ---- each key of the run, with f k what the single call says of it (`keyPitches`)
+at-most : {k n : ℕ} → k < suc n → k ≤ n
+at-most h = omega (arith, h)
+
 -- beside it stands its number
 pub number-at : (f : ℕ → Said Float) (n : ℕ) (l : List ℕ) (k : ℕ) → k < n → n ≤ length l → getD (numbersTo f n l) k 0 ≡ numberOf (f k)
 unfolding numbersTo
 number-at f zero l k h r = absurd (omega (arith, h))
-number-at f (suc n) l k h r = elim (eq-or-lt-of-le {m = k} {n = n} (omega (arith, h))) [
+number-at f (suc n) l k h r = elim (eq-or-lt-of-le (at-most h)) [
   | inl e ↦ rw (e, getD-set-same (numbersTo f n l) n (numberOf (f n)) 0 (omega (arith, r, numbersTo-length f n l)))
   | inr lt ↦ rw (getD-set-other (numbersTo f n l) n k (numberOf (f n)) 0 (λ e. omega (arith, e, lt))) (number-at f n l k lt (omega (arith, r)))
 ]
@@ -64,7 +67,7 @@ later-leaves f (suc n) l k h = sounded-there (f n) n k (soundedTo f n l) (λ e. 
 pub pitch-at : (f : ℕ → Said Float) (n : ℕ) (l : List Float) (k : ℕ) → k < n → n ≤ length l → getD (soundedTo f n l) k nan ≡ heard (f k) (getD l k nan)
 unfolding soundedTo
 pitch-at f zero l k h r = absurd (omega (arith, h))
-pitch-at f (suc n) l k h r = elim (eq-or-lt-of-le {m = k} {n = n} (omega (arith, h))) [
+pitch-at f (suc n) l k h r = elim (eq-or-lt-of-le (at-most h)) [
   | inl e ↦ rw (e, sounded-here (f n) n (soundedTo f n l) (omega (arith, r, soundedTo-length f n l)), later-leaves f n l n (omega arith))
   | inr lt ↦ sounded-there (f n) n k (soundedTo f n l) (λ e. omega (arith, e, lt)) ∙ pitch-at f n l k lt (omega (arith, r))
 ]
