@@ -268,6 +268,11 @@ uint64_t telbijan_maybe_pitch_of(const uint8_t *kind, size_t kind_length, const 
 /* The same of the key so many steps above the reference key: 11 where that key passes 32 bits, after 10. */
 uint64_t telbijan_maybe_pitch_of_degree(const uint8_t *kind, size_t kind_length, const double *cents, size_t cents_length, const uint32_t *numer, size_t numer_length, const uint32_t *denom, size_t denom_length, uint16_t count, const int32_t *map, size_t map_length, uint16_t size, int32_t start, int32_t end, int32_t reference, double hz, int32_t offset, int16_t octave, int32_t degree, double *pitch);
 
+/* The pitches of `keys` keys of a mapping, from key `first` on, and beside each its refusal's number, 0 for a pitch: 10 for tables or a
+   root's pitch that cannot be used, 12 where a slice is shorter than the run. Else each key answers as telbijan_maybe_pitch_of does, and
+   11 where there is no such key; a refused key's pitch stays as it was, and so do the places behind the run. The tables are tested once. */
+uint64_t telbijan_pitches_of(const uint8_t *kind, size_t kind_length, const double *cents, size_t cents_length, const uint32_t *numer, size_t numer_length, const uint32_t *denom, size_t denom_length, uint16_t count, const int32_t *map, size_t map_length, uint16_t size, int32_t start, int32_t end, int32_t reference, double hz, int32_t offset, int16_t octave, int32_t first, uint32_t keys, double *pitches, size_t pitches_length, uint32_t *numbers, size_t numbers_length);
+
 /* ---- Searches for C: the degree or key that comes nearest to a ratio or a pitch, over a scale's lent columns. */
 
 /* The degree whose relative pitch comes nearest to a ratio, and how far the ratio lies above it, a ratio, both stored: 10 for items or a
@@ -288,6 +293,14 @@ uint64_t telbijan_find_by_pitch_sorted(const uint8_t *kind, size_t kind_length, 
 
 /* The key whose pitch comes nearest, that degree above the reference key, in the same way; 11 where the key passes 32 bits too. */
 uint64_t telbijan_find_key_by_pitch(const uint8_t *kind, size_t kind_length, const double *cents, size_t cents_length, const uint32_t *numer, size_t numer_length, const uint32_t *denom, size_t denom_length, const uint32_t *place, size_t place_length, const double *ratio, size_t ratio_length, const int32_t *wraps, size_t wraps_length, uint16_t count, int32_t reference, double hz, int32_t offset, double pitch, int32_t *number, double *deviation);
+
+/* ---- Scales that are computed, for C: segments of the harmonic series. They are written into a scale's seven lent columns. */
+
+/* A scale from a segment of the harmonic series, its items and its sorted list written as a builder would, its count of items stored.
+   `otonal`: the harmonics start + 1 to start + size over start; else start + size over start + size - 1 down to start. `divided`: the
+   harmonics nearest to so many equal divisions of the segment. 10 for start 0, 12 where a column has no place for all items and place
+   0, 18 for 0 divisions and where two or more items have the period 1.0. */
+uint64_t telbijan_create_harmonics_scale(bool otonal, uint16_t start, uint16_t size, bool divided, uint16_t divisions, uint8_t *kind, size_t kind_length, double *cents, size_t cents_length, uint32_t *numer, size_t numer_length, uint32_t *denom, size_t denom_length, uint32_t *place, size_t place_length, double *ratio, size_t ratio_length, int32_t *wraps, size_t wraps_length, uint16_t *count);
 
 #ifdef __cplusplus
 }
