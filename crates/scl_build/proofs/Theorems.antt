@@ -122,7 +122,7 @@ module _ (b : SclBuilder) (t : ItemTable) (l : ListTable) (es : List Entry) wher
       go true e = never e refl
       go false e = e
 
-  sized-given : (items : List Item) → sizedOf items ≡ gives es → (countOf items ≤ 65535) × (sortedOf items ≡ gives es)
+  pub sized-given : (items : List Item) → sizedOf items ≡ gives es → (countOf items ≤ 65535) × (sortedOf items ≡ gives es)
   sized-given items e = go (leb (countOf items) 65535) refl e
     where
       go : (x : Bool) → leb (countOf items) 65535 ≡ x → pick x (scaleOf items) (refuses too-large 0) ≡ gives es → (countOf items ≤ 65535) × (sortedOf items ≡ gives es)

@@ -1,0 +1,4 @@
+pub mod Again
+pub mod Builds
+pub mod Columns
+pub mod Stored
