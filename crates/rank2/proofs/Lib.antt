@@ -1,0 +1,4 @@
+pub mod Values
+pub mod Pushes
+pub mod Behind
+pub mod Calls
