@@ -84,7 +84,8 @@ fn fields(push: Push) -> String {
     }
 }
 
-/// A run: a new builder, each push, and the build.
+/// A run: a new builder, each push, and the build. What the columns hold at the end is the Rust's where it builds (`built`), else the
+/// rules'.
 fn build(list: &mut List, room: usize, pushes: &[Push]) {
     let call = format!("build {room} {} n - -{}", pushes.len() + 1, pushes.iter().map(|&push| format!(" {}", fields(push))).collect::<String>());
     let mut columns = lent(room);

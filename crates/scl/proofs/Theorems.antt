@@ -3,7 +3,8 @@ use mathlib.Core.Path.{_≡_, refl}
 use mathlib.Core.Logic.{inl, inr}
 use mathlib.Core.Bool.{true}
 use Prim.Native.Nat.{ℕ}
-use lib.Ieee.{Float}
+use lib.Ieee.{Float, nan}
+use lib.ListN.{getD}
 use Rattle.base.specs.Said.{Said}
 use Rattle.base.proofs.Said.{One, Split, one-result, one-answer}
 use Rattle.pitch.specs.Answers.{saysRatio}
@@ -44,8 +45,8 @@ as-ratio-one i = ratio-one (ratioOf i)
 pub item-of-one : (kind : ℕ) (cents : Float) (numer denom : ℕ) → One (λ r. r) (itemOf kind cents numer denom)
 item-of-one kind cents numer denom = one-result (itemOf kind cents numer denom)
 
-pub item-at-one : (kind : ℕ) (cents : Float) (numer denom : ℕ) → One (λ r. r) (itemOf kind cents numer denom)
-item-at-one kind cents numer denom = one-result (itemOf kind cents numer denom)
+pub item-at-one : (t : ItemTable) (i : ℕ) → One (λ r. r) (itemOf (getD (t .kinds) i 0) (getD (t .cents) i nan) (getD (t .numers) i 0) (getD (t .denoms) i 0))
+item-at-one t i = one-result (itemOf (getD (t .kinds) i 0) (getD (t .cents) i nan) (getD (t .numers) i 0) (getD (t .denoms) i 0))
 
 pub is-items-one : (t : ItemTable) (count : ℕ) → One (λ r. r) (isItems count t)
 is-items-one t count = one-result (isItems count t)

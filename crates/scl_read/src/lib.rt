@@ -1,7 +1,7 @@
 // The reader of scales. Document 01, "Lines" and "Scale"; the Rust's `import_scl`.
 //
 // A first pass goes over the lines and finds the scale or the first fault; a second, which cannot fail, writes the items, and the
-// sorted list is built of them.
+// sorted list is built of them; a third, to the first line with content, finds the description (`description_of`).
 use base::Refusal;
 use scl::Item;
 use scl::Scl;

@@ -141,7 +141,7 @@ fn are_within(place: &[u32], n: usize, count: usize) -> bool
 }
 
 // Whether the columns hold the list of `count` items: place 0 and a place for each, ratios in 2^-900..2^900 that never fall, places
-// within the count. Each column is gone over once.
+// within the count. Ratios and places are gone over once each; of the wraparounds only the number is looked at.
 pub fn is_list(place: &[u32], ratio: &[f64], wraps: &[i32], count: usize) -> bool
     ensures { λ r. ⌜ r ≡ isList count (listTable (now (place .entry)) (now (ratio .entry)) (now (wraps .entry))) ⌝ }
 {

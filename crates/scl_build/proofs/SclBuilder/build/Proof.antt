@@ -34,7 +34,7 @@ returns : tie.Need-returns
 returns c =
     let args = c .before .before .before .before .before .before .before .before .before .before .before .before .args in
     comes-too (args .self) (itemTable (args .kind .now) (args .cents .now) (args .numer .now) (args .denom .now)) (listTable (args .place .now) (args .ratio .now) (args .wraps .now)) (typed (c .before .before .before .before .before .before .before .before))
-    (build-refused (args .self) (itemTable (args .kind .now) (args .cents .now) (args .numer .now) (args .denom .now)) (listTable (args .place .now) (args .ratio .now) (args .wraps .now)) (too-many (args .self) (itemTable (args .kind .now) (args .cents .now) (args .numer .now) (args .denom .now)) (listTable (args .place .now) (args .ratio .now) (args .wraps .now)) (sym (c .before .before .is-ready .ensures) ∙ c .before .if1 .taken) (c .if2 .taken)))
+    (build-refused (args .self) (itemTable (args .kind .now) (args .cents .now) (args .numer .now) (args .denom .now)) (listTable (args .place .now) (args .ratio .now) (args .wraps .now)) (too-many (args .self) (itemTable (args .kind .now) (args .cents .now) (args .numer .now) (args .denom .now)) (listTable (args .place .now) (args .ratio .now) (args .wraps .now)) (sym (c .before .before .is-ready .ensures) ∙ c .before .if1 .taken) (omega (arith, c .if2 .taken))))
 
 item-at-requires : tie.Need-item-at-requires
 item-at-requires c κs =
