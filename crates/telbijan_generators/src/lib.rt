@@ -1,4 +1,5 @@
-// Scales that are computed, for C: segments of the harmonic series. They are written into a scale's seven lent columns.
+// Scales that are computed, for C: segments of the harmonic series and rank-2 temperaments. They are written into a scale's seven lent columns.
+use pitch::Ratio;
 use scl::SclAnswer;
 use segment::Divisions;
 use segment::SegmentType;
@@ -7,6 +8,7 @@ ghost use Rattle.scl.specs.Table.{itemTable};
 ghost use Rattle.sorted.specs.Lent.{listTable};
 ghost use Rattle.generate.specs.Generated.{countedOf, itemsLeft, listLeft};
 ghost use Rattle.harmonics.specs.Harmonics.{madeHarmonics};
+ghost use Rattle.rank2.specs.Rank2.{madeRank2};
 ghost use Rattle.telbijan_answers.specs.Interface.{result, kept};
 ghost use Rattle.telbijan_generators.specs.Generators.{segmentWith, divisionsWith};
 
@@ -64,6 +66,52 @@ pub extern "C" fn telbijan_create_harmonics_scale(
         start,
         size,
         into,
+        kind,
+        cents,
+        numer,
+        denom,
+        place,
+        ratio,
+        wraps,
+    ) {
+        SclAnswer::Is(scl) => {
+            let items = scl.count;
+            *count = items;
+            0
+        }
+        SclAnswer::Refused(refusal) => telbijan_answers::code_of(refusal),
+    }
+}
+
+// A scale from a rank-2 temperament: the period, and so many generations of the generator up and down, each within the period, in
+// ascending order; its items, in cents, and its sorted list written as a builder would, its count of items stored. 13 for over 65,535
+// items, 10 for a generator or a period outside 2^-32..2^32 or a period of 1.0, 12 where a column has no place for all items and place
+// 0, 18 where two or more items have the period 1.0.
+#[no_mangle]
+pub extern "C" fn telbijan_create_rank2_temperament_scale(
+    generator: f64,
+    positive: u16,
+    negative: u16,
+    period: f64,
+    kind: &mut [u8],
+    cents: &mut [f64],
+    numer: &mut [u32],
+    denom: &mut [u32],
+    place: &mut [u32],
+    ratio: &mut [f64],
+    wraps: &mut [i32],
+    count: &mut u16,
+) -> u64
+    ensures { λ r. ⌜ r ≡ result (countedOf (madeRank2 (itemTable (now (kind .entry)) (now (cents .entry)) (now (numer .entry)) (now (denom .entry))) (listTable (now (place .entry)) (now (ratio .entry)) (now (wraps .entry))) generator positive negative period)) ⌝ }
+    ensures { λ _. ⌜ itemTable (now (kind .exit)) (now (cents .exit)) (now (numer .exit)) (now (denom .exit)) ≡ itemsLeft (madeRank2 (itemTable (now (kind .entry)) (now (cents .entry)) (now (numer .entry)) (now (denom .entry))) (listTable (now (place .entry)) (now (ratio .entry)) (now (wraps .entry))) generator positive negative period) (itemTable (now (kind .entry)) (now (cents .entry)) (now (numer .entry)) (now (denom .entry))) (listTable (now (place .entry)) (now (ratio .entry)) (now (wraps .entry))) ⌝ }
+    ensures { λ _. ⌜ listTable (now (place .exit)) (now (ratio .exit)) (now (wraps .exit)) ≡ listLeft (madeRank2 (itemTable (now (kind .entry)) (now (cents .entry)) (now (numer .entry)) (now (denom .entry))) (listTable (now (place .entry)) (now (ratio .entry)) (now (wraps .entry))) generator positive negative period) (itemTable (now (kind .entry)) (now (cents .entry)) (now (numer .entry)) (now (denom .entry))) (listTable (now (place .entry)) (now (ratio .entry)) (now (wraps .entry))) ⌝ }
+    ensures { λ _. ⌜ now (count .exit) ≡ kept (countedOf (madeRank2 (itemTable (now (kind .entry)) (now (cents .entry)) (now (numer .entry)) (now (denom .entry))) (listTable (now (place .entry)) (now (ratio .entry)) (now (wraps .entry))) generator positive negative period)) (now (count .entry)) ⌝ }
+{
+    match rank2::create_rank2_temperament_scale(
+        Ratio(generator),
+        positive,
+        negative,
+        Ratio(period),
         kind,
         cents,
         numer,
