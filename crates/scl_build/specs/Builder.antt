@@ -115,6 +115,31 @@ pub record Appended (s : Built) (is : List Item) (left : Built) : Type 0 where
   pub others : behind (s .builder .count + length is + 1) (left .table) ≡ behind (s .builder .count + length is + 1) (s .table)
   pub fits : fitsItems (left .builder) (left .table) ≡ true
 
+-- ---- runs with ratios among them
+-- what is pushed: an item, or a ratio
+pub data Push : Type 0 where
+  item : Item → Push
+  ratio : Float → Push
+
+-- one push of either, whether it is accepted or refused
+abbrev pub afterPushed : Built → Push → Built
+afterPushed s (Push.item i) = afterOne s i
+afterPushed s (Push.ratio r) = beside (builderAfter (s .builder) (pushedRatio (s .builder) (s .table) r)) (afterRatio (s .builder) (s .table) r)
+
+unfoldable pub afterPushes : Built → List Push → Built
+afterPushes s [] = s
+afterPushes s (p ∷ ps) = afterPushes (afterPushed s p) ps
+
+-- the items that they come to: a ratio is its cents, or nothing where it has none
+abbrev pub withCents : Said Float → List Item → List Item
+withCents (gives cents) is = Cents cents ∷ is
+withCents (refuses n detail) is = is
+
+unfoldable pub itemsPushed : List Push → List Item
+itemsPushed [] = []
+itemsPushed (Push.item i ∷ ps) = i ∷ itemsPushed ps
+itemsPushed (Push.ratio r ∷ ps) = withCents (asCents r) (itemsPushed ps)
+
 -- ---- a build
 -- the state fits all columns, and each item can be used
 abbrev pub isReady : SclBuilder → ItemTable → ListTable → Bool
