@@ -43,7 +43,7 @@ same-length-7 c = search needs
 returns : tie.Need-returns
 returns c = let a = c .before .before .before .before .before .before .before .before .before .before .before .before .before .before .before .before .before .before .before .before .before .before .before .before .before .before .before .before .before .before .before .before .before .before .before .before .before .before .before .before .before .before .before .before .before .before .before .before .args in
     let b = c .before .before .before .before .before .before .before .before .before .before .before .before .before .before .before .before .before .before .before .before .before .before .before .before .before .before .before .before .before .before .before .before .before .before .begin .ensures in
-    let x = run-left (itemTable (a .kind .now) (a .cents .now) (a .numer .now) (a .denom .now)) (listTable (a .place .now) (a .ratio .now) (a .wraps .now)) (saidFrom (itemAt (a .segment-type) (a .start) (a .size) (a .steps)) 1 (a .n)) (b .0) (b .1) (c .before .before .before .before .before .before .before .before .before .before .before .before .before .before .before .before .before .before .before .before .before .push-all .ensures) (c .before .before .before .before .before .build .ensures) in
+    let x = run-left (itemTable (a .kind .now) (a .cents .now) (a .numer .now) (a .denom .now)) (listTable (a .place .now) (a .ratio .now) (a .wraps .now)) (saidFrom (itemAt (a .segment-type) (a .start) (a .size) (a .steps)) 1 (a .n)) (b .0) (b .1) (c .before .before .before .before .before .before .before .before .before .before .before .before .before .before .before .before .before .before .before .before .before .push-all .ensures) (c .before .before .before .before .before .build .ensures .0) in
     (x .0, (x .1, x .2))
 
 pub write-spec : {M : Type 1} → statement M
