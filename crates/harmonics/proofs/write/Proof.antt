@@ -20,7 +20,7 @@ build-requires : tie.Need-build-requires
 build-requires c κs = search needs
 
 same-length : tie.Need-same-length
-same-length c = search needs
+same-length c = search (needs, c .before .before .before .before .before .before .before .before .before .before .before .before .before .before .before .before .before .before .before .before .kind2 .given, c .before .before .before .before .before .before .before .before .before .before .before .before .before .before .before .before .before .before .before .before .before .before .before .before .before .before .before .before .before .before .before .before .before .kind .given)
 
 same-length-2 : tie.Need-same-length-2
 same-length-2 c = search needs
