@@ -2,7 +2,7 @@
 use mathlib.Core.Path.{_≡_, refl, sym, _∙_, ap}
 use mathlib.Core.Logic.{_↔_, _⊎_, inl, inr}
 use mathlib.Core.Bool.{Bool, true, false}
-use mathlib.Core.List.{List, [], _∷_}
+use mathlib.Core.List.{List, _∷_}
 use Prim.Native.Nat.{ℕ, _≤_, _<_}
 use native.Mathlib.Omega.{arith}
 use lib.Dec.{leb, ltb}
@@ -10,9 +10,8 @@ use lib.Ieee.{Float, binary64, fits}
 use lib.ListN.{length}
 use borrow.Author.Tests.{le-leb, leb-true, leb-false, ltb-true, ltb-false}
 use Rattle.base.specs.Numbers.{unusable, no-room, too-large, beyond-reach}
-use Rattle.base.specs.Said.{Said, gives, refuses, pick, andThen}
+use Rattle.base.specs.Said.{Said, gives, refuses, andThen}
 use Rattle.base.proofs.Said.{One, one-result, no-value, no-refusal, same-value, same-refuses}
-use Rattle.floats.specs.Floats.{oneF}
 use Rattle.pitch.specs.Ratios.{asCents}
 use Rattle.sorted.specs.Lent.{ListTable}
 use Rattle.scl.specs.Answers.{saysScl}
@@ -26,7 +25,7 @@ use Rattle.generate.specs.Generated.{madeOf, countedOf, itemsLeft, listLeft, Le
 use Rattle.generate.proofs.Theorems.{beyond-when, accepted-or, made-leaves}
 use Rattle.notes.specs.Notes.{pitchAt}
 use Rattle.rank2.specs.Rank2.{countOf, isTemperament, itemsOf, temperamentOf, madeRank2, Tested, PeriodOne}
-use Rattle.rank2.proofs.Calls.{Temperament, temperament-says, period-cents, too-many, not-usable, no-place, pushed-of, items-said, items-count}
+use Rattle.rank2.proofs.Calls.{temperament-says, period-cents, too-many, not-usable, no-place, pushed-of, items-said, items-count}
 use Rattle.rank2.proofs.Pushes.{cented}
 use Rattle.rank2.proofs.Values.{values-of}
 
