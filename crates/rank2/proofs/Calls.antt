@@ -1,34 +1,32 @@
 -- What the call comes to: its tests, the look at the highest note, and what is written. Assumes nothing.
-use mathlib.Core.Path.{_≡_, refl, sym, _∙_, ap, subst}
+use mathlib.Core.Path.{_≡_, refl, sym, _∙_, ap}
 use mathlib.Core.Bool.{Bool, true, false, not, _&&_}
-use mathlib.Core.List.{List, [], _∷_}
-use Prim.Native.Nat.{ℕ, suc, _+_, _-_, _≤_, _<_}
+use mathlib.Core.List.{List, _∷_}
+use Prim.Native.Nat.{ℕ, suc, _≤_, _<_}
 use native.Mathlib.Omega.{arith}
-use lib.Dec.{leb}
 use lib.Ieee.{Float, binary64, fits, eq}
 use lib.ListN.{length, take}
 use borrow.Author.Tests.{le-leb, lt-leb}
 use Rattle.base.specs.Numbers.{unusable, too-large, no-room, beyond-reach}
-use Rattle.base.specs.Said.{Said, gives, refuses, pick, andThen}
+use Rattle.base.specs.Said.{Said, gives, refuses, andThen}
 use Rattle.base.proofs.Said.{same-value}
 use Rattle.floats.specs.Floats.{zeroF}
 use Rattle.floats.specs.Ranges.{inGenerator}
-use Rattle.explog.specs.Rules.{L, logOf}
+use Rattle.explog.specs.Rules.{L}
 use Rattle.pitch.specs.Ratios.{asCents}
 use Rattle.sorting.specs.Entries.{Entry}
 use Rattle.sorted.specs.Lent.{ListTable}
-use Rattle.scl.specs.Items.{isUsableCents}
-use Rattle.scl.specs.Table.{ItemTable, implicit, areUsable}
+use Rattle.scl.specs.Table.{ItemTable, implicit}
 use Rattle.scl.specs.declared.Item.{Item}
 use Rattle.scl.specs.declared.Item.the-variants.{Cents}
 use Rattle.scl.proofs.Table.{both}
 use Rattle.scl_tables.specs.Build.{lastOf, isNone, isBeyond, afterList}
 use Rattle.scl_tables.specs.Room.{roomOf}
 use Rattle.scl_tables.proofs.Theorems.{list-leaves}
-use Rattle.scl_build.specs.Builder.{Built, beside, state, afterNew, afterAll, built, counted}
+use Rattle.scl_build.specs.Builder.{Built, beside, state, afterNew, built, counted}
 use Rattle.scl_build.specs.declared.SclBuilder.{SclBuilder}
 use Rattle.generate.specs.Generated.{runOf, listOf, madeOf, countedOf, itemsLeft, listLeft}
-use Rattle.generate.proofs.Made.{implicit-held, all-usable, some-list, made-no-room, made-beyond, made-given, all-refused, all-given}
+use Rattle.generate.proofs.Made.{implicit-held, all-usable, some-list, made-no-room, made-beyond, made-given, all-given}
 use Rattle.generate.proofs.Theorems.{listed, count-is}
 use Rattle.notes.specs.Asked.{SomeCents}
 use Rattle.notes.specs.Notes.{pitchAt, highestFrom, ascending}
@@ -39,7 +37,7 @@ use Rattle.rank2.specs.Rank2.{countOf, isTemperament, ascendingOf, pushe
 use Rattle.rank2.specs.Steps.{beyondOf, afterRatios, ranOf, Behind}
 use Rattle.rank2.proofs.Behind.{same-room, same-new, same-built, same-list}
 use Rattle.rank2.proofs.Pushes.{Pushed, Cented, cented, all-items, last-item, ratios-run}
-use Rattle.rank2.proofs.Values.{Ranged, AllRanged, Values, sort-ranged, sort-length, ascending-said, top-said, last-within}
+use Rattle.rank2.proofs.Values.{Values, sort-ranged, sort-length, ascending-said, top-said, last-within}
 
 -- ---- n pitch values that are said
 module _ (f : ℕ → Said Float) (n : ℕ) (v : Values f 0 n) where
@@ -54,10 +52,11 @@ module _ (f : ℕ → Said Float) (n : ℕ) (v : Values f 0 n) where
   items-count = pushed-of .size ∙ sort-length (v .values) ∙ v .size
 
   module _ (some : 0 < n) where
-    top : Cented (lastAfter zeroF (ascending (v .values)))
+    -- the cents of the highest note are the last item
+    pub top : Cented (lastAfter zeroF (ascending (v .values)))
     top = cented (lastAfter zeroF (ascending (v .values))) (last-within f n v some)
 
-    last-is : lastOf (implicit ∷ pushed-of .items) ≡ Cents (top .cents)
+    pub last-is : lastOf (implicit ∷ pushed-of .items) ≡ Cents (top .cents)
     last-is = last-item (ascending (v .values)) (sort-ranged (v .values) (v .ranged)) (omega (arith, some, sort-length (v .values), v .size)) (pushed-of .are) (top .is)
 
     -- the look at the highest note is one at the last item

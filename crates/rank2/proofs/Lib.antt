@@ -2,3 +2,4 @@ pub mod Values
 pub mod Pushes
 pub mod Behind
 pub mod Calls
+pub mod Theorems

@@ -1,22 +1,22 @@
 -- The pitch values are all said, and lie in 2^-32..2^32, in any order. Assumes nothing.
 use mathlib.Core.Path.{_≡_, refl, sym, _∙_, ap, subst}
 use mathlib.Core.Bool.{Bool, true, false}
-use mathlib.Core.List.{List, [], _∷_, map}
+use mathlib.Core.List.{List, [], _∷_}
 use Prim.Native.Nat.{ℕ, zero, suc, _+_, _^_, _≤_, _<_}
 use native.Mathlib.Nat.{le-of-suc-le-suc, not-suc-le-zero}
 use native.Mathlib.Omega.{arith}
 use lib.Dec.{T}
 use lib.IntN.{ℤ}
-use lib.Ieee.{Float, nan, binary64, fits, lt}
+use lib.Ieee.{Float, binary64, fits, lt}
 use lib.Ieee.Positive.{positive}
-use lib.ListN.{length, getD}
-use Rattle.base.specs.Said.{Said, gives, pick, andThen}
+use lib.ListN.{length}
+use Rattle.base.specs.Said.{Said, gives, pick}
 use Rattle.base.proofs.Said.{same-value}
 use Rattle.floats.specs.Floats.{zeroF}
 use Rattle.floats.specs.Ranges.{inGenerator}
 use Rattle.floats.proofs.Between.{within-generator}
 use Rattle.sorting.specs.Asked.{AllPositive}
-use Rattle.sorting.specs.Entries.{Entry, zip, Columns}
+use Rattle.sorting.specs.Entries.{zip, Columns}
 use Rattle.sorting.specs.Order.{lower, insertBy, sortBy}
 use Rattle.sorting.proofs.Columns.{columns-zip}
 use Rattle.sorted.specs.Lent.{from}
@@ -25,7 +25,7 @@ use Rattle.sorted.proofs.Usable.{reach-positive}
 use Rattle.scl.specs.Items.{isUsableCents}
 use Rattle.scl.proofs.Items.{cents-ratio}
 use Rattle.notes.specs.Asked.{SomeCents}
-use Rattle.notes.specs.Notes.{boundedAt, pitchAt, ratiosFrom, highestOf, highestFrom, ascending}
+use Rattle.notes.specs.Notes.{boundedAt, pitchAt, ratiosFrom, highestFrom, ascending}
 use Rattle.notes.proofs.Given.{reach, bounded-usable, pitch-first, pitch-later}
 use Rattle.notes.proofs.Ascends.{Positives, lastAfter, sorted-ratios, highest-last}
 use Rattle.notes.proofs.Heights.{highest-is}

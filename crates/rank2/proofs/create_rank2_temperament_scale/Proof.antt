@@ -1,6 +1,6 @@
 -- `create_rank2_temperament_scale` meets its contract: 13, then 10, then 12, then 18, then the run; a refusal writes nothing.
 -- Assumes nothing.
-use mathlib.Core.Path.{_≡_, refl, sym, _∙_, ap}
+use mathlib.Core.Path.{sym, _∙_, ap}
 use mathlib.Core.List.{List}
 use native.Mathlib.Omega.{arith}
 use Rattle.base.specs.Said.{Said}

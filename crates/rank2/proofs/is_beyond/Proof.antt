@@ -1,6 +1,5 @@
 -- `is_beyond` meets its contract: the highest pitch value, its cents, and the look at them.
 -- Assumes nothing.
-use mathlib.Core.Path.{_≡_, refl, sym, _∙_, ap}
 use native.Mathlib.Omega.{arith}
 use Rattle.notes.specs.Notes.{pitchAt}
 use Rattle.rank2.proofs.Values.{values-of, top-within}

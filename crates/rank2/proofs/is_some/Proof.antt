@@ -1,6 +1,6 @@
 -- `is_some` meets its contract: L's answer, either way.
 -- Assumes nothing.
-use mathlib.Core.Path.{_≡_, refl, sym, _∙_, ap}
+use mathlib.Core.Path.{refl}
 use Rattle.floats.specs.Answers.{saysFloat}
 use Rattle.reduction.proofs.Answered.{told}
 use Rattle.rank2.proofs.Calls.{some-octaves, no-octaves}

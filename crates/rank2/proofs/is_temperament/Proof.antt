@@ -1,6 +1,5 @@
 -- `is_temperament` meets its contract: the three tests one after the other.
 -- Assumes nothing.
-use mathlib.Core.Path.{_≡_, refl, sym, _∙_, ap}
 use Rattle.rank2.proofs.Calls.{no-generator, no-period, a-period}
 use borrow.Author.Needs.{needs}
 use Rattle.rank2.proofs.is_temperament.Statement.{statement}

@@ -1,6 +1,6 @@
 -- `make` meets its contract: 18 before anything is written, else the notes in order and the run over them.
 -- Assumes nothing.
-use mathlib.Core.Path.{_≡_, refl, sym, _∙_, ap}
+use mathlib.Core.Path.{sym, _∙_, ap}
 use native.Mathlib.Omega.{arith}
 use Rattle.base.specs.Said.{gives}
 use Rattle.scl.specs.Table.{itemTable}

@@ -1,6 +1,5 @@
 -- `pushed` meets its contract: the push's builder, or the old one.
 -- Assumes nothing.
-use mathlib.Core.Path.{_≡_, refl, sym, _∙_, ap}
 use Rattle.scl.specs.Table.{itemTable}
 use Rattle.scl_build.specs.Answers.{saysBuilder}
 use Rattle.reduction.proofs.Answered.{told}

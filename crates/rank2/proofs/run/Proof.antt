@@ -1,6 +1,5 @@
 -- `run` meets its contract: the new builder, the pushes, the build.
 -- Assumes nothing.
-use mathlib.Core.Path.{_≡_, refl, sym, _∙_, ap}
 use Rattle.scl.specs.Table.{itemTable}
 use Rattle.sorted.specs.Lent.{listTable}
 use Rattle.rank2.proofs.Calls.{ran-left}

@@ -1,6 +1,6 @@
 -- `sort_notes` meets its contract: the column of pitch values, the places, and the sort of the entries.
 -- No loop.
-use mathlib.Core.Path.{_≡_, refl, sym, _∙_, ap}
+use mathlib.Core.Path.{sym, _∙_, ap}
 use lib.ListN.{length}
 use Rattle.sorted.proofs.Numbering.{length-from, from-ascends}
 use Rattle.notes.specs.Notes.{pitchAt}
