@@ -8,9 +8,6 @@ use Rattle.telbijan_answers.proofs.Interface.{accepted, refused, stays, stored}
 use Rattle.telbijan_generators.proofs.telbijan_create_rank2_temperament_scale.Statement.{statement}
 use Rattle.telbijan_generators.proofs.telbijan_create_rank2_temperament_scale.Tie as tie
 
-  statement,
-}
-
 create-rank2-temperament-scale-requires : tie.Need-create-rank2-temperament-scale-requires
 create-rank2-temperament-scale-requires c κs = search needs
 
