@@ -294,13 +294,19 @@ uint64_t telbijan_find_by_pitch_sorted(const uint8_t *kind, size_t kind_length, 
 /* The key whose pitch comes nearest, that degree above the reference key, in the same way; 11 where the key passes 32 bits too. */
 uint64_t telbijan_find_key_by_pitch(const uint8_t *kind, size_t kind_length, const double *cents, size_t cents_length, const uint32_t *numer, size_t numer_length, const uint32_t *denom, size_t denom_length, const uint32_t *place, size_t place_length, const double *ratio, size_t ratio_length, const int32_t *wraps, size_t wraps_length, uint16_t count, int32_t reference, double hz, int32_t offset, double pitch, int32_t *number, double *deviation);
 
-/* ---- Scales that are computed, for C: segments of the harmonic series. They are written into a scale's seven lent columns. */
+/* ---- Scales that are computed, for C: segments of the harmonic series and rank-2 temperaments. They are written into a scale's seven lent columns. */
 
 /* A scale from a segment of the harmonic series, its items and its sorted list written as a builder would, its count of items stored.
    `otonal`: the harmonics start + 1 to start + size over start; else start + size over start + size - 1 down to start. `divided`: the
    harmonics nearest to so many equal divisions of the segment. 10 for start 0, 12 where a column has no place for all items and place
    0, 18 for 0 divisions and where two or more items have the period 1.0. */
 uint64_t telbijan_create_harmonics_scale(bool otonal, uint16_t start, uint16_t size, bool divided, uint16_t divisions, uint8_t *kind, size_t kind_length, double *cents, size_t cents_length, uint32_t *numer, size_t numer_length, uint32_t *denom, size_t denom_length, uint32_t *place, size_t place_length, double *ratio, size_t ratio_length, int32_t *wraps, size_t wraps_length, uint16_t *count);
+
+/* A scale from a rank-2 temperament: the period, and so many generations of the generator up and down, each within the period, in
+   ascending order; its items, in cents, and its sorted list written as a builder would, its count of items stored. 13 for over 65,535
+   items, 10 for a generator or a period outside 2^-32..2^32 or a period of 1.0, 12 where a column has no place for all items and place
+   0, 18 where two or more items have the period 1.0. */
+uint64_t telbijan_create_rank2_temperament_scale(double generator, uint16_t positive, uint16_t negative, double period, uint8_t *kind, size_t kind_length, double *cents, size_t cents_length, uint32_t *numer, size_t numer_length, uint32_t *denom, size_t denom_length, uint32_t *place, size_t place_length, double *ratio, size_t ratio_length, int32_t *wraps, size_t wraps_length, uint16_t *count);
 
 #ifdef __cplusplus
 }
