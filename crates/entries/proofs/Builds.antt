@@ -44,11 +44,11 @@ first-is n es l size =
 
 module _ (b : SclBuilder) (t : ItemTable) (l : ListTable) (n : ℕ) where
   -- ---- the answer
-  short-is : n < b .room → builtIn b t l n ≡ refuses unusable 0
+  pub short-is : n < b .room → builtIn b t l n ≡ refuses unusable 0
   unfolding builtIn
   short-is h = rw (lt-leb (b .room) n h)
 
-  long-is : b .room ≤ n → builtIn b t l n ≡ built b t l
+  pub long-is : b .room ≤ n → builtIn b t l n ≡ built b t l
   unfolding builtIn
   long-is h = rw (le-leb (b .room) n h)
 

@@ -3,3 +3,4 @@ pub mod Builds
 pub mod Columns
 pub mod Readings
 pub mod Stored
+pub mod Theorems
