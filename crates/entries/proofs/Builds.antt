@@ -33,22 +33,22 @@ module _ {A : Type 0} (f : Entry → A) (old : List A) (n : ℕ) (es : List Entr
   column-front : take n (over old (mathlib.Core.List.map f es)) ≡ mathlib.Core.List.map f es
   column-front = take-at (mathlib.Core.List.map f es) (drop (length (mathlib.Core.List.map f es)) old) n (length-map es f ∙ size)
 
-  column-room : n ≤ length (over old (mathlib.Core.List.map f es))
+  pub column-room : n ≤ length (over old (mathlib.Core.List.map f es))
   column-room = omega (arith, length-append (mathlib.Core.List.map f es) (drop (length (mathlib.Core.List.map f es)) old), length-map es f, size)
 
 -- columns over which a list is written hold it first
-first-is : (n : ℕ) (es : List Entry) (l : ListTable) → length es ≡ n → firstOf n (afterList (gives es) l) ≡ es
+pub first-is : (n : ℕ) (es : List Entry) (l : ListTable) → length es ≡ n → firstOf n (afterList (gives es) l) ≡ es
 first-is n es l size =
     rw (column-front (λ (e : Entry). e .place) (l .places) n es size, column-front (λ (e : Entry). e .ratio) (l .ratios) n es size, column-front (λ (e : Entry). e .wraps) (l .wraps) n es size)
     (zip-columns (record { places = refl; ratios = refl; wraps = refl }))
 
 module _ (b : SclBuilder) (t : ItemTable) (l : ListTable) (n : ℕ) where
   -- ---- the answer
-  short-is : n < b .room → builtIn b t l n ≡ refuses unusable 0
+  pub short-is : n < b .room → builtIn b t l n ≡ refuses unusable 0
   unfolding builtIn
   short-is h = rw (lt-leb (b .room) n h)
 
-  long-is : b .room ≤ n → builtIn b t l n ≡ built b t l
+  pub long-is : b .room ≤ n → builtIn b t l n ≡ built b t l
   unfolding builtIn
   long-is h = rw (le-leb (b .room) n h)
 

@@ -1,4 +1,6 @@
 pub mod Again
 pub mod Builds
 pub mod Columns
+pub mod Readings
 pub mod Stored
+pub mod Theorems
