@@ -64,7 +64,6 @@ use Rattle.entries.proofs.Columns.{Names, lengths, Rooms, Long, Rows, O
 use Rattle.entries.proofs.Storing as storing
 use Rattle.entries.proofs.Storing.{Store}
 use Rattle.entries.proofs.SortedEntry as T
-use Rattle.entries.proofs.SortedEntry.Laws as T′
 use Rattle.scl.proofs.SclAnswer as E
 use Rattle.scl.proofs.SclAnswer.Laws as E′
 use Rattle.scl_build.proofs.SclBuilder as B

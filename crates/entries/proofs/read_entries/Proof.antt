@@ -61,7 +61,6 @@ use Rattle.entries.proofs.Columns.{Names, lengths, Rooms, Long, Rows, O
 use Rattle.entries.proofs.Storing as storing
 use Rattle.entries.proofs.Storing.{Store}
 use Rattle.entries.proofs.SortedEntry as T
-use Rattle.entries.proofs.SortedEntry.Laws as T′
 use Rattle.scl_read.proofs.SclReadAnswer as E
 use Rattle.scl_read.proofs.SclReadAnswer.Laws as E′
 use Rattle.entries.proofs.read_columns as g
