@@ -14,7 +14,7 @@ use Rattle.base.specs.Tables.{over}
 use Rattle.base.proofs.Said.{no-value}
 use Rattle.sorting.specs.Entries.{Entry}
 use Rattle.sorting.proofs.Columns.{zip-columns}
-use Rattle.sorted.specs.Lent.{ListTable, placesOf, ratiosOf, wrapsOf}
+use Rattle.sorted.specs.Lent.{ListTable}
 use Rattle.scl.specs.Table.{ItemTable, Typed, itemsIn}
 use Rattle.scl.proofs.Table.{both, length-first, items-roomy, items-usable}
 use Rattle.scl.proofs.Typed.{typed-held}

@@ -12,7 +12,7 @@ use Rattle.base.specs.Tables.{over}
 use Rattle.sorting.specs.Entries.{Entry}
 use Rattle.sorted.specs.Lent.{ListTable, listTable, wrapsOf}
 use Rattle.scl.specs.Table.{ItemTable, implicit}
-use Rattle.scl_tables.specs.Build.{sortedOf, afterList}
+use Rattle.scl_tables.specs.Build.{sortedOf}
 use Rattle.scl_tables.specs.Room.{roomOf}
 use Rattle.scl_tables.proofs.Theorems.{list-leaves}
 use Rattle.scl_read.specs.Reader.{readOf, givenIn, itemsRead, itemsAfter, sortedAfter, afterItems, afterSorted}

@@ -7,7 +7,6 @@ use lib.ListN.{length, take, drop}
 use lib.Seq.{length-take-le, take-at}
 use Rattle.base.specs.Numbers.{unusable}
 use Rattle.base.specs.Said.{Said, gives, refuses}
-use Rattle.base.specs.Tables.{over}
 use Rattle.base.proofs.Said.{One, one-result, one-plain}
 use Rattle.sorting.specs.Entries.{Entry}
 use Rattle.sorting.proofs.Columns.{length-zip}
@@ -21,7 +20,7 @@ use Rattle.scl_build.specs.declared.SclBuilder.{SclBuilder}
 use Rattle.scl_read.specs.Reader.{saysRead, itemsAfter, sortedAfter}
 use Rattle.scl_read.proofs.Theorems.{read-split}
 use Rattle.entries.specs.declared.SortedEntry.{SortedEntry}
-use Rattle.entries.specs.Entries.{entryIn, entriesIn, firstOf}
+use Rattle.entries.specs.Entries.{entryIn, entriesIn}
 use Rattle.entries.specs.Builds.{builtIn, afterEntries, Holds}
 use Rattle.entries.specs.Readings.{readIn, sortedRead}
 use Rattle.entries.proofs.Builds.{short-is, long-is}

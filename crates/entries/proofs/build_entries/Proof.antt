@@ -15,7 +15,7 @@ use mir.Syntax.{Ty, Mutability, named, erased, imm, mut, w8, w32, w64, tyInt, ty
 use mir.Table.{spell}
 use mir.Val.{Val, vint}
 use base.Logic.{SProp, ent, sep, emp, ex, via, fst∗, exE, snd∗, id⊢}
-use base.Fml.{Lft, Share, GName, Fml, ftrue, fsep, fat, froom, fdies, flft}
+use base.Fml.{Lft, Share, Fml, ftrue, fsep, fat, froom, fdies, flft}
 use prog.Memory.{Memory}
 use prog.Routine.{Routine}
 use prog.Wp.{Heap, Env, Calls, Loops, Wp, atReturn, WpFn, Tables}
@@ -30,7 +30,7 @@ use sound.WpLaws.{fmOf, WpFn-mono}
 use denote.RattleType.{owns}
 use denote.Laws.{Is, shows}
 use denote.Memory.{pointee}
-use denote.Plain.{Nothing, nothing-lawful, uint-lawful, uint-tells, uint-makes}
+use denote.Plain.{nothing-lawful, uint-lawful, uint-tells, uint-makes}
 use denote.Builtin.{u8, u32, usize, i32, f64}
 use denote.Ref.{RefT, now}
 use denote.Slice.{sliceTy, sliceVal, MutSlice, ShrSlice, Room, finally, slice-vals, mut-slice-tells, shr-slice-tells}
@@ -60,9 +60,10 @@ use Rattle.entries.specs.declared.SortedEntry.{SortedEntry}
 use Rattle.entries.specs.Entries.{entriesIn, firstOf}
 use Rattle.entries.specs.Builds.{builtIn, storedOf, Holds}
 use Rattle.entries.proofs.Again.{ref}
-use Rattle.entries.proofs.Columns.{Names, Lengths, lengths, Rooms, Long, Rows, Outs, Showns, Muts, Shrs, Toks, Openeds, rows-out, rows-home, rows-shown, rows-hidden, rows-open, rows-shut}
+use Rattle.entries.proofs.Columns.{Names, lengths, Rooms, Long, Rows, Outs, Muts, Toks, Openeds, rows-out, rows-home, rows-open, rows-shut}
+use Rattle.entries.proofs.Storing as storing
+use Rattle.entries.proofs.Storing.{Store}
 use Rattle.entries.proofs.SortedEntry as T
-use Rattle.entries.proofs.SortedEntry.Laws as T′
 use Rattle.scl.proofs.SclAnswer as E
 use Rattle.scl.proofs.SclAnswer.Laws as E′
 use Rattle.scl_build.proofs.SclBuilder as B
@@ -75,7 +76,6 @@ use Rattle.entries.proofs.stored_of as h
 use Rattle.entries.proofs.stored_of.Symbol as h-def
 use Rattle.entries.proofs.stored_of.Symbol.{name as #entries·stored-of}
 use Rattle.entries.proofs.stored_of.Met as h-thm
-use Rattle.entries.proofs.store_list as k
 use Rattle.entries.proofs.store_list.Symbol as k-def
 use Rattle.entries.proofs.store_list.Symbol.{name as #entries·store-list}
 use Rattle.entries.proofs.store_list.Met as k-thm
@@ -118,9 +118,6 @@ module _ {M : Type 1} (𝓤 : URA M) (H : Heap 𝓤) (A : Atoms 𝓤) (mem : Mem
 
   abbrev Stored : Contract 𝓤
   Stored = tripleOf 𝓤 H A h.signature (h.spec 𝓤 H A mem run)
-
-  abbrev Store : Contract 𝓤
-  Store = tripleOf 𝓤 H A k.signature (k.spec 𝓤 H A mem run)
 
 module _ {M : Type 1} (𝓤 : URA M) (H : Heap 𝓤) (A : Atoms 𝓤) (W : Given 𝓤 H A) (mem : Memory → SProp 𝓤) (run : Routine → Fun 𝓤)
     (κ κ₁ κ₂ κ₃ κ₄ : Lft) (q q₁ q₂ q₃ q₄ : Share) (st : SclBuilder) (gst : Is B.the-row st (B′.lowered st ∷ [])) (ki : RefT (List ℕ)) (ce : RefT (List Float)) (nu : RefT (List ℕ)) (de : RefT (List ℕ))
@@ -261,62 +258,30 @@ module _ {M : Type 1} (𝓤 : URA M) (H : Heap 𝓤) (A : Atoms 𝓤) (W : Given
   said₂ : (a : SclAnswer) (n : ℕ) → ent 𝓤 (ensured 𝓤 H A h.ended (h.clauses 𝓤 H A mem run) tt (a, tt) tt n) (fact 𝓤 (n ≡ storedOf (saysScl a)))
   said₂ a n = exE 𝓤 _ (λ us. snd∗ 𝓤 (sem 𝓤 H A (lasts h.ended tt (a, tt) us)) (fact 𝓤 (n ≡ storedOf (saysScl a))))
 
-  -- ---- the third: the columns at z are shown for ν, under the names δ, and the list is given
-  abbrev Args₃ : Type 0
-  Args₃ = RefT (List SortedEntry) × (RefT (List ℕ) × (RefT (List Float) × (RefT (List ℤ) × (ℕ × Unit {0}))))
-
-  abbrev args₃ : Names → ListTable → ℕ → Args₃
-  args₃ δ z n = (x, (ref u32 b₁ o₁ (δ .p) (z .places), (ref f64 b₂ o₂ (δ .r) (z .ratios), (ref i32 b₃ o₃ (δ .w) (z .wraps), (n, tt)))))
-
+  -- ---- the third: the columns at z are shown, and the list is given (`Storing.antt`)
   abbrev to₃ : ℕ → Names → ListTable → ℕ → Store 𝓤 H A mem run .Ghost
-  to₃ ν δ z n = (((κ₄, (ν ∷ [], tt)), (q₄, (fullShare, tt)), tt, args₃ δ z n, (vl ∷ [], (vp ∷ [], (vr ∷ [], (vw ∷ [], (vint w64 n ∷ [], tt)))))), tt)
-
-  abbrev Toks₃ : ℕ → Item 𝓤
-  Toks₃ ν = ‵ (flft κ₄ q₄) ⊛ ‵ (flft (ν ∷ []) fullShare) ⊛ ‵ ftrue
-
-  abbrev Lent₃ : ℕ → Names → ListTable → Fml
-  Lent₃ ν δ z = Shrs b₁ o₁ b₂ o₂ b₃ o₃ (ν ∷ []) (ν ∷ []) (ν ∷ []) (named 1) (named 1) (named 1) δ z (lengths t)
+  to₃ = storing.to 𝓤 H A W mem run κ₄ q₄ x b₁ o₁ b₂ o₂ b₃ o₃ (lengths t) room
 
   abbrev Shown₃ : ℕ → ListTable → Fml
-  Shown₃ ν z = Showns b₁ o₁ b₂ o₂ b₃ o₃ (ν ∷ []) z
-
-  module _ (a : SclAnswer) (u : Val) (z : ListTable) (f′ : Told₁ a u z) (n : ℕ) (gn : n < 2 ^ 64) (e : n ≡ storedOf (saysScl a)) where
-    abbrev Types₃ : ℕ → List denote.RattleType.RattleType
-    Types₃ ν = MutSlice (named 4) κ₄ T.the-row ∷ ShrSlice (named 1) (ν ∷ []) u32 ∷ ShrSlice (named 1) (ν ∷ []) f64 ∷ ShrSlice (named 1) (ν ∷ []) i32 ∷ usize ∷ []
-
-    abbrev Owns₃ : ℕ → Names → Fml
-    Owns₃ ν δ = owns (Types₃ ν) (args₃ δ z n) (to₃ ν δ z n .0 .4)
-
-    goes₃ : (ν : ℕ) (δ : Names) → ent 𝓤 (⋆ 𝓤 H A (Toks₃ ν ∷ ‵ (Owns₃ ν δ) ∷ [])) (Store 𝓤 H A mem run .pre (to₃ ν δ z n))
-    goes₃ ν δ =
-        let s = f′ .2 .2 in
-        qed W (Toks₃ ν ∷ ‵ (Owns₃ ν δ) ∷ []) ∵ says ! (omega (arith, e, s .list-room), omega (arith, e, s .places-room), omega (arith, e, s .ratios-room), omega (arith, e, s .wraps-room)) $ frame ! $ done !
-
-    lent₃ : (ν : ℕ) → ent 𝓤 (sep 𝓤 (A .lft (ν ∷ []) fullShare) (sem 𝓤 H A (fsep (flft κ₄ q₄) (fsep L (Rows₀ z))))) (H .⇛ (ex 𝓤 (λ (δ : Names). sep 𝓤 (Store 𝓤 H A mem run .pre (to₃ ν δ z n)) (sem 𝓤 H A (Shown₃ ν z)))))
-    lent₃ ν =
-        qed W (‵ (flft (ν ∷ []) fullShare) ∷ ‵ (fsep (flft κ₄ q₄) (fsep L (Rows₀ z))) ∷ []) ∵ updating ! $ move ! (1 ∷ []) $ fsplit3 ! $ move ! (2 ∷ []) $ use1 W (later (some (λ (δ : Names). ‵ (Lent₃ ν δ z) ⊛ ‵ (Shown₃ ν z)))) (rows-shown b₁ o₁ b₂ o₂ b₃ o₃ 𝓤 H A W (ν ∷ []) (named 1) z (lengths t) (f′ .1) room) $ await ! tt $ pick ! (λ δ. split ! $ fsplit3 ! $
-        nothing ! $ owned ! usize (Is usize) (uint-makes 𝓤 H A W w64) n _ (refl, gn) $ fjoin ! $ move ! (3 ∷ 0 ∷ []) $ fjoin ! $ move ! (2 ∷ 0 ∷ []) $ fjoin ! $ move ! (1 ∷ 0 ∷ []) $ fjoin ! $ move ! (3 ∷ 0 ∷ []) $ fjoin ! $
-        nothing ! $ move ! (4 ∷ 0 ∷ []) $ join ! $ move ! (3 ∷ 0 ∷ []) $ join ! $ move ! (0 ∷ 1 ∷ []) $ use2 W (raw (Store 𝓤 H A mem run .pre (to₃ ν δ z n))) (goes₃ ν δ) $ at-once ! $ show ! (λ (δ′ : Names). sep 𝓤 (Store 𝓤 H A mem run .pre (to₃ ν δ′ z n)) (sem 𝓤 H A (Shown₃ ν z))) δ $ frame ! $ done !)
-
-  abbrev Lasts₃ : Type 0
-  Lasts₃ = List SortedEntry × (Unit {0} × (Unit {0} × (Unit {0} × (Unit {0} × Unit {0}))))
+  Shown₃ = storing.Shown 𝓤 H A W mem run κ₄ q₄ x b₁ o₁ b₂ o₂ b₃ o₃ (lengths t) room
 
   abbrev Said₃ : ListTable → ℕ → List SortedEntry → Type 0
-  Said₃ z n es = entriesIn es ≡ over (entriesIn (now x)) (firstOf n z)
+  Said₃ = storing.Said 𝓤 H A W mem run κ₄ q₄ x b₁ o₁ b₂ o₂ b₃ o₃ (lengths t) room
 
   abbrev Told₃ : ListTable → ℕ → Unit {0} → Val → List SortedEntry → Type 0
-  Told₃ z n r v es = Is Nothing r (v ∷ []) × (length es ≡ length (now x)) × Said₃ z n es
+  Told₃ = storing.Told 𝓤 H A W mem run κ₄ q₄ x b₁ o₁ b₂ o₂ b₃ o₃ (lengths t) room
 
   abbrev Called₃ : ℕ → Names → ListTable → ℕ → Unit {0} → Val → Item 𝓤
-  Called₃ ν δ z n r v = (Toks₃ ν ⊛ ‵ (Nothing .own r (v ∷ []))) ⊛ raw (ensured 𝓤 H A k.ended (k.clauses 𝓤 H A mem run) (κ₄, (ν ∷ [], tt)) (args₃ δ z n) tt r)
+  Called₃ = storing.Called 𝓤 H A W mem run κ₄ q₄ x b₁ o₁ b₂ o₂ b₃ o₃ (lengths t) room
+
+  lent₃ : (a : SclAnswer) (u : Val) (z : ListTable) → Told₁ a u z → (n : ℕ) → n < 2 ^ 64 → n ≡ storedOf (saysScl a) → (ν : ℕ) → ent 𝓤 (sep 𝓤 (A .lft (ν ∷ []) fullShare) (sem 𝓤 H A (fsep (flft κ₄ q₄) (fsep L (Rows₀ z))))) (H .⇛ (ex 𝓤 (λ (δ : Names). sep 𝓤 (Store 𝓤 H A mem run .pre (to₃ ν δ z n)) (sem 𝓤 H A (Shown₃ ν z)))))
+  lent₃ a u z f′ n gn e ν =
+      let s = f′ .2 .2 in
+      storing.lent 𝓤 H A W mem run κ₄ q₄ x b₁ o₁ b₂ o₂ b₃ o₃ (lengths t) room z (f′ .1) n gn (omega (arith, e, s .list-room), omega (arith, e, s .places-room), omega (arith, e, s .ratios-room), omega (arith, e, s .wraps-room)) ν
 
   told₃ : (ν : ℕ) (δ : Names) (z : ListTable) (n : ℕ) (r : Unit {0}) (v : Val) → ent 𝓤 (⋆ 𝓤 H A (Called₃ ν δ z n r v ∷ ‵ (Shown₃ ν z) ∷ []))
       (H .⇛ (ex 𝓤 (λ (es : List SortedEntry). sep 𝓤 (sem 𝓤 H A (fsep (flft κ₄ q₄) (fsep (finally T.the-row (x .name) es) (Rows₀ z)))) (fact 𝓤 (Told₃ z n r v es)))))
-  told₃ ν δ z n r v =
-      qed W (Called₃ ν δ z n r v ∷ ‵ (Shown₃ ν z) ∷ []) ∵ updating ! $ split ! $ split ! $ move ! (1 ∷ []) $ peeks ! Nothing (Is Nothing) (shows 𝓤 H A Nothing) r (v ∷ []) (λ is. drop ! $ split ! $ move ! (1 ∷ []) $ split ! $ lft-end ! tt $ move ! (3 ∷ []) $
-      use1 W (some (λ (es : Lasts₃). ‵ (lasts k.ended (κ₄, (ν ∷ [], tt)) (args₃ δ z n) es) ⊛ raw (fact 𝓤 (Said₃ z n (es .0))))) (id⊢ 𝓤 _) $ pick ! (λ es. split ! $ move ! (1 ∷ []) $ heard ! (Said₃ z n (es .0)) (λ s.
-      fsplit ! $ fsplit ! $ move ! (1 ∷ []) $ feqL ! (λ m. move ! (2 ∷ 5 ∷ []) $ use2 W (later (‵ (Rows₀ z))) (rows-hidden b₁ o₁ b₂ o₂ b₃ o₃ 𝓤 H A W (ν ∷ []) (named 1) z) $ await ! tt $
-      at-once ! $ show ! (λ (fs : List SortedEntry). sep 𝓤 (sem 𝓤 H A (fsep (flft κ₄ q₄) (fsep (finally T.the-row (x .name) fs) (Rows₀ z)))) (fact 𝓤 (Told₃ z n r v fs))) (es .0) $ says ! (is, m, s) $ move ! (4 ∷ 1 ∷ 0 ∷ []) $ fjoin3 ! $ keep ! (0 ∷ []) $ done !))))
+  told₃ = storing.told 𝓤 H A W mem run κ₄ q₄ x b₁ o₁ b₂ o₂ b₃ o₃ (lengths t) room
 
   -- ---- the end
   abbrev Ended : ListTable → List SortedEntry → List (Item 𝓤)

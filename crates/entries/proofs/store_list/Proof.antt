@@ -1,7 +1,7 @@
 -- `store_list` meets its contract: a walk of its MIR, by hand. The borrow of the list is opened before the loop and closed after it.
 -- A turn calls `entry_of` on the columns, takes the list's element out of the row, stores what the call gave, and puts it back.
 -- Assumes nothing.
-use mathlib.Core.Path.{_≡_, refl, sym, _∙_, ap, subst}
+use mathlib.Core.Path.{_≡_, refl, sym, ap, subst}
 use mathlib.Core.Logic.{inl, inr}
 use mathlib.Core.Bool.{Bool}
 use mathlib.Core.WellFounded.{WellFounded, InvImage·wf}
