@@ -68,6 +68,9 @@ extern "C" {
 /* An export of so many entries never takes more bytes than this (proved). */
 #define TELBIJAN_KBM_ROOM(count) (73 + 7 * (size_t)(count))
 
+/* Nor an export of so many items under a description of so many bytes (proved). */
+#define TELBIJAN_SCL_ROOM(description_length, count) ((size_t)(description_length) + 7 + 22 * (size_t)(count))
+
 /* ---- math.rs for C: division rounded down, and the odd part. */
 
 /* The quotient rounded down, stored; 10 for denominator 0. */
@@ -200,6 +203,11 @@ uint64_t telbijan_push_fraction(uint8_t *kind, size_t kind_length, double *cents
    have the period 1.0. */
 uint64_t telbijan_build_scl(const uint8_t *kind, size_t kind_length, const double *cents, size_t cents_length, const uint32_t *numer, size_t numer_length, const uint32_t *denom, size_t denom_length, uint32_t *place, size_t place_length, double *ratio, size_t ratio_length, int32_t *wraps, size_t wraps_length, size_t room, size_t count, uint16_t *items);
 
+/* The text of a scale, written into the lent bytes: the description as it is, the count, the items. The number of bytes is stored, and
+   bytes behind it keep their values. 10 for a table that cannot be used or a description that is not UTF-8, 12 where the text is
+   longer than the bytes: never where they are the description's length + 7 + 22 for each item. */
+uint64_t telbijan_export_scl(const uint8_t *description, size_t description_length, const uint8_t *kind, size_t kind_length, const double *cents, size_t cents_length, const uint32_t *numer, size_t numer_length, const uint32_t *denom, size_t denom_length, uint16_t count, uint8_t *out, size_t out_length, size_t *written);
+
 /* ---- Keyboard mappings for C: a lent table of entries, and beside it the mapping's numbers. An entry is a degree from -32768 to 32767, or -2147483648 for none. */
 
 /* The degree of a key, stored: 10 for a table that cannot be used, 16 outside start..end (end is outside), 11 where the distance
@@ -230,6 +238,75 @@ uint64_t telbijan_build_kbm(const int32_t *map, size_t map_length, size_t room, 
    are stored. The refusals are 1, 3, 7, 8, 9, 10, 11 and 12 with their line; 2 with which required line is missing (1 size, 2
    first key, 3 last key, 4 middle key, 5 reference key, 6 pitch, 7 formal octave); 12, 13 and 14 with 0, after the last line. */
 uint64_t telbijan_read_kbm(const uint8_t *text, size_t text_length, int32_t *map, size_t map_length, uint16_t *count, int32_t *start, int32_t *end, int32_t *reference, double *hz, int32_t *offset, int16_t *octave);
+
+/* ---- Pitches for C: of degrees and keys, over a scale's lent columns, and a root or a mapping beside them. */
+
+/* The period of a scale, the ratio of its last item, stored; of a scale without items that of place 0. 10 for items that cannot be used. */
+uint64_t telbijan_period(const uint8_t *kind, size_t kind_length, const double *cents, size_t cents_length, const uint32_t *numer, size_t numer_length, const uint32_t *denom, size_t denom_length, uint16_t count, double *period);
+
+/* The ratio of a degree to degree 0, stored: 10 for items that cannot be used, 18 where the ratio lies outside 2^-900..2^900. */
+uint64_t telbijan_relative_pitch_of(const uint8_t *kind, size_t kind_length, const double *cents, size_t cents_length, const uint32_t *numer, size_t numer_length, const uint32_t *denom, size_t denom_length, uint16_t count, int32_t degree, double *relative);
+
+/* The same of a degree in ascending order: 10 for items or a list that cannot be used, 18. */
+uint64_t telbijan_sorted_relative_pitch_of(const uint8_t *kind, size_t kind_length, const double *cents, size_t cents_length, const uint32_t *numer, size_t numer_length, const uint32_t *denom, size_t denom_length, const uint32_t *place, size_t place_length, const double *ratio, size_t ratio_length, const int32_t *wraps, size_t wraps_length, uint16_t count, int32_t degree, double *relative);
+
+/* The pitch of a degree in Hz, stored: 10 for items that cannot be used or a root's pitch outside 2^-10..2^20, 11 for the root offset
+   -2147483648, 18 where a pitch or ratio lies outside 2^-900..2^900. */
+uint64_t telbijan_pitch_of(const uint8_t *kind, size_t kind_length, const double *cents, size_t cents_length, const uint32_t *numer, size_t numer_length, const uint32_t *denom, size_t denom_length, uint16_t count, int32_t reference, double hz, int32_t offset, int32_t degree, double *pitch);
+
+/* The pitch of a key, whose degree is its distance from the reference key: 10, 11 where the distance passes 32 bits, 11 for the root
+   offset -2147483648, 18. */
+uint64_t telbijan_pitch_of_key(const uint8_t *kind, size_t kind_length, const double *cents, size_t cents_length, const uint32_t *numer, size_t numer_length, const uint32_t *denom, size_t denom_length, uint16_t count, int32_t reference, double hz, int32_t offset, int32_t number, double *pitch);
+
+/* The pitch of a degree in ascending order: 10 for the list too, 11 for the root offset -2147483648, 18. */
+uint64_t telbijan_sorted_pitch_of(const uint8_t *kind, size_t kind_length, const double *cents, size_t cents_length, const uint32_t *numer, size_t numer_length, const uint32_t *denom, size_t denom_length, const uint32_t *place, size_t place_length, const double *ratio, size_t ratio_length, const int32_t *wraps, size_t wraps_length, uint16_t count, int32_t reference, double hz, int32_t offset, int32_t degree, double *pitch);
+
+/* The pitch of a key of a mapping, stored: 10 for tables or a root's pitch that cannot be used, 16 outside start..end, 11 where the
+   distance from the reference key passes 32 bits, 17 unmapped, 11 where the degree does, 11 for the root offset -2147483648, 18. */
+uint64_t telbijan_maybe_pitch_of(const uint8_t *kind, size_t kind_length, const double *cents, size_t cents_length, const uint32_t *numer, size_t numer_length, const uint32_t *denom, size_t denom_length, uint16_t count, const int32_t *map, size_t map_length, uint16_t size, int32_t start, int32_t end, int32_t reference, double hz, int32_t offset, int16_t octave, int32_t number, double *pitch);
+
+/* The same of the key so many steps above the reference key: 11 where that key passes 32 bits, after 10. */
+uint64_t telbijan_maybe_pitch_of_degree(const uint8_t *kind, size_t kind_length, const double *cents, size_t cents_length, const uint32_t *numer, size_t numer_length, const uint32_t *denom, size_t denom_length, uint16_t count, const int32_t *map, size_t map_length, uint16_t size, int32_t start, int32_t end, int32_t reference, double hz, int32_t offset, int16_t octave, int32_t degree, double *pitch);
+
+/* The pitches of `keys` keys of a mapping, from key `first` on, and beside each its refusal's number, 0 for a pitch: 10 for tables or a
+   root's pitch that cannot be used, 12 where a slice is shorter than the run. Else each key answers as telbijan_maybe_pitch_of does, and
+   11 where there is no such key; a refused key's pitch stays as it was, and so do the places behind the run. The tables are tested once. */
+uint64_t telbijan_pitches_of(const uint8_t *kind, size_t kind_length, const double *cents, size_t cents_length, const uint32_t *numer, size_t numer_length, const uint32_t *denom, size_t denom_length, uint16_t count, const int32_t *map, size_t map_length, uint16_t size, int32_t start, int32_t end, int32_t reference, double hz, int32_t offset, int16_t octave, int32_t first, uint32_t keys, double *pitches, size_t pitches_length, uint32_t *numbers, size_t numbers_length);
+
+/* ---- Searches for C: the degree or key that comes nearest to a ratio or a pitch, over a scale's lent columns. */
+
+/* The degree whose relative pitch comes nearest to a ratio, and how far the ratio lies above it, a ratio, both stored: 10 for items or a
+   list that cannot be used and for a ratio outside 2^-64..2^64, 18 in a scale of one item with period 1.0, 11 where the degree passes 32
+   bits. Of two that come equally near, within 0.999999, it is the lower one. */
+uint64_t telbijan_find_by_relative_pitch(const uint8_t *kind, size_t kind_length, const double *cents, size_t cents_length, const uint32_t *numer, size_t numer_length, const uint32_t *denom, size_t denom_length, const uint32_t *place, size_t place_length, const double *ratio, size_t ratio_length, const int32_t *wraps, size_t wraps_length, uint16_t count, double target, int32_t *degree, double *deviation);
+
+/* The same, the degree counted in ascending order. */
+uint64_t telbijan_find_by_relative_pitch_sorted(const uint8_t *kind, size_t kind_length, const double *cents, size_t cents_length, const uint32_t *numer, size_t numer_length, const uint32_t *denom, size_t denom_length, const uint32_t *place, size_t place_length, const double *ratio, size_t ratio_length, const int32_t *wraps, size_t wraps_length, uint16_t count, double target, int32_t *degree, double *deviation);
+
+/* The degree whose pitch comes nearest to a pitch in Hz, and the deviation from it, both stored: 10 for tables, a root's pitch or a pitch
+   outside 2^-10..2^20 that cannot be used, 11 for the root offset -2147483648, 18 where a ratio leaves its range, 11 where the degree
+   passes 32 bits. */
+uint64_t telbijan_find_by_pitch(const uint8_t *kind, size_t kind_length, const double *cents, size_t cents_length, const uint32_t *numer, size_t numer_length, const uint32_t *denom, size_t denom_length, const uint32_t *place, size_t place_length, const double *ratio, size_t ratio_length, const int32_t *wraps, size_t wraps_length, uint16_t count, int32_t reference, double hz, int32_t offset, double pitch, int32_t *degree, double *deviation);
+
+/* The same, the degree counted in ascending order. */
+uint64_t telbijan_find_by_pitch_sorted(const uint8_t *kind, size_t kind_length, const double *cents, size_t cents_length, const uint32_t *numer, size_t numer_length, const uint32_t *denom, size_t denom_length, const uint32_t *place, size_t place_length, const double *ratio, size_t ratio_length, const int32_t *wraps, size_t wraps_length, uint16_t count, int32_t reference, double hz, int32_t offset, double pitch, int32_t *degree, double *deviation);
+
+/* The key whose pitch comes nearest, that degree above the reference key, in the same way; 11 where the key passes 32 bits too. */
+uint64_t telbijan_find_key_by_pitch(const uint8_t *kind, size_t kind_length, const double *cents, size_t cents_length, const uint32_t *numer, size_t numer_length, const uint32_t *denom, size_t denom_length, const uint32_t *place, size_t place_length, const double *ratio, size_t ratio_length, const int32_t *wraps, size_t wraps_length, uint16_t count, int32_t reference, double hz, int32_t offset, double pitch, int32_t *number, double *deviation);
+
+/* ---- Scales that are computed, for C: segments of the harmonic series and rank-2 temperaments. They are written into a scale's seven lent columns. */
+
+/* A scale from a segment of the harmonic series, its items and its sorted list written as a builder would, its count of items stored.
+   `otonal`: the harmonics start + 1 to start + size over start; else start + size over start + size - 1 down to start. `divided`: the
+   harmonics nearest to so many equal divisions of the segment. 10 for start 0, 12 where a column has no place for all items and place
+   0, 18 for 0 divisions and where two or more items have the period 1.0. */
+uint64_t telbijan_create_harmonics_scale(bool otonal, uint16_t start, uint16_t size, bool divided, uint16_t divisions, uint8_t *kind, size_t kind_length, double *cents, size_t cents_length, uint32_t *numer, size_t numer_length, uint32_t *denom, size_t denom_length, uint32_t *place, size_t place_length, double *ratio, size_t ratio_length, int32_t *wraps, size_t wraps_length, uint16_t *count);
+
+/* A scale from a rank-2 temperament: the period, and so many generations of the generator up and down, each within the period, in
+   ascending order; its items, in cents, and its sorted list written as a builder would, its count of items stored. 13 for over 65,535
+   items, 10 for a generator or a period outside 2^-32..2^32 or a period of 1.0, 12 where a column has no place for all items and place
+   0, 18 where two or more items have the period 1.0. */
+uint64_t telbijan_create_rank2_temperament_scale(double generator, uint16_t positive, uint16_t negative, double period, uint8_t *kind, size_t kind_length, double *cents, size_t cents_length, uint32_t *numer, size_t numer_length, uint32_t *denom, size_t denom_length, uint32_t *place, size_t place_length, double *ratio, size_t ratio_length, int32_t *wraps, size_t wraps_length, uint16_t *count);
 
 #ifdef __cplusplus
 }

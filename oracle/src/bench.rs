@@ -206,6 +206,27 @@ fn scale_files() {
     }
 }
 
+/// Writing a scale: one as in use, many times over, and the longest. The Rust's text is a new string each time; ours goes into lent bytes.
+fn scale_exports() {
+    for (name, text, notes, times) in [
+        ("write a scale of 12 notes", scl_read::FILES[0].as_bytes().to_vec(), 12, 1000),
+        ("write a scale of 13 notes, in cents", scl_read::FILES[2].as_bytes().to_vec(), 13, 1000),
+        ("write a scale, a note of 65,535", scl_read::long(65_535, 65_535), 65_535, 1),
+    ] {
+        let mut columns = Columns::new([notes + 1; 7]);
+        let (_, (count, start, end)) = ffi_scl::read_scl(&text, &mut columns);
+        let description = &text[start..end];
+        let scl = tune::scala::Scl::import(&text[..]).unwrap();
+        let mut out = vec![0; description.len() + 7 + 22 * notes];
+        assert_eq!(ffi_scl::export_scl(description, &mut columns, count, &mut out).1, scl.export().to_string().len());
+        let took = shortest(&mut [
+            &mut || (0..times).for_each(|_| { black_box(ffi_scl::export_scl(description, &mut columns, count, &mut out)); }),
+            &mut || (0..times).for_each(|_| drop(black_box(scl.export().to_string()))),
+        ]);
+        line(name, if times == 1 { notes } else { times }, &took, &["the Rust"]);
+    }
+}
+
 /// Orders in which items come: as they sort, and ways to make that hard.
 fn orders(items: usize) -> [(&'static str, Vec<Push>); 5] {
     let n = items as f64;
@@ -251,6 +272,7 @@ pub fn bench() {
     texts();
     comments();
     scale_files();
+    scale_exports();
     builds();
     degrees();
     mappings();

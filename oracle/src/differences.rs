@@ -3,6 +3,7 @@
 
 use crate::differences_kbm::mappings;
 use crate::differences_scl::scales;
+use crate::differences_tuning::tunings;
 use crate::ffi::{self, one, two};
 use crate::lent::Float;
 use crate::pitch::ratio;
@@ -161,7 +162,7 @@ fn our_fraction(x: f64, limit: u16) -> String {
 }
 
 fn rows() -> Vec<Row> {
-    [integers(), powers(), made(), of_zero(), of_two(), alike(), scales(), mappings()].into_iter().flatten().collect()
+    [integers(), powers(), made(), of_zero(), of_two(), alike(), scales(), mappings(), tunings()].into_iter().flatten().collect()
 }
 
 pub fn compare(all: &mut Report) {

@@ -40,11 +40,7 @@ fn ours(text: &[u8], room: usize, part: fn(Shown) -> String) -> String {
         return if code.number() == 2 { format!("2, required line {}", code.detail()) } else { refused(code) };
     }
     let places = usize::from(count) + 1;
-    let items = (0..places).map(|k| match columns.kind[k] {
-        0 => Item::Cents(columns.cents[k]),
-        1 => Item::Fraction(columns.numer[k], Some(columns.denom[k])),
-        _ => Item::Fraction(columns.numer[k], None),
-    });
+    let items = (0..places).map(|k| columns.item(k).unwrap());
     part(Shown { description: String::from_utf8(text[start..end].to_vec()).unwrap(), items: items.collect(), list: columns.list(places) })
 }
 
@@ -126,6 +122,13 @@ fn our_build(pushes: &[Push]) -> String {
     here(ffi_scl::build_scl(&mut columns, room, pushes.len()))
 }
 
+/// What a build answers here of this item alone, in columns of these lengths, by a state of room for it.
+fn our_build_of(lengths: [usize; 7], item: Item) -> String {
+    let mut columns = Columns::new(lengths);
+    columns.put_items(0, &[Item::cents(0.0), item]);
+    here(ffi_scl::build_scl(&mut columns, 2, 1))
+}
+
 /// The Rust's ratio of an item: the period of a scale of it alone.
 fn their_ratio(push: Push) -> String {
     rust(|| rust_scl::pushes(&[push]).build_with_description("").unwrap().period().as_float())
@@ -160,10 +163,68 @@ fn builders() -> Vec<Row> {
         row("a push into a scale", "a state of other columns", || CANNOT_BE.to_string(), CANNOT_BE, || here(ffi_scl::push(&mut Columns::new([2; 7]), 3, 0, Push::Int(2))), "10"),
         row("`SclBuilder::build`", "items 3/2, 1/1: items", || their_items(&[Push::Fraction(3, 2), Push::Int(1)]), "2", || our_build(&[Push::Fraction(3, 2), Push::Int(1)]), "18"),
         row("`SclBuilder::build`", "65,536 items", || rust(|| rust_scl::pushes(&vec![Push::Int(2); 65_536]).build_with_description("").unwrap_err()), "ScaleTooLarge", || our_build(&vec![Push::Int(2); 65_536]), "13"),
-        row("`SclBuilder::build`", "a column that is too short, or an item that cannot be used", || CANNOT_BE.to_string(), CANNOT_BE, || here(ffi_scl::build_scl(&mut Columns::new([2; 7]), 3, 1)), "10"),
+        row("`SclBuilder::build`", "a column that is too short", || CANNOT_BE.to_string(), CANNOT_BE, || our_build_of([2, 2, 2, 2, 2, 2, 1], Item::Fraction(2, None)), "10"),
+        row("`SclBuilder::build`", "item 3/0: items", || their_items(&[Push::Fraction(3, 0)]), "1", || our_build_of([2; 7], Item::Fraction(3, Some(0))), "10"),
+    ]
+}
+
+/// The Rust's text of these items.
+fn their_export(description: &str, pushes: &[Push]) -> String {
+    tune::powers::use_untouched(true);
+    let text = rust_scl::pushes(pushes).build_with_description(description).unwrap().export().to_string();
+    tune::powers::use_untouched(false);
+    text
+}
+
+/// The columns of these items, just long enough.
+fn columns_of(items: &[Item]) -> Columns {
+    let mut columns = Columns::new([items.len() + 1; 7]);
+    columns.put_items(0, &[Item::cents(0.0)]);
+    columns.put_items(1, items);
+    columns
+}
+
+/// And the text that is written here, into so many bytes.
+fn our_export(description: &[u8], items: &[Item], room: usize) -> Result<String, String> {
+    export_of(description, &mut columns_of(items), items.len() as u16, room)
+}
+
+fn export_of(description: &[u8], columns: &mut Columns, count: u16, room: usize) -> Result<String, String> {
+    let mut out = vec![0; room];
+    match ffi_scl::export_scl(description, columns, count, &mut out) {
+        (Code::ACCEPTED, written) => Ok(String::from_utf8(out[..written].to_vec()).unwrap()),
+        (code, _) => Err(refused(code)),
+    }
+}
+
+/// The columns of one item whose kind is none.
+fn of_kind_3() -> Columns {
+    let mut columns = columns_of(&[Item::Fraction(2, Some(1))]);
+    columns.kind[1] = 3;
+    columns
+}
+
+fn quoted(text: &str) -> String {
+    format!("`{}`", text.escape_debug())
+}
+
+fn shown(answer: Result<String, String>) -> String {
+    answer.map_or_else(|number| number, |text| quoted(&text))
+}
+
+fn exports() -> Vec<Row> {
+    vec![
+        row("`Scl::export`", "item 3/0: text", || quoted(&their_export("d", &[Push::Fraction(3, 0)])), "`d\\n1\\n3/0\\n`", || shown(our_export(b"d", &[Item::Fraction(3, Some(0))], 99)), "10"),
+        row("`Scl::export`", "item 38400.1 cents: text", || quoted(&their_export("d", &[Push::Cents(38_400.1)])), "`d\\n1\\n38400.100\\n`", || shown(our_export(b"d", &[Item::cents(38_400.1)], 99)), "10"),
+        row("`Scl::export`", "a count past the columns", || CANNOT_BE.to_string(), CANNOT_BE, || shown(export_of(b"d", &mut columns_of(&[Item::Fraction(2, Some(1))]), 2, 99)), "10"),
+        row("`Scl::export`", "an item of kind 3", || CANNOT_BE.to_string(), CANNOT_BE, || shown(export_of(b"d", &mut of_kind_3(), 1, 99)), "10"),
+        row("`Scl::export`", "a description that is not UTF-8", || CANNOT_BE.to_string(), CANNOT_BE, || shown(our_export(b"\xff", &[], 99)), "10"),
+        row("`Scl::export`", "8 bytes of text, 7 lent: bytes written", || their_export("d", &[Push::Fraction(2, 1)]).len().to_string(), "8", || shown(our_export(b"d", &[Item::Fraction(2, Some(1))], 7)), "12"),
+        row("`Scl::export`", "description `!a`, LF, `b`, item 2/1: text", || quoted(&their_export("!a\nb", &[Push::Fraction(2, 1)])), "`!a\\nb\\n1\\n2/1\\n`", || shown(our_export(b"!a\nb", &[Item::Fraction(2, Some(1))], 99)), "`!a\\nb\\n1\\n2/1\\n`"),
+        row("`Scl::export`", "items 0.0625 and -0.0 cents: text", || quoted(&their_export("d", &[Push::Cents(0.0625), Push::Cents(-0.0)])), "`d\\n2\\n0.062\\n-0.000\\n`", || shown(our_export(b"d", &[Item::cents(0.0625), Item::cents(-0.0)], 99)), "`d\\n2\\n0.062\\n-0.000\\n`"),
     ]
 }
 
 pub fn scales() -> Vec<Row> {
-    [files(), builders()].into_iter().flatten().collect()
+    [files(), builders(), exports()].into_iter().flatten().collect()
 }

@@ -35,6 +35,10 @@ mod raw {
             kind: *const u8, kind_length: usize, cents: *const f64, cents_length: usize, numer: *const u32, numer_length: usize, denom: *const u32, denom_length: usize, place: *mut u32,
             place_length: usize, ratio: *mut f64, ratio_length: usize, wraps: *mut i32, wraps_length: usize, room: usize, count: usize, items: *mut u16,
         ) -> u64;
+        pub fn telbijan_export_scl(
+            description: *const u8, description_length: usize, kind: *const u8, kind_length: usize, cents: *const f64, cents_length: usize, numer: *const u32, numer_length: usize, denom: *const u32,
+            denom_length: usize, count: u16, out: *mut u8, out_length: usize, written: *mut usize,
+        ) -> u64;
     }
 }
 
@@ -90,9 +94,24 @@ impl Columns {
         }
     }
 
+    /// The places of the shortest column.
+    pub fn room(&self) -> usize {
+        [self.kind.len(), self.cents.len(), self.numer.len(), self.denom.len(), self.place.len(), self.ratio.len(), self.wraps.len()].into_iter().min().unwrap()
+    }
+
     pub fn put_items(&mut self, from: usize, items: &[Item]) {
         for (k, item) in items.iter().enumerate() {
             (self.kind[from + k], self.cents[from + k], self.numer[from + k], self.denom[from + k]) = item.row();
+        }
+    }
+
+    /// The item at a place that the items' columns have; none of an unknown kind.
+    pub fn item(&self, k: usize) -> Option<Item> {
+        match self.kind[k] {
+            0 => Some(Item::Cents(self.cents[k])),
+            1 => Some(Item::Fraction(self.numer[k], Some(self.denom[k]))),
+            2 => Some(Item::Fraction(self.numer[k], None)),
+            _ => None,
         }
     }
 
@@ -179,6 +198,17 @@ pub fn build_scl(c: &mut Columns, room: usize, count: usize) -> (Code, u16) {
         )
     };
     (Code(code), items)
+}
+
+pub fn export_scl(description: &[u8], c: &mut Columns, count: u16, out: &mut [u8]) -> (Code, usize) {
+    let mut written = OLD_USIZE;
+    let code = unsafe {
+        raw::telbijan_export_scl(
+            description.as_ptr(), description.len(), c.kind.as_mut_ptr(), c.kind.len(), c.cents.as_mut_ptr().cast(), c.cents.len(), c.numer.as_mut_ptr(), c.numer.len(), c.denom.as_mut_ptr(), c.denom.len(),
+            count, out.as_mut_ptr(), out.len(), &mut written,
+        )
+    };
+    (Code(code), written)
 }
 
 pub fn item_as_ratio(kind: u8, cents: f64, numer: u32, denom: u32) -> (Code, lent::Float) {

@@ -51,7 +51,7 @@ pub fn compare(all: &mut Report) {
     two(all, "f64 rem_euclid", probe_rem_euclid, f64::rem_euclid);
     two(all, "f64 div_euclid", probe_div_euclid, f64::div_euclid);
     let range = |all: &mut Report, name: &str, ours: extern "C" fn(f64) -> bool, low: i32, high: i32| {
-        all.range(name, |tally| {
+        all.ruled(name, &[], |tally| {
             for x in singles() {
                 let inside = (2f64.powi(low)..=2f64.powi(high)).contains(&x);
                 tally.same(x, (Code::ACCEPTED, ours(x)), Said::gives(Who::Rules, inside));

@@ -1,11 +1,12 @@
-//! Frozen answers on scales: files, items, pushes and builds. Each call is lent seven columns of 16 places, that of the kinds cut to a
-//! room; a line ends with the first places of all of them.
+//! Frozen answers on scales: files, items, pushes, builds and exports. Each call but an export is lent seven columns of 16 places, that
+//! of the kinds cut to a room; a line ends with all places that the call may write, and the program sees that those behind them are
+//! as before.
 
 use crate::ffi_scl::{Columns, Item, Push};
 use crate::freeze::{List, float, refusal, hex, written};
 use crate::inputs::Random;
 use crate::tally::{Code, Said, Who};
-use crate::{rules_scl, scl_build, scl_read};
+use crate::{rules_scl, scl_build, scl_export, scl_read};
 
 const PLACES: usize = 16;
 
@@ -26,35 +27,38 @@ fn lengths(room: usize) -> [usize; 7] {
     [room, PLACES, PLACES, PLACES, PLACES, PLACES, PLACES]
 }
 
-/// The first places, as many as given; behind the room a kind is as the program made it.
-fn places(c: &Columns, count: usize) -> String {
-    let row = |k: usize| {
+/// All places up to the last that is not as the program made it; behind the room a kind is so.
+fn places(c: &Columns) -> String {
+    let row = |c: &Columns, k: usize| {
         let kind = c.kind.get(k).copied().unwrap_or(9);
         format!(" {kind} {:016x} {} {} {} {:016x} {}", c.cents[k], c.numer[k], c.denom[k], c.place[k], c.ratio[k], c.wraps[k])
     };
-    format!("{count}{}", (0..count).map(row).collect::<String>())
+    let old = row(&lent(PLACES), 0);
+    let rows: Vec<String> = (0..PLACES).map(|k| row(c, k)).collect();
+    let shown = rows.iter().rposition(|row| *row != old).map_or(0, |last| last + 1);
+    format!("{shown}{}", rows[..shown].concat())
 }
 
 fn reads(list: &mut List) {
-    let one = |list: &mut List, text: &[u8], room: usize, shown: usize| {
+    let one = |list: &mut List, text: &[u8], room: usize| {
         let said = scl_read::said(text, &lent(room), lengths(room));
-        let after = places(&said.value.1, shown);
+        let after = places(&said.value.1);
         list.push_with(&format!("read {} {room}", hex(text)), said, |((count, start, end), _)| format!("{count} {start} {end}"), &after);
     };
-    for file in [0, 3, 4, 5, 6, 8] {
-        one(list, scl_read::FILES[file].as_bytes(), 14, 2);
+    for file in scl_read::FILES {
+        one(list, file.as_bytes(), 14);
     }
     for (text, entries) in scl_read::FIXED {
-        one(list, text.as_bytes(), entries.len(), entries.len());
+        one(list, text.as_bytes(), entries.len());
     }
     let texts = scl_read::texts();
     // the telling tokens in each place, then short texts and damaged copies, few of each kind
-    for (k, text) in texts.iter().skip(9).take(860).step_by(6).enumerate() {
-        one(list, text, [4, 2, 3, 5][k % 4], 2);
+    for (k, text) in texts.iter().skip(9).take(860).step_by(4).enumerate() {
+        one(list, text, [4, 2, 3, 5][k % 4]);
     }
     let short: Vec<&Vec<u8>> = texts.iter().skip(900).filter(|t| t.len() <= 50).collect();
     for (k, text) in short.iter().step_by(short.len() / 60).enumerate() {
-        one(list, text, [2, 0, 5, 1][k % 4], 1);
+        one(list, text, [2, 0, 5, 1][k % 4]);
     }
 }
 
@@ -80,14 +84,15 @@ fn fields(push: Push) -> String {
     }
 }
 
-/// A run: a new builder, each push, and the build.
+/// A run: a new builder, each push, and the build. What the columns hold at the end is the Rust's where it builds (`built`), else the
+/// rules'.
 fn build(list: &mut List, room: usize, pushes: &[Push]) {
     let call = format!("build {room} {} n - -{}", pushes.len() + 1, pushes.iter().map(|&push| format!(" {}", fields(push))).collect::<String>());
     let mut columns = lent(room);
     if room == 0 {
         // no builder starts: no push and no build fits a state of no room
         let refused = vec!["!10 0"; pushes.len()].join(" ");
-        list.push_with(format!("{call} !12 0 {refused}").trim_end(), Said::refused(Who::Rules, 10, 0, ()), |()| String::new(), &places(&columns, 1));
+        list.push_with(format!("{call} !12 0 {refused}").trim_end(), Said::refused(Who::Rules, 10, 0, ()), |()| String::new(), &places(&columns));
         return;
     }
     columns.put_items(0, &[Item::cents(0.0)]);
@@ -106,7 +111,7 @@ fn build(list: &mut List, room: usize, pushes: &[Push]) {
         answers = format!("{answers} {answer}");
     }
     let said = scl_build::built(&columns, &taken);
-    let after = places(&said.value.1, taken.len() + 1);
+    let after = places(&said.value.1);
     list.push_with(&format!("{call} {answers}"), said, |(count, _)| count.to_string(), &after);
 }
 
@@ -121,16 +126,74 @@ fn builds(list: &mut List) {
     }
     // states that are not the columns'
     for (room, count, push) in [(17, 0, Push::Int(2)), (4, 4, Push::Int(2)), (0, 0, Push::Cents(1.0)), (4, 3, Push::Int(0)), (16, 15, Push::Cents(f64::INFINITY))] {
-        list.push_with(&format!("push {room} {count} {}", fields(push)), Said::refused(Who::Rules, 10, 0, ()), |()| String::new(), &places(&lent(16), 2));
+        list.push_with(&format!("push {room} {count} {}", fields(push)), Said::refused(Who::Rules, 10, 0, ()), |()| String::new(), &places(&lent(PLACES)));
     }
-    list.push_with("push 16 15 f 2 -", Said::refused(Who::Rules, 12, 0, ()), |()| String::new(), &places(&lent(16), 2));
+    list.push_with("push 16 15 f 2 -", Said::refused(Who::Rules, 12, 0, ()), |()| String::new(), &places(&lent(PLACES)));
     for (room, count) in [(17, 1), (16, 16), (0, 0), (16, 0)] {
-        list.push_with(&format!("finish {room} {count}"), Said::refused(Who::Rules, 10, 0, ()), |()| String::new(), &places(&lent(16), 2));
+        list.push_with(&format!("finish {room} {count}"), Said::refused(Who::Rules, 10, 0, ()), |()| String::new(), &places(&lent(PLACES)));
     }
+}
+
+/// An export of the first `count` items of these places; the column of the kinds is cut to them.
+fn export(list: &mut List, description: &[u8], items: &[Item], count: u16, room: usize) {
+    let mut columns = lent(items.len());
+    columns.put_items(0, items);
+    one_export(list, description, &columns, count, room);
+}
+
+fn one_export(list: &mut List, description: &[u8], columns: &Columns, count: u16, room: usize) {
+    let row = |k: usize| format!(" {} {} {} {}", columns.kind[k], float(f64::from_bits(columns.cents[k])), columns.numer[k], columns.denom[k]);
+    let table: String = (0..columns.kind.len()).map(row).collect();
+    let said = scl_export::export(description, columns, count, room);
+    let after = hex(&said.value.1);
+    list.push_with(&format!("export {} {count} {room} {}{table}", hex(description), columns.kind.len()), said, |(length, _)| length.to_string(), &after);
+}
+
+fn exports(list: &mut List) {
+    let mut random = Random::new(110);
+    // files as they are in use, into bytes that are just enough, two more, and one too few
+    for (k, file) in [3, 4, 5, 6, 8].into_iter().enumerate() {
+        let (start, end, items) = rules_scl::read(scl_read::FILES[file].as_bytes(), 14).unwrap();
+        let description = &scl_read::FILES[file].as_bytes()[start..end];
+        let count = (items.len() - 1) as u16;
+        let length = scl_export::export(description, &scl_export::table(&items[1..], 0), count, 400).value.0;
+        export(list, description, &items, count, [length, length + 2, length - 1][k % 3]);
+    }
+    // descriptions that break their own text, and what is none
+    for description in scl_export::DESCRIPTIONS {
+        export(list, description, &[Item::cents(0.0), Item::Fraction(2, Some(1))], 1, description.len() + 8);
+    }
+    // ties, signs and limits of cents; integers and fractions as declared
+    let cents = [0.0625, 0.1875, -0.0625, -0.0, -0.0004, 0.0005, 0.0015, 38_400.0, -38_400.0, 38_399.9995, 701.955_000_865_387_4].map(Item::cents);
+    let whole = [Item::Fraction(4, Some(2)), Item::Fraction(2, None), Item::Fraction(u32::MAX, Some(u32::MAX)), Item::Fraction(1, Some(10)), Item::Fraction(10, None)];
+    for items in [&cents[..], &whole[..]] {
+        let all: Vec<Item> = [Item::cents(0.0)].into_iter().chain(items.iter().copied()).collect();
+        export(list, b"d", &all, items.len() as u16, 140);
+    }
+    for k in 0..12 {
+        let items: Vec<Item> = [Item::cents(100.0)].into_iter().chain((0..k % 4).map(|_| Item::cents((random.unit() - 0.5) * 76_800.0))).collect();
+        export(list, b"", &items, (items.len() - 1) as u16, 3 + 11 * (k % 4));
+    }
+    // tables that cannot be used: 10, before 12
+    let good = [Item::cents(0.0), Item::Fraction(3, Some(2)), Item::cents(1200.0)];
+    for count in [3, u16::MAX] {
+        export(list, b"d", &good, count, 30);
+    }
+    for (k, item) in [(0, Item::cents(f64::NAN)), (1, Item::Fraction(0, Some(2))), (1, Item::Fraction(3, Some(0))), (2, Item::Fraction(0, None)), (2, Item::cents(38_400f64.next_up()))] {
+        let mut items = good;
+        items[k] = item;
+        export(list, b"d", &items, 2, [0, 30][k % 2]);
+    }
+    let mut unknown = lent(3);
+    unknown.put_items(0, &good);
+    unknown.kind[2] = 3;
+    one_export(list, b"d", &unknown, 2, 30);
+    one_export(list, b"d", &lent(0), 0, 30);
 }
 
 pub fn scales(list: &mut List) {
     reads(list);
     ratios(list);
     builds(list);
+    exports(list);
 }

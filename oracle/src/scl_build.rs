@@ -113,29 +113,42 @@ fn pushes(tally: &mut Tally) {
     }
 }
 
-/// What a build of these pushes should leave, all of them usable and with a place; `old` has the items.
+/// What a build of these pushes should leave, all of them usable and with a place: the Rust's items and list over `old`, or where the Rust
+/// refuses, `old`, which has the items by the rules.
 pub fn built(old: &Columns, pushes: &[Push]) -> Said<(u16, Columns)> {
-    let refused = |who, number| Said::refused(who, number, 0, (OLD_U16, old.clone()));
+    let mut columns = old.clone();
     match rust_scl::build(pushes) {
-        None => Said::fault((0, old.clone())),
-        Some(Err((number, _))) => refused(Who::Rust, number),
-        Some(Ok(parts)) if rules_scl::beyond(&parts.items) => refused(Who::Rules, 18),
+        None => Said::fault((0, columns)),
+        Some(Err((number, _))) => Said::refused(Who::Rust, number, 0, (OLD_U16, columns)),
         Some(Ok(parts)) => {
-            let mut columns = old.clone();
+            columns.put_items(0, &parts.items);
+            if rules_scl::beyond(&parts.items) {
+                return Said::refused(Who::Rules, 18, 0, (OLD_U16, columns));
+            }
             columns.put_list(&parts.list);
             Said::gives(Who::Second, (pushes.len() as u16, columns))
         }
     }
 }
 
+/// The columns with place 0 and the items of these pushes by the rules; all of them are usable and have a place.
+fn with_items(old: &Columns, pushes: &[Push]) -> Columns {
+    let mut columns = old.clone();
+    columns.put_items(0, &[Item::cents(0.0)]);
+    for (k, &push) in pushes.iter().enumerate() {
+        columns.put_items(k + 1, &[rules_scl::pushed(push).unwrap()]);
+    }
+    columns
+}
+
 /// Ours after these pushes, built, beside the Rust; the pushes fit.
 fn one_build(tally: &mut Tally, lengths: [usize; 7], pushes: &[Push]) {
     let mut columns = Columns::new(lengths);
+    let old = with_items(&columns, pushes);
     let (_, room) = ffi_scl::new_scl(&mut columns);
     for (k, &push) in pushes.iter().enumerate() {
         ffi_scl::push(&mut columns, room, k, push);
     }
-    let old = columns.clone();
     let (code, count) = ffi_scl::build_scl(&mut columns, room, pushes.len());
     tally.same((lengths, &pushes[..pushes.len().min(12)]), (code, (count, columns)), built(&old, pushes));
 }
@@ -199,6 +212,16 @@ fn builds(tally: &mut Tally) {
     for items in [65_535, 65_536, 65_537] {
         one_build(tally, [65_600; 7], &vec![Push::Fraction(3, 2); items]);
     }
+    // 13 before 18: too many items, and the period is 1.0
+    let mut pushes = vec![Push::Fraction(3, 2); 65_536];
+    pushes[65_535] = Push::Int(1);
+    one_build(tally, [65_600; 7], &pushes);
+    // 10 before 13: too many items, and one that cannot be used
+    let mut columns = with_items(&Columns::new([65_600; 7]), &pushes);
+    columns.numer[40_000] = 0;
+    let old = columns.clone();
+    let (code, count) = ffi_scl::build_scl(&mut columns, 65_600, 65_536);
+    tally.same("too many items, one of them 0/2", (code, (count, columns)), Said::refused(Who::Rules, 10, 0, (OLD_U16, old)));
     states(tally);
 }
 
@@ -225,7 +248,9 @@ fn states(tally: &mut Tally) {
         tally.same((room, count, columns.clone()), (code, (items, left)), Said::refused(Who::Rules, 10, 0, (OLD_U16, columns)));
     }
     let mut columns = bad(|c| c.cents[0] = 100f64.to_bits());
-    tally.require(ffi_scl::build_scl(&mut columns, 4, 2) == (Code::ACCEPTED, 2), "place 0 need not be 0.0");
+    let answer = ffi_scl::build_scl(&mut columns, 4, 2);
+    let list = [(0, 1.0594630943592953, 0), (1, 1.4999999999999998, 0), (2, 2.0, 0)].map(|(place, ratio, wraps)| (place, f64::to_bits(ratio), wraps));
+    tally.require(answer == (Code::ACCEPTED, 2) && columns.list(3) == list, ("place 0 need not be 0.0", answer, &columns));
     // the period is that of the last item, whatever the list held before
     let mut columns = bad(|c| c.ratio.fill(f64::NAN.to_bits()));
     let old = columns.clone();

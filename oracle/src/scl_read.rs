@@ -217,6 +217,11 @@ pub fn compare(all: &mut Report) {
                 one_read(tally, &text, [room; 7]);
             }
         }
+        // 13 before 14 and 18: too many items, and the period is 1.0
+        let text = [long(65_535, 65_535), b"1/1\n".to_vec()].concat();
+        for room in [65_537, 65_600] {
+            one_read(tally, &text, [room; 7]);
+        }
         // a good scale in use, and a reload whose last item is broken: refused with its line, and every place as before
         let mut columns = Columns::new([16; 7]);
         let (code, _) = ffi_scl::read_scl(FILES[0].as_bytes(), &mut columns);

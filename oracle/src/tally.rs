@@ -82,7 +82,7 @@ pub struct Report {
 
 impl Report {
     pub fn new() -> Report {
-        println!("random inputs are SplitMix64's, seeds 1 to 28");
+        println!("random inputs are SplitMix64's, seeds 1 to 29");
         println!("cases: of them the Rust's own answers, those on the second E and L, and those by the rules alone; then refusals met");
         println!("{:<26} {:>9} {:>9} {:>9} {:>9} {:>6}  {}", "function", "cases", "rust", "second", "rules", "differ", "NUMBER:times");
         Report { failed: false, lines: 0 }
@@ -98,9 +98,10 @@ impl Report {
         }
     }
 
-    /// Compares a range of document 01's, which the Rust does not have: every case is by the rules, and there is one.
-    pub fn range(&mut self, name: &str, cases: impl FnOnce(&mut Tally)) {
-        let by = self.tried(name, &[], cases);
+    /// Compares what the Rust does not have, a range of document 01's or tables that no build leaves: every case is by the rules, and there
+    /// is one.
+    pub fn ruled(&mut self, name: &str, numbers: &[u64], cases: impl FnOnce(&mut Tally)) {
+        let by = self.tried(name, numbers, cases);
         if by[2] == 0 {
             println!("{name}: no case");
             self.failed = true;

@@ -86,3 +86,6 @@ number-of-one e = one-result (numberOf e)
 
 pub scale-degree-of-one : (kbm : Kbm) (map : List ℤ) (key : PianoKey) → One saysDegree (scaleDegreeOf kbm map key)
 scale-degree-of-one kbm map key = degree-one (scaleDegreeOf kbm map key)
+
+pub degree-in-one : (kbm : Kbm) (map : List ℤ) (key : PianoKey) → One saysDegree (degreeOf kbm (tableOf (kbm .count) map) key)
+degree-in-one kbm map key = degree-one (degreeOf kbm (tableOf (kbm .count) map) key)

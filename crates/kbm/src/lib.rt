@@ -12,7 +12,7 @@ ghost use mathlib.Core.Bool.{true};
 ghost use lib.IntN.{_+ℤ_, _*ℤ_};
 ghost use Rattle.base.specs.Integers.{held};
 ghost use Rattle.kbm.specs.Answers.{saysRoot, saysDegree};
-ghost use Rattle.kbm.specs.Degree.{inRange, degreeAt, degreeFrom, scaleDegreeOf};
+ghost use Rattle.kbm.specs.Degree.{inRange, degreeAt, degreeFrom, degreeOf, scaleDegreeOf};
 ghost use Rattle.kbm.specs.Root.{rootOf, isRoot};
 ghost use Rattle.kbm.specs.Table.{numberOf, isEntry, entryOf, isTable, tableOf};
 
@@ -216,18 +216,26 @@ fn degree_from(
     }
 }
 
+// The degree of a key in a table that can be used: 16 outside the range, 11 for the distance, 17 unmapped, 11. For callers that have
+// tested the table.
+pub fn degree_in(kbm: Kbm, map: &[i32], key: PianoKey) -> DegreeAnswer
+    requires { ⌜ isTable (kbm .count) (now map) ≡ true ⌝ }
+    ensures { λ r. ⌜ saysDegree r ≡ degreeOf kbm (tableOf (kbm .count) (now (map .entry))) key ⌝ }
+{
+    let root = kbm.root;
+    if is_in_range(kbm.start, kbm.end, key) {
+        return degree_from(root.reference, key, kbm.octave, map, kbm.count);
+    }
+    DegreeAnswer::Refused(OUT_OF_RANGE)
+}
+
 // The degree of a key: 10 for a table that cannot be used, 16 outside the range, 11 for the distance, 17 unmapped, 11.
 // Entries 0, x, 2, octave 5, keys 0..127, reference 60: key 59 has degree -3, key 61 is 17, key 128 is 16.
 pub fn scale_degree_of(kbm: Kbm, map: &[i32], key: PianoKey) -> DegreeAnswer
     ensures { λ r. ⌜ saysDegree r ≡ scaleDegreeOf kbm (now (map .entry)) key ⌝ }
 {
-    let count = kbm.count;
-    let root = kbm.root;
-    if is_table(map, count as usize) {
-        if is_in_range(kbm.start, kbm.end, key) {
-            return degree_from(root.reference, key, kbm.octave, map, count);
-        }
-        return DegreeAnswer::Refused(OUT_OF_RANGE);
+    if is_table(map, kbm.count as usize) {
+        return degree_in(kbm, map, key);
     }
     DegreeAnswer::Refused(NOT_USABLE)
 }

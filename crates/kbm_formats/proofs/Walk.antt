@@ -26,9 +26,9 @@ use Rattle.kbm.specs.declared.Entry.the-variants.{Mapped, Unmapped}
 use Rattle.kbm.proofs.Entries.{mag-i16}
 use Rattle.listing.specs.Reader.{walkLines, givenAfter}
 use Rattle.kbm_read.specs.Reader.{isCross, entryIn, takeToken, finished, walk, unread, mappingOf, givenFrom}
-use Rattle.kbm_read.specs.declared.line.Due.the-variants as due
-use Rattle.kbm_read.specs.declared.line.EntryRead.the-variants as entry
-use Rattle.kbm_read.specs.declared.line.Head.{Head}
+use Rattle.kbm_line.specs.declared.Due.the-variants as due
+use Rattle.kbm_line.specs.declared.EntryRead.the-variants as entry
+use Rattle.kbm_line.specs.declared.Head.{Head}
 use Rattle.kbm_write.specs.Export.{entryTexts}
 use Rattle.writing.proofs.Plain.{selves}
 use Rattle.writing.proofs.Printed.{signed-reads}

@@ -1,4 +1,4 @@
-pub mod Takes
+pub mod Finishes
 pub mod Fills
 pub mod Leaves
 pub mod Fields

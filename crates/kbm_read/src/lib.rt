@@ -1,23 +1,20 @@
 // The reader of keyboard mappings. Document 01, "Lines" and "Mapping"; the Rust's `import_kbm`.
 //
 // A first pass goes over the lines and finds the mapping or the first fault; a second, which cannot fail, writes the entries.
-mod line;
-
-use crate::line::Due;
-use crate::line::EntryRead;
-use crate::line::Head;
-use crate::line::State;
-use crate::line::Step;
-use crate::line::read_entry;
-use crate::line::take_line;
 use base::Refusal;
 use kbm::Entry;
 use kbm::Kbm;
 use kbm::KbmAnswer;
 use kbm::KbmRoot;
+use kbm_line::Due;
+use kbm_line::Found;
+use kbm_line::Head;
+use kbm_line::State;
+use kbm_line::Step;
+use kbm_line::found_in;
+use kbm_line::take_line;
 use key::PianoKey;
 use pitch::Pitch;
-use text::line::LineSays;
 use text::line::read_line;
 use text::lines::next_line;
 ghost use mathlib.Core.Path.{_≡_};
@@ -26,15 +23,7 @@ ghost use lib.ListN.{length};
 ghost use Rattle.base.specs.Tables.{over};
 ghost use Rattle.kbm.specs.Answers.{saysKbm};
 ghost use Rattle.kbm.specs.Table.{numbersOf};
-ghost use Rattle.text.specs.ReadLine.{shown, InText};
-ghost use Rattle.kbm_read.specs.Reader.{unread, whichOf, mappingOf, finished, readOf, foundIn, givenIn, afterRead, padded};
-
-// What a line gives the table: an entry, nothing, or nothing since it is a required line.
-pub enum Found {
-    Is(Entry),
-    Required,
-    Nothing,
-}
+ghost use Rattle.kbm_read.specs.Reader.{unread, whichOf, mappingOf, finished, readOf, givenIn, afterRead, padded};
 
 // The most entries that a mapping can have.
 const MOST: usize = 65535;
@@ -150,31 +139,6 @@ fn check(text: &[u8], room: usize) -> KbmAnswer
         at = ends.next;
     }
     finish(state, room)
-}
-
-// What a line gives the table, where so many of the seven required lines are still to come.
-fn found_in(text: &[u8], says: LineSays, required: usize) -> Found
-    requires { ⌜ InText (now text) says ⌝ }
-    ensures { λ r. ⌜ r ≡ foundIn required (shown (now (text .entry)) says) ⌝ }
-{
-    match says {
-        LineSays::NotUtf8 => Found::Nothing,
-        LineSays::Blank => Found::Nothing,
-        LineSays::Comment => Found::Nothing,
-        LineSays::Content {
-            start,
-            end: _,
-            token_end,
-        } => {
-            if 0 < required {
-                return Found::Required;
-            }
-            let EntryRead::Is(entry) = read_entry(&text[start..token_end]) else {
-                return Found::Nothing;
-            };
-            Found::Is(entry)
-        }
-    }
 }
 
 // The second pass: writes the entries that the text gives, and answers how many.

@@ -1,7 +1,9 @@
 // The calls on the first places of the kinds, and on the first bytes of a text. Where there are not so many, the answer is one that no
 // line has.
 use base::Refusal;
+use scl::Scl;
 use scl_read::SclReadAnswer;
+use writing::SizeAnswer;
 
 pub const NO_SUCH: Refusal = Refusal {
     number: 255,
@@ -60,6 +62,38 @@ pub fn read(
         place,
         ratio,
         wraps,
+    )
+}
+
+pub fn export(
+    scl: Scl,
+    text: &[u8],
+    length: usize,
+    kind: &[u8],
+    places: usize,
+    cents: &[f64],
+    numer: &[u32],
+    denom: &[u32],
+    out: &mut [u8],
+    room: usize,
+) -> SizeAnswer {
+    if text.len() < length {
+        return SizeAnswer::Refused(NO_SUCH);
+    }
+    if kind.len() < places {
+        return SizeAnswer::Refused(NO_SUCH);
+    }
+    if out.len() < room {
+        return SizeAnswer::Refused(NO_SUCH);
+    }
+    scl_write::export_scl(
+        scl,
+        &text[..length],
+        &kind[..places],
+        cents,
+        numer,
+        denom,
+        &mut out[..room],
     )
 }
 

@@ -1,8 +1,9 @@
 // Replays frozen answers on scales (the crate `frozen` says how a line is written): writes how many are the same and how many differ.
 // The list is made by `oracle freeze`.
 //
-// Each call is lent seven columns of 16 places, that of the kinds cut to a room where the line says one. An answer ends with a number
-// of places, and what stands in each of them after the call: kind, cents, numerator, denominator, place, ratio, wraparounds.
+// Each call but an export is lent seven columns of 16 places, that of the kinds cut to a room where the line says one. An answer ends
+// with a number of places, and what stands in each of them after the call: kind, cents, numerator, denominator, place, ratio,
+// wraparounds. All places behind them must be as before.
 use frozen::Counts;
 use frozen::Float;
 use frozen::Size;
@@ -15,6 +16,7 @@ use scl_build::SclBuilder;
 use scl_read::SclReadAnswer;
 
 mod builders;
+mod exports;
 mod first;
 mod shown;
 
@@ -214,6 +216,9 @@ fn is_same(line: &[u8]) -> bool {
     let mut wraps = [8; 16];
     if check::same(name, b"ratio") {
         return is_same_ratio(line, at);
+    }
+    if check::same(name, b"export") {
+        return exports::is_same_export(&mut kind, &mut cents, &mut numer, &mut denom, line, at);
     }
     if check::same(name, b"read") {
         return is_same_read(

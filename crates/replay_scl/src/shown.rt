@@ -64,7 +64,57 @@ fn is_entry_at(
     false
 }
 
-// Whether the places of the columns are the last fields of a line, after their number.
+// Whether an item's place is as the program made it.
+fn is_old_item(kind: &[u8], cents: &[f64], numer: &[u32], denom: &[u32], k: usize) -> bool {
+    if k < kind.len() {
+        if k < cents.len() {
+            if k < numer.len() {
+                if k < denom.len() {
+                    return (kind[k] == 9) & (cents[k] == 2.0) & (numer[k] == 7) & (denom[k] == 7);
+                }
+            }
+        }
+    }
+    false
+}
+
+// Whether an entry's place is as the program made it.
+fn is_old_entry(place: &[u32], ratio: &[f64], wraps: &[i32], k: usize) -> bool {
+    if k < place.len() {
+        if k < ratio.len() {
+            if k < wraps.len() {
+                return (place[k] == 8) & (ratio[k] == 0.5) & (wraps[k] == 8);
+            }
+        }
+    }
+    false
+}
+
+// Whether all places from one on are as the program made them.
+fn are_old(
+    kind: &[u8],
+    cents: &[f64],
+    numer: &[u32],
+    denom: &[u32],
+    place: &[u32],
+    ratio: &[f64],
+    wraps: &[i32],
+    from: usize,
+) -> bool {
+    let mut k = from;
+    while k < kind.len() {
+        let item = is_old_item(kind, cents, numer, denom, k);
+        let entry = is_old_entry(place, ratio, wraps, k);
+        if item & entry {
+            k += 1;
+        } else {
+            return false;
+        }
+    }
+    true
+}
+
+// Whether the first places of the columns are the last fields of a line, after their number, and those behind them are as before.
 pub fn are_places(
     kind: &[u8],
     cents: &[f64],
@@ -91,7 +141,10 @@ pub fn are_places(
             return false;
         }
     }
-    frozen::is_end(line, after)
+    if frozen::is_end(line, after) {
+        return are_old(kind, cents, numer, denom, place, ratio, wraps, places);
+    }
+    false
 }
 
 // Where the field after this refusal starts; the line's end where another stands there.

@@ -21,12 +21,12 @@ use Rattle.explog.specs.Rules.{E, inPowers, floorOf, powerOf, timesPower}
 use Rattle.explog.specs.Exp.{pOf}
 use Rattle.pitch.specs.Given.{computed}
 use Rattle.pitch.specs.Ratios.{centsF, fromOctaves, fromCents}
-use Rattle.scl.specs.Items.{isUsableCents, isUsableDenom, isUsable, denomOf, ratioOf, Held}
+use Rattle.scl.specs.Items.{isUsableCents, isUsableDenom, isUsable, denomOf, ratioOf, Reached, Held}
 use Rattle.scl.specs.declared.Denom.{Denom}
 use Rattle.scl.specs.declared.Denom.the-variants.{Given, Lacking}
 use Rattle.scl.specs.declared.Item.{Item}
 use Rattle.scl.specs.declared.Item.the-variants.{Cents, Fraction}
-use Rattle.floats.proofs.Between.{within-more, within-reach, quotient-within, range-sized}
+use Rattle.floats.proofs.Between.{within-more, within-reach, within-generator, quotient-within, range-sized}
 use Rattle.floats.proofs.Sized.{Sized, sized, sized-more, div-sized-by}
 use Rattle.explog.proofs.Reach.{exp-within, powers-sized, sized-powers}
 
@@ -40,6 +40,9 @@ pub record Ratio (a : ℕ) (s : Said Float) : Type 0 where
 -- so it lies in the range of all ratios
 pub ratio-reach : {a : ℕ} {s : Said Float} {r : Float} → a ≤ 900 → Ratio a s → gives r ≡ s → inReach r ≡ true
 ratio-reach {a} {s} {r} l t h = subst (λ (x : Float). inReach x ≡ true) (sym (same-value r (t .value) (h ∙ t .is))) (within-reach (within-more l l (t .between)))
+
+pub ratio-reached : {s : Said Float} → Ratio 32 s → Reached s
+ratio-reached t = record { value = t .value; is = t .is; within = within-generator (t .between) }
 
 power-fits : (z : ℤ) → fits binary64 (powerOf z) ≡ true
 unfolding powerOf timesPower

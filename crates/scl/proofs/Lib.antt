@@ -3,3 +3,4 @@ pub mod Table
 pub mod Writing
 pub mod Numbers
 pub mod Theorems
+pub mod Typed

@@ -3,25 +3,24 @@ use mathlib.Core.Path.{_≡_, refl}
 use mathlib.Core.Logic.{inl, inr}
 use mathlib.Core.Bool.{true}
 use Prim.Native.Nat.{ℕ}
-use lib.Ieee.{Float}
-use Rattle.base.specs.Said.{Said, gives}
+use lib.Ieee.{Float, nan}
+use lib.ListN.{getD}
+use Rattle.base.specs.Said.{Said}
 use Rattle.base.proofs.Said.{One, Split, one-result, one-answer}
-use Rattle.floats.specs.Ranges.{inGenerator}
-use Rattle.floats.proofs.Between.{within-generator}
 use Rattle.pitch.specs.Answers.{saysRatio}
 use Rattle.pitch.proofs.Theorems.{ratio-one}
 use Rattle.scl.specs.Answers.{saysScl}
-use Rattle.scl.specs.Items.{isUsableCents, isUsable, denomOf, ratioOf, Held}
+use Rattle.scl.specs.Items.{isUsableCents, isUsable, denomOf, ratioOf, Reached, Held}
 use Rattle.scl.specs.Table.{ItemTable, itemOf, isItems}
 use Rattle.scl.specs.declared.Denom.{Denom}
 use Rattle.scl.specs.declared.Item.{Item}
 use Rattle.scl.specs.declared.SclAnswer.the-variants as OfScl
-use Rattle.scl.proofs.Items.{item-ratio}
+use Rattle.scl.proofs.Items.{item-ratio, ratio-reached}
 
 -- "Usable: numerator and denominator at least 1; cents from -38,400 to 38,400": the ratio of such an item lies in 2^-32..2^32, so
--- it never gives 18
-pub usable-ratio : (i : Item) → Held i → isUsable i ≡ true → (r : Float) × ((ratioOf i ≡ gives r) × (inGenerator r ≡ true))
-usable-ratio i h u = let t = item-ratio i h u in (t .value, (t .is, within-generator (t .between)))
+-- it never gives 18 (the contract of `as_ratio` says it of the call, whose numbers are of 32 bits)
+pub usable-ratio : (i : Item) → Held i → isUsable i ≡ true → Reached (ratioOf i)
+usable-ratio i h u = ratio-reached (item-ratio i h u)
 
 -- ---- two results of one input are equal
 pub scl-split : Split OfScl.Is OfScl.Refused
@@ -45,6 +44,9 @@ as-ratio-one i = ratio-one (ratioOf i)
 
 pub item-of-one : (kind : ℕ) (cents : Float) (numer denom : ℕ) → One (λ r. r) (itemOf kind cents numer denom)
 item-of-one kind cents numer denom = one-result (itemOf kind cents numer denom)
+
+pub item-at-one : (t : ItemTable) (i : ℕ) → One (λ r. r) (itemOf (getD (t .kinds) i 0) (getD (t .cents) i nan) (getD (t .numers) i 0) (getD (t .denoms) i 0))
+item-at-one t i = one-result (itemOf (getD (t .kinds) i 0) (getD (t .cents) i nan) (getD (t .numers) i 0) (getD (t .denoms) i 0))
 
 pub is-items-one : (t : ItemTable) (count : ℕ) → One (λ r. r) (isItems count t)
 is-items-one t count = one-result (isItems count t)

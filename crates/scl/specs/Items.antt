@@ -6,9 +6,9 @@ use mathlib.Core.List.{List, [], _∷_}
 use Prim.Native.Nat.{ℕ, _^_, _<_}
 use lib.Dec.{ltb}
 use lib.IntN.{pos}
-use lib.Ieee.{Float, binary64, fits, div, neg, ofInt, ofBits}
-use Rattle.base.specs.Said.{Said}
-use Rattle.floats.specs.Ranges.{within}
+use lib.Ieee.{Float, binary64, div, neg, ofInt, ofBits}
+use Rattle.base.specs.Said.{Said, gives}
+use Rattle.floats.specs.Ranges.{within, inGenerator}
 use Rattle.pitch.specs.Given.{computed}
 use Rattle.pitch.specs.Ratios.{fromCents}
 use Rattle.scl.specs.declared.Denom.{Denom}
@@ -43,9 +43,15 @@ abbrev pub ratioOf : Item → Said Float
 ratioOf (Cents c) = fromCents c
 ratioOf (Fraction n d) = computed (div binary64 (ofInt binary64 (pos n)) (ofInt binary64 (pos (denomOf d))))
 
--- what the machine holds of an item: an f64, numbers of 32 bits
+-- a ratio is said, and lies in 2^-32..2^32
+pub record Reached (s : Said Float) : Type 0 where
+  pub value : Float
+  pub is : s ≡ gives value
+  pub within : inGenerator value ≡ true
+
+-- what the machine holds of an item: numbers of 32 bits
 abbrev pub Held : Item → Type 0
-Held (Cents c) = fits binary64 c ≡ true
+Held (Cents c) = Unit {0}
 Held (Fraction n d) = (n < 2 ^ 32) × (denomOf d < 2 ^ 32)
 
 abbrev pub AllHeld : List Item → Type 0

@@ -4,7 +4,7 @@
 use mathlib.Core.Path.{_≡_}
 use mathlib.Core.Bool.{Bool, true, _&&_}
 use mathlib.Core.List.{List, [], _∷_}
-use Prim.Native.Nat.{ℕ, _+_, _<_}
+use Prim.Native.Nat.{ℕ, _+_, _^_, _<_}
 use lib.Dec.{eqb, ltb}
 use lib.ListN.{length, getD, set, take}
 use lib.Ieee.{Float, nan}
@@ -24,6 +24,11 @@ pub record ItemTable : Type 0 where
 
 abbrev pub itemTable : List ℕ → List Float → List ℕ → List ℕ → ItemTable
 itemTable ks cs ns ds = record { kinds = ks; cents = cs; numers = ns; denoms = ds }
+
+-- what columns of u32 hold: numbers of 32 bits
+pub record Typed (t : ItemTable) : Type 0 where
+  pub numers : (i : ℕ) → getD (t .numers) i 0 < 2 ^ 32
+  pub denoms : (i : ℕ) → getD (t .denoms) i 0 < 2 ^ 32
 
 -- ---- reading an item
 -- no item: it cannot be used

@@ -7,10 +7,12 @@ use base::Refusal;
 use pitch::Ratio;
 use pitch::RatioAnswer;
 ghost use mathlib.Core.Path.{_≡_};
-ghost use Prim.Native.Nat.{_≤_};
-ghost use lib.ListN.{length, take};
+ghost use mathlib.Core.Bool.{true};
+ghost use Prim.Native.Nat.{_≤_, _<_};
+ghost use lib.ListN.{length, take, getD};
+ghost use lib.Ieee.{nan};
 ghost use Rattle.pitch.specs.Answers.{saysRatio};
-ghost use Rattle.scl.specs.Items.{isUsableCents, isUsableDenom, isUsable, denomOf, ratioOf};
+ghost use Rattle.scl.specs.Items.{isUsableCents, isUsableDenom, isUsable, denomOf, ratioOf, Reached};
 ghost use Rattle.scl.specs.Table.{itemOf, itemsOf, itemTable, areUsable, isItems};
 
 // A scale, beside its tables: `count` items after place 0.
@@ -97,6 +99,7 @@ impl Item {
     // The item as a ratio; 18 where that is out of reach, never for an item that can be used.
     pub fn as_ratio(self) -> RatioAnswer
         ensures { λ r. ⌜ saysRatio r ≡ ratioOf self ⌝ }
+        ensures { λ r. ⌜ (isUsable self ≡ true → Reached (saysRatio r)) ⌝ }
     {
         match self {
             Item::Cents(cents) => Ratio::from_cents(cents),
@@ -121,6 +124,14 @@ pub fn item_of(kind: u8, cents: f64, numer: u32, denom: u32) -> Item
         return Item::Fraction(numer, Denom::Lacking);
     }
     Item::Cents(0.0 / 0.0)
+}
+
+// The item that stands at place i.
+pub fn item_at(kind: &[u8], cents: &[f64], numer: &[u32], denom: &[u32], i: usize) -> Item
+    requires { ⌜ (i < length (now kind)) × (i < length (now cents)) × (i < length (now numer)) × (i < length (now denom)) ⌝ }
+    ensures { λ r. ⌜ r ≡ itemOf (getD (now (kind .entry)) i 0) (getD (now (cents .entry)) i nan) (getD (now (numer .entry)) i 0) (getD (now (denom .entry)) i 0) ⌝ }
+{
+    item_of(kind[i], cents[i], numer[i], denom[i])
 }
 
 // Whether the item that stands in the columns can be used.

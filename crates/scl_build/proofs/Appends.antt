@@ -7,15 +7,18 @@ use Prim.Native.Nat.{ℕ, _+_, _-_, _<_}
 use native.Mathlib.Numerals.{add-one}
 use native.Mathlib.Omega.{arith}
 use lib.Dec.{ltb}
+use lib.Ieee.{Float}
 use lib.ListN.{length, length-set}
 use lib.Seq.{drop-set-lt}
 use borrow.Author.Tests.{ltb-true, ltb-false}
-use Rattle.base.specs.Said.{Said, pick}
+use Rattle.base.specs.Said.{Said, gives, refuses, pick, andThen}
+use Rattle.pitch.specs.Ratios.{asCents}
 use Rattle.scl.specs.Items.{isUsable}
 use Rattle.scl.specs.Table.{ItemTable, itemsIn, kindOf, centsOf, numerOf, denomAt, writtenAt, areUsable}
 use Rattle.scl.specs.declared.Item.{Item}
+use Rattle.scl.specs.declared.Item.the-variants.{Cents}
 use Rattle.scl.proofs.Writing.{first-written}
-use Rattle.scl_build.specs.Builder.{state, fitsItems, pushed, writtenWhere, beside, builderAfter, afterOne, afterAll, acceptedOf, placesLeft, behind, Built, Appended}
+use Rattle.scl_build.specs.Builder.{state, fitsItems, pushed, writtenWhere, pushedRatio, afterCents, afterRatio, beside, builderAfter, afterOne, afterAll, acceptedOf, placesLeft, behind, Built, Appended, Push, afterPushed, afterPushes, withCents, itemsPushed}
 use Rattle.scl_build.specs.declared.SclBuilder.{SclBuilder}
 use Rattle.scl_build.proofs.Pushes.{Fit, fit-says, says-fit, push-unusable, push-full, push-more}
 
@@ -82,6 +85,24 @@ run-appends (i ∷ is) b t f = go (isUsable i) (ltb 0 (placesLeft b)) refl refl 
         rw (left-by b t i (push-more b t i f u h), ← n) (appended-next b t i (fit-says b t f) h (new h))
     go true false u p old new = rw (left-by b t i (push-full b t i f u (omega (arith, ltb-false 0 (placesLeft b) p)))) old
     go false p u q old new = rw (left-by b t i (push-unusable b t i f u)) old
+
+-- a ratio's push is the push of its cents, or appends nothing
+ratio-run : (s : Built) (is : List Item) (x : Said Float)
+    → afterAll (beside (builderAfter (s .builder) (andThen x (λ c. pushed (s .builder) (s .table) (Cents c)))) (afterCents (s .builder) (s .table) x)) is ≡ afterAll s (withCents x is)
+unfolding afterAll
+ratio-run s is (gives c) = refl
+ratio-run s is (refuses n d) = refl
+
+-- a run with ratios among its pushes is the run of the items that they come to
+pub pushes-run : (ps : List Push) (s : Built) → afterPushes s ps ≡ afterAll s (itemsPushed ps)
+unfolding afterPushes afterAll itemsPushed pushedRatio afterRatio
+pushes-run [] s = refl
+pushes-run (Push.item i ∷ ps) s = pushes-run ps (afterOne s i)
+pushes-run (Push.ratio r ∷ ps) s = pushes-run ps (afterPushed s (Push.ratio r)) ∙ ratio-run s (itemsPushed ps) (asCents r)
+
+-- so it appends the accepted ones of those
+pub pushes-append : (ps : List Push) (b : SclBuilder) (t : ItemTable) → fitsItems b t ≡ true → Appended (beside b t) (acceptedOf (placesLeft b) (itemsPushed ps)) (afterPushes (beside b t) ps)
+pushes-append ps b t f = rw (pushes-run ps (beside b t)) (run-appends (itemsPushed ps) b t f)
 
 -- what is accepted is usable
 pub accepted-usable : (places : ℕ) (is : List Item) → areUsable (acceptedOf places is) ≡ true

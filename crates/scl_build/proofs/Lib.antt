@@ -3,3 +3,4 @@ pub mod Builds
 pub mod Appends
 pub mod Numbers
 pub mod Theorems
+pub mod Comes

@@ -11,7 +11,7 @@ use Rattle.scl.specs.Items.{isUsable}
 use Rattle.scl.specs.Table.{ItemTable, itemsIn}
 use Rattle.scl.specs.declared.Item.{Item}
 use Rattle.scl.specs.declared.Item.the-variants.{Cents}
-use Rattle.scl.proofs.Numbers.{as-cents-numbered}
+use Rattle.pitch.proofs.Numbers.{as-cents-numbered}
 use Rattle.scl_tables.specs.Room.{roomOf}
 use Rattle.scl_tables.proofs.Numbers.{sized-numbered}
 use Rattle.scl_build.specs.Builder.{builderOf, fitsItems, pushed, pushedRatio, isReady, built, counted}

@@ -94,7 +94,7 @@ module _ (t : ItemTable) (l : ListTable) (some : 0 < roomOf t l) where
     unfolding built
     run-built = rw run-ready (ap sizedOf run-items)
 
--- ---- when a build of ready tables is refused
+-- ---- when a build of ready tables is refused (that items in columns of u32 are held by the machine: Comes.antt)
 module _ (b : SclBuilder) (t : ItemTable) (l : ListTable) (h : isReady b t l ≡ true) where
   -- "13: over 65,535 entries"
   pub build-too-large : 65535 < b .count → built b t l ≡ refuses too-large 0
@@ -122,19 +122,18 @@ module _ (b : SclBuilder) (t : ItemTable) (l : ListTable) (es : List Entry) wher
       go true e = never e refl
       go false e = e
 
-  sized-given : (items : List Item) → sizedOf items ≡ gives es → (countOf items ≤ 65535) × (sortedOf items ≡ gives es)
+  pub sized-given : (items : List Item) → sizedOf items ≡ gives es → (countOf items ≤ 65535) × (sortedOf items ≡ gives es)
   sized-given items e = go (leb (countOf items) 65535) refl e
     where
       go : (x : Bool) → leb (countOf items) 65535 ≡ x → pick x (scaleOf items) (refuses too-large 0) ≡ gives es → (countOf items ≤ 65535) × (sortedOf items ≡ gives es)
       go true h e = (leb-true (countOf items) 65535 h, beyond-or-sorted items e)
       go false h e = never e refl
 
-  -- (held by the machine: what stands in the columns is of their types)
-  pub build-leaves : AllHeld (itemsIn (b .count) t) → built b t l ≡ gives es → Leaves b t l (gives es)
+  pub build-leaves : AllHeld (itemsIn (b .count) t) → built b t l ≡ gives es → Leaves (b .count) t (afterList (gives es) l)
   unfolding built
   build-leaves held e = go (isReady b t l) refl e
     where
-      go : (x : Bool) → isReady b t l ≡ x → pick x (sizedOf (itemsIn (b .count) t)) (refuses unusable 0) ≡ gives es → Leaves b t l (gives es)
+      go : (x : Bool) → isReady b t l ≡ x → pick x (sizedOf (itemsIn (b .count) t)) (refuses unusable 0) ≡ gives es → Leaves (b .count) t (afterList (gives es) l)
       go true h e =
           let items = itemsIn (b .count) t in
           let given = sized-given items e in

@@ -4,21 +4,23 @@
 -- gives 10 first. Assumes nothing.
 use mathlib.Core.Path.{_≡_}
 use mathlib.Core.Bool.{Bool, true, _&&_}
+use mathlib.Core.Logic.{_↔_}
 use mathlib.Core.List.{List, [], _∷_, _++_}
 use Prim.Native.Nat.{ℕ, _+_, _-_, _≤_}
 use lib.Dec.{leb, ltb}
 use lib.Ieee.{Float}
 use lib.ListN.{length, drop}
-use Rattle.base.specs.Numbers.{unusable, no-room}
+use Rattle.base.specs.Numbers.{unusable, no-room, beyond-reach}
 use Rattle.base.specs.Said.{Said, gives, refuses, pick, andThen}
+use Rattle.floats.specs.Floats.{oneF}
 use Rattle.pitch.specs.Ratios.{asCents}
 use Rattle.sorting.specs.Entries.{Entry}
 use Rattle.sorted.specs.Lent.{ListTable, isList}
-use Rattle.scl.specs.Items.{isUsable}
+use Rattle.scl.specs.Items.{isUsable, ratioOf}
 use Rattle.scl.specs.Table.{ItemTable, itemTable, itemsIn, implicit, writtenAt, isItems}
 use Rattle.scl.specs.declared.Item.{Item}
 use Rattle.scl.specs.declared.Item.the-variants.{Cents}
-use Rattle.scl_tables.specs.Build.{sizedOf, afterList}
+use Rattle.scl_tables.specs.Build.{sizedOf, lastOf, afterList}
 use Rattle.scl_tables.specs.Room.{roomOf}
 use Rattle.scl_build.specs.declared.SclBuilder.{SclBuilder}
 
@@ -113,6 +115,31 @@ pub record Appended (s : Built) (is : List Item) (left : Built) : Type 0 where
   pub others : behind (s .builder .count + length is + 1) (left .table) ≡ behind (s .builder .count + length is + 1) (s .table)
   pub fits : fitsItems (left .builder) (left .table) ≡ true
 
+-- ---- runs with ratios among them
+-- what is pushed: an item, or a ratio
+pub data Push : Type 0 where
+  item : Item → Push
+  ratio : Float → Push
+
+-- one push of either, whether it is accepted or refused
+abbrev pub afterPushed : Built → Push → Built
+afterPushed s (Push.item i) = afterOne s i
+afterPushed s (Push.ratio r) = beside (builderAfter (s .builder) (pushedRatio (s .builder) (s .table) r)) (afterRatio (s .builder) (s .table) r)
+
+unfoldable pub afterPushes : Built → List Push → Built
+afterPushes s [] = s
+afterPushes s (p ∷ ps) = afterPushes (afterPushed s p) ps
+
+-- the items that they come to: a ratio is its cents, or nothing where it has none
+abbrev pub withCents : Said Float → List Item → List Item
+withCents (gives cents) is = Cents cents ∷ is
+withCents (refuses n detail) is = is
+
+unfoldable pub itemsPushed : List Push → List Item
+itemsPushed [] = []
+itemsPushed (Push.item i ∷ ps) = i ∷ itemsPushed ps
+itemsPushed (Push.ratio r ∷ ps) = withCents (asCents r) (itemsPushed ps)
+
 -- ---- a build
 -- the state fits all columns, and each item can be used
 abbrev pub isReady : SclBuilder → ItemTable → ListTable → Bool
@@ -127,7 +154,16 @@ abbrev pub counted : SclBuilder → Said (List Entry) → Said ℕ
 counted b s = andThen s (λ es. gives (b .count))
 
 -- what an accepted build leaves: tables that pass every later call's test, and a count of 16 bits
-pub record Leaves (b : SclBuilder) (t : ItemTable) (l : ListTable) (s : Said (List Entry)) : Type 0 where
-  pub items : isItems (b .count) t ≡ true
-  pub list : isList (b .count) (afterList s l) ≡ true
-  pub small : b .count ≤ 65535
+pub record Leaves (count : ℕ) (t : ItemTable) (left : ListTable) : Type 0 where
+  pub items : isItems count t ≡ true
+  pub list : isList count left ≡ true
+  pub small : count ≤ 65535
+
+-- "then for a scale 18": a state that is ready, two or more items, no more than a scale may have, and the period 1.0
+abbrev pub PeriodOne : SclBuilder → ItemTable → ListTable → Type 0
+PeriodOne b t l = (isReady b t l ≡ true) × ((b .count ≤ 65535) × ((2 ≤ b .count) × (ratioOf (lastOf (itemsIn (b .count) t)) ≡ gives oneF)))
+
+-- what a call of `build` comes to, by what it says and the list that it leaves
+pub record Comes (b : SclBuilder) (t : ItemTable) (l : ListTable) (said : Said ℕ) (left : ListTable) : Type 0 where
+  pub beyond : (said ≡ refuses beyond-reach 0) ↔ PeriodOne b t l
+  pub leaves : (n : ℕ) → said ≡ gives n → Leaves n t left

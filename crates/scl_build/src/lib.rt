@@ -20,7 +20,7 @@ ghost use Rattle.scl.specs.declared.Item.the-variants.{Cents, Fraction};
 ghost use Rattle.sorted.specs.Lent.{listTable};
 ghost use Rattle.scl_tables.specs.Build.{afterList};
 ghost use Rattle.scl_build.specs.Answers.{saysBuilder};
-ghost use Rattle.scl_build.specs.Builder.{builderOf, afterNew, pushed, afterPush, pushedRatio, afterRatio, isReady, built, counted};
+ghost use Rattle.scl_build.specs.Builder.{builderOf, afterNew, pushed, afterPush, pushedRatio, afterRatio, isReady, built, counted, Comes};
 
 pub struct SclBuilder {
     pub room: usize,
@@ -235,13 +235,14 @@ impl SclBuilder {
         ensures { λ r. ⌜ (saysScl r ≡ counted self (built self (itemTable (now (kind .entry)) (now (cents .entry)) (now (numer .entry)) (now (denom .entry))) (listTable (now (place .entry)) (now (ratio .entry)) (now (wraps .entry)))))
             × (listTable (now (place .exit)) (now (ratio .exit)) (now (wraps .exit))
             ≡ afterList (built self (itemTable (now (kind .entry)) (now (cents .entry)) (now (numer .entry)) (now (denom .entry))) (listTable (now (place .entry)) (now (ratio .entry)) (now (wraps .entry)))) (listTable (now (place .entry)) (now (ratio .entry)) (now (wraps .entry)))) ⌝ }
+        ensures { λ r. ⌜ Comes self (itemTable (now (kind .entry)) (now (cents .entry)) (now (numer .entry)) (now (denom .entry))) (listTable (now (place .entry)) (now (ratio .entry)) (now (wraps .entry))) (saysScl r) (listTable (now (place .exit)) (now (ratio .exit)) (now (wraps .exit))) ⌝ }
     {
         if self.is_ready(kind, cents, numer, denom, place, ratio, wraps) {
             let count = self.count;
             if 65535 < count {
                 return SclAnswer::Refused(TOO_MANY);
             }
-            let last = scl_tables::item_at(kind, cents, numer, denom, count);
+            let last = scl::item_at(kind, cents, numer, denom, count);
             if scl_tables::is_beyond(last, count) {
                 return SclAnswer::Refused(OUT_OF_REACH);
             }

@@ -14,9 +14,10 @@ use Rattle.base.specs.Said.{gives}
 use Rattle.listing.specs.Listing.{Words, GiveAll, Entries}
 use Rattle.printing.specs.PrintText.{wholeText}
 use Rattle.scl.specs.Items.{AllHeld}
-use Rattle.scl.specs.Table.{ItemTable, implicit, itemsIn, areUsable, isItems}
+use Rattle.scl.specs.Table.{ItemTable, implicit, itemsIn, areUsable, isItems, Typed}
 use Rattle.scl.specs.declared.Item.{Item}
 use Rattle.scl.specs.declared.Scl.{Scl}
+use Rattle.scl.proofs.Typed.{typed-held, held-after}
 use Rattle.scl.proofs.Table.{items-are}
 use Rattle.scl_read.specs.Language.{Line, required, scale, ScaleText}
 use Rattle.scl_read.specs.Reader.{scaleRead, readOf, afterItems, afterSorted}
@@ -81,9 +82,10 @@ module _ (d : List ℕ) (is : List Item) (list : List Entry) where
   pub round-trip : Utf8 d → AllHeld is → areUsable is ≡ true → length is ≤ 65535 → scaleOf (implicit ∷ is) ≡ gives list → ScaleText s d is list ↔ ComesBack d is
   round-trip u f h l o = (λ t. let b = text-described t u in record { described = b; cents = items-came h t b }, comes-back f h l o)
 
--- ---- OF THE CALLS: the bytes t that an export gave are read again, into tables with a place for each item and place 0
+-- ---- OF THE CALLS: the bytes t that an export gave are read again, into tables with a place for each item and place 0 (`Typed`: what
+-- columns of u32 hold)
 module _ (scl : Scl) (table : ItemTable) (d : List ℕ) (room : ℕ) {t : List ℕ} (e : exportOf scl table d room ≡ gives t) (l : scl .count ≤ 65535)
-    (f : AllHeld (listedIn (scl .count) table)) (list : List Entry) (o : scaleOf (implicit ∷ listedIn (scl .count) table) ≡ gives list) where
+    (typed : Typed table) (list : List Entry) (o : scaleOf (implicit ∷ listedIn (scl .count) table) ≡ gives list) where
   abbrev items : List Item
   items = listedIn (scl .count) table
 
@@ -94,7 +96,7 @@ module _ (scl : Scl) (table : ItemTable) (d : List ℕ) (room : ℕ) {t : List �
   export-back =
       let a = export-accepted scl table d room e in
       let h = items-are (scl .count) table .1 (a .0 .items) in
-      rw (a .1 .0) (round-trip d items list (a .0 .description-is) f (listed-usable (scl .count) table h) (omega (arith, counted, l)) o)
+      rw (a .1 .0) (round-trip d items list (a .0 .description-is) (held-after (itemsIn (scl .count) table) (typed-held table typed (scl .count))) (listed-usable (scl .count) table h) (omega (arith, counted, l)) o)
 
   -- the read accepts them as that scale exactly when it comes back
   pub read-back : (places : ℕ) → scl .count < places → ((readOf places t ≡ gives (scaleRead (scl .count) t)) × Reading t d items list) ↔ ComesBack d items

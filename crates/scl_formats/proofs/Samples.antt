@@ -6,7 +6,7 @@ use mathlib.Core.Logic.{inl, inr}
 use Prim.Native.Nat.{ℕ}
 use native.Mathlib.Omega.{arith}
 use lib.Dec.{lit<, lit≤}
-use lib.Ieee.{Float, binary64, round, size, ofBits, ofInt, div, le, lt, eq, neg, fits}
+use lib.Ieee.{Float, binary64, round, size, ofBits, ofInt, div, le, lt, eq, neg}
 use Rattle.base.specs.Said.{gives}
 use Rattle.floats.specs.Units.{negative}
 use Rattle.explog.specs.Log.{bOf, yOf}
@@ -37,8 +37,7 @@ unfolding areUsable round ofBits le lt eq neg
 fifths-usable = refl
 
 fifths-held : AllHeld fifths
-unfolding round fits
-fifths-held = (refl, ((lit< tt, lit< tt), ((lit< tt, lit< tt), tt)))
+fifths-held = (tt, ((lit< tt, lit< tt), ((lit< tt, lit< tt), tt)))
 
 -- so they have a sorted list
 all-usable : areUsable (implicit ∷ fifths) ≡ true

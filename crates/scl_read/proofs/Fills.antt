@@ -18,8 +18,8 @@ use Rattle.scl_item.specs.declared.ItemRead.{ItemRead}
 use Rattle.scl_item.specs.declared.ItemRead.the-variants as item
 use Rattle.text.specs.Reading.{Meaning, invalid, blank, comment, content}
 use Rattle.scl_read.specs.Reader.{foundItem, foundIn, listed, givenFrom, written}
-use Rattle.scl_read.specs.declared.Found.{Found}
-use Rattle.scl_read.specs.declared.Found.the-variants as found
+use Rattle.scl_line.specs.declared.Found.{Found}
+use Rattle.scl_line.specs.declared.Found.the-variants as found
 
 -- ONE ITEM MORE, after those that are written
 pub written-snoc : (t : ItemTable) (k : ℕ) (xs : List Item) (y : Item) → written t k (xs ++ y ∷ []) ≡ writtenAt (written t k xs) (k + length xs) y

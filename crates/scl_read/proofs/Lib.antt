@@ -1,4 +1,4 @@
-pub mod Takes
+pub mod Finishes
 pub mod Usable
 pub mod Stands
 pub mod Fills

@@ -26,9 +26,9 @@ use Rattle.scl_tables.specs.Build.{isBeyond}
 use Rattle.text.specs.ReadLine.{saidIn}
 use Rattle.text.specs.Reading.{Meaning, invalid, blank, comment, content}
 use Rattle.scl_read.specs.Reader.{itemPlaced, takeDue, takeToken, takeMeaning, whichOf, finished, walk, unread, scaleRead, readOf}
-use Rattle.scl_read.specs.declared.line.Due.{Due}
-use Rattle.scl_read.specs.declared.line.Due.the-variants as due
-use Rattle.scl_read.specs.declared.line.State.{State}
+use Rattle.scl_line.specs.declared.Due.{Due}
+use Rattle.scl_line.specs.declared.Due.the-variants as due
+use Rattle.scl_line.specs.declared.State.{State}
 
 -- ---- an item, or a number of 01's
 abbrev Known : ItemRead → Type 0

@@ -31,9 +31,9 @@ use Rattle.scl_tables.specs.Build.{lastOf, isBeyond}
 use Rattle.text.specs.Reading.{Meaning, invalid, blank, comment, content}
 use Rattle.scl_read.specs.Language.{Required, required, Line, Value, Gives, Wrong, scale}
 use Rattle.scl_read.specs.Reader.{itemPlaced, takeCount, takeDue, takeToken, takeMeaning, whichOf, finished, unread, walk}
-use Rattle.scl_read.specs.declared.line.Due.{Due}
-use Rattle.scl_read.specs.declared.line.Due.the-variants as due
-use Rattle.scl_read.specs.declared.line.State.{State}
+use Rattle.scl_line.specs.declared.Due.{Due}
+use Rattle.scl_line.specs.declared.Due.the-variants as due
+use Rattle.scl_line.specs.declared.State.{State}
 
 -- ---- what the required lines say
 pub record Head : Type 0 where

@@ -11,7 +11,7 @@ use Rattle.sorted.specs.Lent.{ListTable}
 use Rattle.scl_read.specs.Reader.{saysRead, readOf, afterItems, afterSorted}
 use Rattle.scl_read.specs.declared.SclReadAnswer.the-variants as answer
 
-read-split : Split answer.Is answer.Refused
+pub read-split : Split answer.Is answer.Refused
 read-split (answer.Is s) = inl (s, refl)
 read-split (answer.Refused r) = inr (r, refl)
 

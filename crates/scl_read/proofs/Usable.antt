@@ -5,9 +5,7 @@ use mathlib.Core.List.{List, [], _∷_, _++_}
 use Prim.Native.Nat.{ℕ, zero, suc, _+_, _^_, _<_}
 use native.Mathlib.Omega.{arith}
 use lib.Dec.{leb, lit<}
-use lib.Ieee.{binary64, fits, round, le, lt, eq, neg, ofBits}
-use lib.Ieee.Bits.{is-true}
-use lib.Ieee.Fits.{round-fits}
+use lib.Ieee.{le, lt, eq, neg, ofBits}
 use borrow.Author.Tests.{lt-ltb}
 use Rattle.base.specs.Numbers.{no-room}
 use Rattle.base.specs.Said.{Said, gives, refuses, pick, andThen}
@@ -26,11 +24,11 @@ use Rattle.scl_item.specs.declared.ItemRead.{ItemRead}
 use Rattle.scl_item.specs.declared.ItemRead.the-variants as item
 use Rattle.text.specs.Reading.{Meaning, invalid, blank, comment, content}
 use Rattle.scl_read.specs.Reader.{saysStep, itemPlaced, takeCount, takeDue, takeToken, takeMeaning, listed, givenFrom}
-use Rattle.scl_read.specs.declared.line.Due.{Due}
-use Rattle.scl_read.specs.declared.line.Due.the-variants as due
-use Rattle.scl_read.specs.declared.line.State.{State}
-use Rattle.scl_read.specs.declared.line.Step.{Step}
-use Rattle.scl_read.specs.declared.line.Step.the-variants as step
+use Rattle.scl_line.specs.declared.Due.{Due}
+use Rattle.scl_line.specs.declared.Due.the-variants as due
+use Rattle.scl_line.specs.declared.State.{State}
+use Rattle.scl_line.specs.declared.Step.{Step}
+use Rattle.scl_line.specs.declared.Step.the-variants as step
 
 -- an item of the language
 pub item-usable : {t : List ℕ} {i : Item} → ItemText t i → isUsable i ≡ true
@@ -39,7 +37,7 @@ item-usable (ItemText.fraction a b s n d u v p q) = rw (lt-ltb 0 n p, lt-ltb 0 d
 item-usable (ItemText.whole f g n u p) = rw (lt-ltb 0 n p)
 
 pub item-held : {t : List ℕ} {i : Item} → ItemText t i → Held i
-item-held (ItemText.cents h v d u) = rw (d .nearest) (is-true (fits binary64 (round binary64 (d .negative) _ _)) (round-fits binary64 (d .negative) _ _))
+item-held (ItemText.cents h v d u) = tt
 item-held (ItemText.fraction a b s n d u v p q) = (int-below (2 ^ 32) a n u, int-below (2 ^ 32) b d v)
 item-held (ItemText.whole f g n u p) = (int-below (2 ^ 32) _ n u, lit< tt)
 
@@ -49,8 +47,7 @@ unfolding le lt eq neg ofBits
 implicit-usable = refl
 
 pub implicit-held : Held implicit
-unfolding fits ofBits
-implicit-held = refl
+implicit-held = tt
 
 -- those that a second pass collects
 listed-usable : (r : ItemRead) → ((i : Item) → r ≡ item.Is i → isUsable i ≡ true) → (is : List Item) → areUsable is ≡ true → areUsable (listed r ++ is) ≡ true

@@ -1,14 +1,10 @@
 -- Document 01, "Scale": what the reader computes, by what the lines of the text say. `Language` says what a scale file is,
 -- `proofs/Language` that the two agree. Assumes nothing.
-use mathlib.Core.Bool.{Bool, true, false}
 use mathlib.Core.List.{List, [], _∷_}
-use Prim.Native.Nat.{ℕ, zero, suc, _+_, _-_, _^_}
-use lib.Dec.{leb, ltb, eqb}
-use lib.IntN.{natAbs}
-use Rattle.base.specs.Numbers.{not-utf8, line-missing, int-value, no-room, too-large, inconsistent-count, beyond-reach}
+use Prim.Native.Nat.{ℕ, zero, suc, _+_}
+use lib.Dec.{ltb, eqb}
+use Rattle.base.specs.Numbers.{line-missing, no-room, too-large, inconsistent-count, beyond-reach}
 use Rattle.base.specs.Said.{Said, gives, refuses, refusal, pick, andThen}
-use Rattle.integers.specs.AtLine.{intAt}
-use Rattle.integers.specs.Integer.{readInt}
 use Rattle.listing.specs.Reader.{walkLines, givenAfter}
 use Rattle.scl.specs.Table.{ItemTable, implicit, writtenAt}
 use Rattle.scl.specs.declared.Item.{Item}
@@ -20,58 +16,23 @@ use Rattle.scl_tables.specs.Room.{roomOf}
 use Rattle.sorted.specs.Lent.{ListTable}
 use Rattle.text.specs.Placed.{placedIn}
 use Rattle.text.specs.ReadLine.{saidIn}
-use Rattle.text.specs.Reading.{Meaning, invalid, blank, comment, content}
+use Rattle.text.specs.Reading.{Meaning, content}
 use Rattle.text.specs.declared.line.LineSays.{LineSays}
 use Rattle.text.specs.declared.line.LineSays.the-variants.{NotUtf8, Blank, Comment, Content}
 use Rattle.scl_read.specs.declared.Description.{Description}
-use Rattle.scl_read.specs.declared.Found.{Found}
-use Rattle.scl_read.specs.declared.Found.the-variants as found
 use Rattle.scl_read.specs.declared.SclRead.{SclRead}
 use Rattle.scl_read.specs.declared.SclReadAnswer.{SclReadAnswer}
 use Rattle.scl_read.specs.declared.SclReadAnswer.the-variants as answer
-use Rattle.scl_read.specs.declared.line.Due.{Due}
-use Rattle.scl_read.specs.declared.line.Due.the-variants as due
-use Rattle.scl_read.specs.declared.line.State.{State}
-use Rattle.scl_read.specs.declared.line.Step.{Step}
-use Rattle.scl_read.specs.declared.line.Step.the-variants as step
+use Rattle.scl_line.specs.declared.Due.{Due}
+use Rattle.scl_line.specs.declared.Due.the-variants as due
+use Rattle.scl_line.specs.declared.State.{State}
+pub use Rattle.scl_line.specs.Steps.{saysStep, takeCount, itemPlaced, takeItem, takeDue, takeMeaning, foundItem, foundIn}
+unfoldable pub use Rattle.scl_line.specs.Steps.{takeToken}
 
--- what a step says, and what a read says
-abbrev pub saysStep : Step → Said State
-saysStep (step.Is s) = gives s
-saysStep (step.Refused r) = refusal r
-
+-- what a read says
 abbrev pub saysRead : SclReadAnswer → Said SclRead
 saysRead (answer.Is s) = gives s
 saysRead (answer.Refused r) = refusal r
-
--- the number of notes at line k
-abbrev pub takeCount : ℕ → List ℕ → State → Said State
-takeCount k t s =
-    andThen (intAt int-value k (readInt false (2 ^ 16) t)) (λ z. gives (record { due = due.Items; declared = natAbs z; count = s .count; last = s .last }))
-
--- an item takes a place: 12 where there is none
-abbrev pub itemPlaced : ℕ → ℕ → State → ItemRead → Said State
-itemPlaced places k s (item.Is i) = pick (leb places (s .count)) (refuses no-room k) (gives (record { due = due.Items; declared = s .declared; count = s .count + 1; last = i }))
-itemPlaced places k s (item.IsNot n) = refuses n k
-
-abbrev pub takeItem : ℕ → ℕ → List ℕ → State → Said State
-takeItem places k t s = itemPlaced places k s (itemIn t)
-
--- the token of the line that is due
-abbrev pub takeDue : ℕ → ℕ → List ℕ → State → Due → Said State
-takeDue places k t s due.Description = gives (record { due = due.Count; declared = s .declared; count = s .count; last = s .last })
-takeDue places k t s due.Count = takeCount k t s
-takeDue places k t s due.Items = takeItem places k t s
-
-unfoldable pub takeToken : ℕ → ℕ → List ℕ → State → Said State
-takeToken places k t s = takeDue places k t s (s .due)
-
--- what line k says
-abbrev pub takeMeaning : ℕ → ℕ → Meaning → State → Said State
-takeMeaning places k invalid s = refuses not-utf8 k
-takeMeaning places k blank s = gives s
-takeMeaning places k comment s = gives s
-takeMeaning places k (content m t) s = takeToken places k t s
 
 -- which required line is missing, counted from 1; 0 for none
 abbrev pub whichOf : Due → ℕ
@@ -98,18 +59,6 @@ walk places = walkLines (takeMeaning places) finished
 
 abbrev pub checkOf : ℕ → List ℕ → Said ℕ
 checkOf places text = walk places 1 unread (saidIn text)
-
--- an item, where the token is one
-abbrev pub foundItem : ItemRead → Found
-foundItem (item.Is i) = found.Is i
-foundItem (item.IsNot n) = found.Nothing
-
--- what a line gives the table, where n required lines are still to come
-abbrev pub foundIn : ℕ → Meaning → Found
-foundIn n invalid = found.Nothing
-foundIn n blank = found.Nothing
-foundIn n comment = found.Nothing
-foundIn n (content m t) = pick (ltb 0 n) found.Required (foundItem (itemIn t))
 
 -- the item of a line after the required ones, where it is one
 abbrev pub listed : ItemRead → List Item

@@ -1,19 +1,17 @@
 // The reader of scales. Document 01, "Lines" and "Scale"; the Rust's `import_scl`.
 //
 // A first pass goes over the lines and finds the scale or the first fault; a second, which cannot fail, writes the items, and the
-// sorted list is built of them.
-mod line;
-
-use crate::line::Due;
-use crate::line::State;
-use crate::line::Step;
-use crate::line::take_line;
+// sorted list is built of them; a third, to the first line with content, finds the description (`description_of`).
 use base::Refusal;
 use scl::Item;
 use scl::Scl;
 use scl::SclAnswer;
-use scl_item::ItemRead;
-use scl_item::read_item;
+use scl_line::Due;
+use scl_line::Found;
+use scl_line::State;
+use scl_line::Step;
+use scl_line::found_in;
+use scl_line::take_line;
 use text::line::LineSays;
 use text::line::read_line;
 use text::lines::next_line;
@@ -27,8 +25,7 @@ ghost use Rattle.scl.specs.Items.{isUsable};
 ghost use Rattle.scl.specs.Table.{itemTable};
 ghost use Rattle.scl_tables.specs.Room.{roomOf};
 ghost use Rattle.sorted.specs.Lent.{listTable};
-ghost use Rattle.text.specs.ReadLine.{shown, InText};
-ghost use Rattle.scl_read.specs.Reader.{saysRead, unread, whichOf, finished, checkOf, foundIn, itemsRead, written, descriptionIn, readOf, afterItems, afterSorted};
+ghost use Rattle.scl_read.specs.Reader.{saysRead, unread, whichOf, finished, checkOf, itemsRead, written, descriptionIn, readOf, afterItems, afterSorted};
 
 // The description: where its part of the text starts and ends.
 pub struct Description {
@@ -45,13 +42,6 @@ pub struct SclRead {
 pub enum SclReadAnswer {
     Is(SclRead),
     Refused(Refusal),
-}
-
-// What a line gives the table: an item, nothing, or nothing since it is a required line.
-pub enum Found {
-    Is(Item),
-    Required,
-    Nothing,
 }
 
 // The most items that a scale can have.
@@ -142,31 +132,6 @@ fn check(text: &[u8], places: usize) -> SclAnswer
         at = ends.next;
     }
     finish(state)
-}
-
-// What a line gives the table, where so many of the two required lines are still to come.
-fn found_in(text: &[u8], says: LineSays, required: usize) -> Found
-    requires { ⌜ InText (now text) says ⌝ }
-    ensures { λ r. ⌜ r ≡ foundIn required (shown (now (text .entry)) says) ⌝ }
-{
-    match says {
-        LineSays::NotUtf8 => Found::Nothing,
-        LineSays::Blank => Found::Nothing,
-        LineSays::Comment => Found::Nothing,
-        LineSays::Content {
-            start,
-            end: _,
-            token_end,
-        } => {
-            if 0 < required {
-                return Found::Required;
-            }
-            let ItemRead::Is(item) = read_item(&text[start..token_end]) else {
-                return Found::Nothing;
-            };
-            Found::Is(item)
-        }
-    }
 }
 
 // The second pass: place 0, and the items that the text gives after it.

@@ -11,7 +11,8 @@ use Rattle.floats.specs.Floats.{zeroF, oneF, leastI32, pastI32, count}
 use Rattle.floats.specs.Ranges.{negligible}
 use Rattle.remainder.specs.Euclid.{remEuclid, divEuclid}
 use Rattle.scl.specs.declared.Item.{Item}
-use Rattle.scl.proofs.Numbers.{log-numbered, from-octaves-numbered, inverse-numbered, as-ratio-numbered}
+use Rattle.pitch.proofs.Numbers.{log-numbered, from-octaves-numbered, inverse-numbered}
+use Rattle.scl.proofs.Numbers.{as-ratio-numbered}
 use Rattle.reduction.specs.Reduce.{reducedBy}
 use Rattle.scl_tables.specs.Build.{entryOf, entriesFrom, lastOf, countOf, sortedOf, scaleOf, sizedOf}
 

@@ -86,9 +86,6 @@ room-of-one t l = one-result (roomOf t l)
 pub write-item-one : (t : ItemTable) (at : ℕ) (i : Item) → One (λ r. r) (writtenAt t at i)
 write-item-one t at i = one-result (writtenAt t at i)
 
-pub item-at-one : (kind : ℕ) (cents : Float) (numer denom : ℕ) → One (λ r. r) (itemOf kind cents numer denom)
-item-at-one kind cents numer denom = one-result (itemOf kind cents numer denom)
-
 pub build-list-one : (items : List Item) (l : ListTable) → One (λ r. r) (afterList (sortedOf items) l)
 build-list-one items l = one-result (afterList (sortedOf items) l)
 

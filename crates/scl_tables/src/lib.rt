@@ -111,14 +111,6 @@ pub fn write_item(
     denom[at] = d;
 }
 
-// The item that stands at place i.
-pub fn item_at(kind: &[u8], cents: &[f64], numer: &[u32], denom: &[u32], i: usize) -> Item
-    requires { ⌜ (i < length (now kind)) × (i < length (now cents)) × (i < length (now numer)) × (i < length (now denom)) ⌝ }
-    ensures { λ r. ⌜ r ≡ itemOf (getD (now (kind .entry)) i 0) (getD (now (cents .entry)) i nan) (getD (now (numer .entry)) i 0) (getD (now (denom .entry)) i 0) ⌝ }
-{
-    scl::item_of(kind[i], cents[i], numer[i], denom[i])
-}
-
 // The item at place i, reduced by the period.
 fn reduced_at(
     kind: &[u8],
@@ -133,7 +125,7 @@ fn reduced_at(
     ensures { λ r. ⌜ (gives (entry i (r .ratio) (r .wraps)) ≡ entryOf (period .ratio) i (itemOf (getD (now (kind .entry)) i 0) (getD (now (cents .entry)) i nan) (getD (now (numer .entry)) i 0) (getD (now (denom .entry)) i 0)))
         × (inReach (r .ratio) ≡ true) ⌝ }
 {
-    let item = item_at(kind, cents, numer, denom, i);
+    let item = scl::item_at(kind, cents, numer, denom, i);
     reduction::reduce(period, reduction::ratio_of(item))
 }
 
@@ -188,7 +180,7 @@ fn period_at(kind: &[u8], cents: &[f64], numer: &[u32], denom: &[u32]) -> Period
     ensures { λ r. ⌜ (gives (r .ratio) ≡ ratioOf (lastOf (itemsOf (now (kind .entry)) (now (cents .entry)) (now (numer .entry)) (now (denom .entry))))) × IsPeriod r ⌝ }
 {
     let last = kind.len() - 1;
-    let item = item_at(kind, cents, numer, denom, last);
+    let item = scl::item_at(kind, cents, numer, denom, last);
     reduction::period_of(reduction::ratio_of(item))
 }
 

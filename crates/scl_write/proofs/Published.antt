@@ -16,12 +16,13 @@ use Rattle.printing.proofs.Form.{printed}
 use Rattle.writing.specs.PublishedLines.{Kept}
 use Rattle.writing.proofs.PublishedValues.{all-kept, alone, number-digits, number}
 use Rattle.scl.specs.Items.{isUsableCents, isUsable, Held, AllHeld}
-use Rattle.scl.specs.Table.{ItemTable, areUsable}
+use Rattle.scl.specs.Table.{ItemTable, areUsable, Typed, itemsIn}
 use Rattle.scl.specs.declared.Denom.the-variants.{Given, Lacking}
 use Rattle.scl.specs.declared.Item.{Item}
 use Rattle.scl.specs.declared.Item.the-variants.{Cents, Fraction}
 use Rattle.scl.specs.declared.Scl.{Scl}
 use Rattle.scl.proofs.Items.{usable-fraction}
+use Rattle.scl.proofs.Typed.{typed-held, held-after}
 use Rattle.scl.proofs.Table.{both, items-are}
 use Rattle.scl_write.specs.Export.{itemText, itemTexts, listedIn, scaleTexts, scaleText, exportOf}
 use Rattle.scl_write.specs.Published as P
@@ -84,10 +85,10 @@ export-published description is o f h l =
       values = values is f h;
     }
 
--- and so is whatever `export_scl` accepts
+-- and so is whatever `export_scl` accepts (`Typed`: what columns of u32 hold)
 pub accepted-published : (scl : Scl) (table : ItemTable) (description : List ℕ) (room : ℕ) {t : List ℕ} → exportOf scl table description room ≡ gives t
-    → P.OneLine description → scl .count ≤ 65535 → AllHeld (listedIn (scl .count) table) → P.PublishedText t (P.publishedOf description (listedIn (scl .count) table))
-accepted-published scl table description room e o l f =
+    → P.OneLine description → scl .count ≤ 65535 → Typed table → P.PublishedText t (P.publishedOf description (listedIn (scl .count) table))
+accepted-published scl table description room e o l typed =
     let a = export-accepted scl table description room e in
     let h = items-are (scl .count) table .1 (a .0 .items) in
-    rw (a .1 .0) (export-published description (listedIn (scl .count) table) o f (listed-usable (scl .count) table h) (omega (arith, length-listed (scl .count) table h, l)))
+    rw (a .1 .0) (export-published description (listedIn (scl .count) table) o (held-after (itemsIn (scl .count) table) (typed-held table typed (scl .count))) (listed-usable (scl .count) table h) (omega (arith, length-listed (scl .count) table h, l)))

@@ -1,13 +1,14 @@
 -- Document 01, "Writing": the bytes that a scale is written as, "SCL: description, item count, items (place 0 omitted). .. A
 -- description that is not UTF-8 gives 10; any other is copied as it is. .. Every line ends in LF. Cents .. have three decimals, from
 -- the exact value, ties to even, sign kept .. Integers and fractions as declared." Assumes nothing.
+use mathlib.Core.Path.{_≡_}
 use mathlib.Core.Bool.{false, _&&_}
 use mathlib.Core.List.{List, [], _∷_, _++_}
-use Prim.Native.Nat.{ℕ}
+use Prim.Native.Nat.{ℕ, _+_, _*_, _≤_}
 use lib.IntN.{pos}
 use lib.ListN.{length, drop, getD}
 use lib.Ieee.{nan}
-use Rattle.base.specs.Numbers.{unusable}
+use Rattle.base.specs.Numbers.{unusable, no-room}
 use Rattle.base.specs.Said.{Said, refuses, pick}
 use Rattle.printing.specs.PrintText.{textOf, wholeText}
 use Rattle.utf8.specs.Characters.{Utf8}
@@ -54,6 +55,10 @@ exportText scl table description = scaleText description (listedIn (scl .count) 
 unfoldable pub exportOf : Scl → ItemTable → List ℕ → ℕ → Said (List ℕ)
 exportOf scl table description room =
     pick (isItems (scl .count) table && utf8From fresh description) (fitted room (exportText scl table description)) (refuses unusable 0)
+
+-- so many bytes are enough: with them 12 is not said
+abbrev pub NeverFull : Scl → List ℕ → ℕ → Said ℕ → Type 0
+NeverFull scl description room said = length description + 7 + 22 * scl .count ≤ room → said ≡ refuses no-room 0 → ⊥
 
 -- a scale that can be written: "10 and 11 come before 12"
 pub record Writable (scl : Scl) (table : ItemTable) (description : List ℕ) : Type 0 where

@@ -40,7 +40,8 @@ pub data Value (t : List ℕ) : Pitch → Type 0 where
   ratio : (a b : List ℕ) (n d : ℕ) → t ≡ a ++ 47 ∷ b → Digits a n → Digits b d → 0 < n → 0 < d → Value t (Pitch.ratio n d)
   whole : (n : ℕ) → Digits t n → 0 < n → Value t (Pitch.ratio n 1)
 
--- each line has its value; "Spaces and tabs before a value are allowed. Anything after a valid pitch value is ignored"
+-- each line has its value; "Spaces and tabs before a value are allowed. Anything after a valid pitch value is ignored", here narrower:
+-- `Stands` asks for a blank before it, so `408.cents` and `5/4E` are no lines of values
 abbrev pub Values : List (List ℕ) → List Pitch → Type 0
 Values [] [] = Unit {0}
 Values [] (p ∷ ps) = ⊥

@@ -20,7 +20,7 @@ ghost use Rattle.scl.specs.Table.{itemTable, isItems};
 ghost use Rattle.writing.specs.Answers.{saysSize};
 ghost use Rattle.writing.specs.Fitted.{fitted, textLength};
 ghost use Rattle.writing.specs.Lines.{line, linesText};
-ghost use Rattle.scl_write.specs.Export.{standing, itemText, itemTexts, listedIn, scaleText, exportOf};
+ghost use Rattle.scl_write.specs.Export.{standing, itemText, itemTexts, listedIn, scaleText, exportOf, NeverFull};
 
 // The item and LF at `at`; the next place.
 fn write_item(item: Item, out: &mut [u8], at: usize) -> usize
@@ -54,7 +54,7 @@ fn item_at(kind: &[u8], cents: &[f64], numer: &[u32], denom: &[u32], count: usiz
     requires { ⌜ (isItems count (itemTable (now kind) (now cents) (now numer) (now denom)) ≡ true) × (i ≤ count) ⌝ }
     ensures { λ r. ⌜ (r ≡ standing (itemTable (now (kind .entry)) (now (cents .entry)) (now (numer .entry)) (now (denom .entry))) i) × (isUsable r ≡ true) ⌝ }
 {
-    scl::item_of(kind[i], cents[i], numer[i], denom[i])
+    scl::item_at(kind, cents, numer, denom, i)
 }
 
 // How many bytes the items take, place 0 omitted.
@@ -121,7 +121,7 @@ fn write_scale(
 }
 
 // The text of a scale into the lent bytes, and how many it takes. 10 for unusable items or a description that is not UTF-8, 12 where
-// the text is longer than the bytes; then nothing is written.
+// the text is longer than the bytes; then nothing is written. The description's length + 7 + 22 for each item are enough.
 pub fn export_scl(
     scl: Scl,
     description: &[u8],
@@ -133,6 +133,7 @@ pub fn export_scl(
 ) -> SizeAnswer
     ensures { λ r. ⌜ saysSize r ≡ textLength (exportOf scl (itemTable (now (kind .entry)) (now (cents .entry)) (now (numer .entry)) (now (denom .entry))) (now (description .entry)) (length (now (out .entry)))) ⌝ }
     ensures { λ r. ⌜ now (out .exit) ≡ after (exportOf scl (itemTable (now (kind .entry)) (now (cents .entry)) (now (numer .entry)) (now (denom .entry))) (now (description .entry)) (length (now (out .entry)))) (λ t. t) (now (out .entry)) ⌝ }
+    ensures { λ r. ⌜ NeverFull scl (now (description .entry)) (length (now (out .entry))) (saysSize r) ⌝ }
 {
     let count = scl.count as usize;
     if scl::is_items(kind, cents, numer, denom, count) {

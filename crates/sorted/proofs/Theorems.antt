@@ -5,10 +5,14 @@ use mathlib.Core.List.{List, [], _∷_}
 use Prim.Native.Nat.{ℕ, zero, suc, _<_}
 use native.Mathlib.Nat.{le-of-suc-le-suc, not-suc-le-zero}
 use lib.ListN.{length, getD}
+use lib.IntN.{ℤ}
 use lib.Ieee.{Float, nan, lt}
 use Rattle.base.specs.Said.{pick}
 use Rattle.base.proofs.Said.{One, one-result}
-use Rattle.sorted.specs.Lent.{ListTable, isList, firstNotBelow}
+use Rattle.sorting.specs.Entries.{zip, Columns}
+use Rattle.sorting.proofs.Columns.{columns-one}
+use Rattle.sorted.specs.Lent.{ListTable, isList, firstNotBelow, from}
+use Rattle.sorted.specs.Repeats.{arranged}
 
 -- "Its start is the first entry not below the target": all before it are below
 pub below-before : (rs : List Float) (x : Float) (k : ℕ) → k < firstNotBelow rs x → lt (getD rs k nan) x ≡ true
@@ -33,7 +37,14 @@ not-below-at (r ∷ rs) x h = go (lt r x) refl (λ l. not-below-at rs x l) h
     go true e more h = more (le-of-suc-le-suc h)
     go false e more h = e
 
--- ---- two results of one input are equal (of `arrange`: `columns-one` of sorting)
+-- ---- two results of one input are equal
+pub arrange-one : (place : List ℕ) (ratio : List Float) (wraps : List ℤ) {ps ps′ : List ℕ} {rs rs′ : List Float} {ws ws′ : List ℤ} → Columns (arranged (zip (from 0 (length place)) ratio wraps)) ps rs ws → Columns (arranged (zip (from 0 (length place)) ratio wraps)) ps′ rs′ ws′
+    → (ps ≡ ps′) × (rs ≡ rs′) × (ws ≡ ws′)
+arrange-one place ratio wraps = columns-one (arranged (zip (from 0 (length place)) ratio wraps))
+
+pub number-one : (place : List ℕ) → One (λ r. r) (from 0 (length place))
+number-one place = one-result (from 0 (length place))
+
 pub is-list-one : (t : ListTable) (count : ℕ) → One (λ r. r) (isList count t)
 is-list-one t count = one-result (isList count t)
 

@@ -1,7 +1,7 @@
 // A scale's sorted list in its three lent columns: what order and the repeat rule leave, a test of lent lists, and where a
 // search starts. Document 01, "Scales and searches".
 //
-// An inner crate: what `arrange` and `first_not_below` ask of their columns, their callers have made sure of.
+// An inner crate: what `number`, `arrange` and `first_not_below` ask of their columns, their callers have made sure of.
 ghost use mathlib.Core.Path.{_≡_};
 ghost use Prim.Native.Nat.{_≤_, _<_};
 ghost use lib.ListN.{length, getD, set, take};
@@ -52,7 +52,7 @@ fn keep_first(place: &mut [u32], ratio: &mut [f64], wraps: &mut [i32])
 }
 
 // The places in their own order.
-fn number(place: &mut [u32])
+pub fn number(place: &mut [u32])
     requires { ⌜ length (now place) ≤ 65536 ⌝ }
     ensures { λ _. ⌜ now (place .exit) ≡ from 0 (length (now (place .entry))) ⌝ }
 {
@@ -141,7 +141,7 @@ fn are_within(place: &[u32], n: usize, count: usize) -> bool
 }
 
 // Whether the columns hold the list of `count` items: place 0 and a place for each, ratios in 2^-900..2^900 that never fall, places
-// within the count. Each column is gone over once.
+// within the count. Ratios and places are gone over once each; of the wraparounds only the number is looked at.
 pub fn is_list(place: &[u32], ratio: &[f64], wraps: &[i32], count: usize) -> bool
     ensures { λ r. ⌜ r ≡ isList count (listTable (now (place .entry)) (now (ratio .entry)) (now (wraps .entry))) ⌝ }
 {

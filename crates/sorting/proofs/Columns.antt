@@ -8,6 +8,7 @@ use lib.IntN.{ℤ, pos}
 use lib.ListN.{length, getD, set}
 use lib.Ieee.{Float, nan}
 use Rattle.sorting.specs.Entries.{Entry, zip, Columns}
+use Rattle.sorting.specs.Order.{lower, sortBy}
 
 pub map-map : {A B : Type 0} (g : A → B) (h : ℕ → A) (l : List ℕ) → map g (map h l) ≡ map (λ (x : ℕ). g (h x)) l
 map-map g h [] = refl
@@ -61,6 +62,11 @@ zip-set (p′ ∷ ps) (r′ ∷ rs) [] i p r w h k = absurd (omega arith)
 zip-set (p′ ∷ ps) (r′ ∷ rs) (w′ ∷ ws) zero p r w h k = refl
 zip-set (p′ ∷ ps) (r′ ∷ rs) (w′ ∷ ws) (suc i) p r w h k = ap (λ (l : List Entry). record { place = p′; ratio = r′; wraps = w′ } ∷ l) (zip-set ps rs ws i p r w (omega arith) (omega arith))
 
--- the columns of a list are one: two results of the sort, or of an arrangement, are equal
+-- ---- two results of one input are equal
+-- the columns of a list are one
 pub columns-one : (es : List Entry) {ps ps′ : List ℕ} {rs rs′ : List Float} {ws ws′ : List ℤ} → Columns es ps rs ws → Columns es ps′ rs′ ws′ → (ps ≡ ps′) × (rs ≡ rs′) × (ws ≡ ws′)
 columns-one es c d = (c .places ∙ sym (d .places), c .ratios ∙ sym (d .ratios), c .wraps ∙ sym (d .wraps))
+
+pub sort-entries-one : (place : List ℕ) (ratio : List Float) (wraps : List ℤ) {ps ps′ : List ℕ} {rs rs′ : List Float} {ws ws′ : List ℤ} → Columns (sortBy lower (zip place ratio wraps)) ps rs ws → Columns (sortBy lower (zip place ratio wraps)) ps′ rs′ ws′
+    → (ps ≡ ps′) × (rs ≡ rs′) × (ws ≡ ws′)
+sort-entries-one place ratio wraps = columns-one (sortBy lower (zip place ratio wraps))

@@ -23,8 +23,19 @@ ghost use Rattle.kbm_write.specs.Export.{exportOf};
 ghost use Rattle.telbijan_answers.specs.Interface.{result, kept, fieldOf};
 ghost use Rattle.telbijan_mappings.specs.Mappings.{rootWith, mappingWith, octaveWith, builderWith, pushingWith};
 
+// The root of its numbers.
+pub fn root(reference: i32, hz: f64, offset: i32) -> KbmRoot
+    ensures { λ r. ⌜ r ≡ rootWith reference hz offset ⌝ }
+{
+    KbmRoot {
+        reference: PianoKey(reference),
+        pitch: Pitch(hz),
+        offset,
+    }
+}
+
 // The mapping of its numbers.
-fn mapping(
+pub fn mapping(
     count: u16,
     start: i32,
     end: i32,

@@ -1,11 +1,10 @@
 -- What the functions of this crate say is a value or one of document 01's numbers, so a result is 0 exactly where a value is stored
 -- (`zero-accepted` of telbijan_answers). Assumes nothing.
 use mathlib.Core.Bool.{_&&_}
-use Prim.Native.Nat.{ℕ, _≤_}
+use Prim.Native.Nat.{ℕ}
 use native.Mathlib.Omega.{arith}
 use lib.Dec.{eqb}
 use lib.IntN.{ℤ, pos, _+ℤ_, _-ℤ_}
-use lib.Ieee.{Float}
 use lib.Signed.{leZ}
 use Rattle.base.specs.Integers.{inI32, held}
 use Rattle.base.specs.Said.{Numbered}
@@ -13,8 +12,7 @@ use Rattle.base.proofs.Said.{numbered-pick, numbered-then}
 use Rattle.key.specs.Keys.{key, keyAfter, stepsBetween, midiOf}
 use Rattle.key.specs.declared.PianoKey.{PianoKey}
 use Rattle.math.specs.Division.{quotientOf, remainderOf, divisionOf}
-use Rattle.explog.specs.Rules.{E, L, inPowers}
-use Rattle.floats.specs.Ranges.{inReach}
+pub use Rattle.pitch.proofs.Numbers.{exp-numbered, log-numbered}
 
 pub quotient-numbered : (z : ℤ) (s : ℕ) → Numbered (quotientOf z s)
 unfolding quotientOf
@@ -41,11 +39,3 @@ steps-between-numbered k other = held-numbered (other .0 -ℤ k .0)
 pub midi-numbered : (k : PianoKey) → Numbered (midiOf k)
 unfolding midiOf
 midi-numbered k = numbered-pick (leZ (pos 0) (k .0) && leZ (k .0) (pos 127)) (Numbered.value _) (Numbered.number (omega arith) (omega arith))
-
-pub exp-numbered : (x : Float) → Numbered (E x)
-unfolding E
-exp-numbered x = numbered-pick (inPowers x) (Numbered.value _) (Numbered.number (omega arith) (omega arith))
-
-pub log-numbered : (x : Float) → Numbered (L x)
-unfolding L
-log-numbered x = numbered-pick (inReach x) (Numbered.value _) (Numbered.number (omega arith) (omega arith))

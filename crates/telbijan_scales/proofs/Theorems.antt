@@ -3,7 +3,9 @@
 use mathlib.Core.List.{List}
 use Prim.Native.Nat.{ℕ}
 use lib.Ieee.{Float}
+use lib.ListN.{length}
 use Rattle.base.proofs.Said.{One, one-result}
+use Rattle.base.specs.Tables.{after}
 use Rattle.scl.specs.Items.{ratioOf}
 use Rattle.scl.specs.Table.{ItemTable, itemOf}
 use Rattle.scl.specs.declared.Denom.the-variants.{Given, Lacking}
@@ -15,6 +17,8 @@ use Rattle.scl_build.specs.Answers.{saysBuilder}
 use Rattle.scl_build.specs.Builder.{state, builderOf, afterNew, pushed, afterPush, pushedRatio, afterRatio, built, counted}
 use Rattle.scl_build.specs.declared.SclBuilderAnswer.{SclBuilderAnswer}
 use Rattle.scl_read.specs.Reader.{readOf, afterItems, afterSorted}
+use Rattle.writing.specs.Fitted.{textLength}
+use Rattle.scl_write.specs.Export.{exportOf}
 use Rattle.telbijan_answers.specs.Interface.{result, kept, fieldOf}
 
 pub item-as-ratio-one : (kind : ℕ) (cents : Float) (numer denom : ℕ) (ratio : Float) → One (λ r. r) (result (ratioOf (itemOf kind cents numer denom))) × One (λ r. r) (kept (ratioOf (itemOf kind cents numer denom)) ratio)
@@ -43,3 +47,6 @@ push-ratio-one items room count value after = (one-result (result (pushedRatio (
 
 pub build-scl-one : (items : ItemTable) (list : ListTable) (room count : ℕ) (size : ℕ) → One (λ r. r) (result (counted (state room count) (built (state room count) items list))) × (One (λ r. r) (afterList (built (state room count) items list) list) × One (λ r. r) (kept (counted (state room count) (built (state room count) items list)) size))
 build-scl-one items list room count size = (one-result (result (counted (state room count) (built (state room count) items list))), (one-result (afterList (built (state room count) items list) list), one-result (kept (counted (state room count) (built (state room count) items list)) size)))
+
+pub export-scl-one : (description : List ℕ) (items : ItemTable) (count : ℕ) (out : List ℕ) (written : ℕ) → One (λ r. r) (result (textLength (exportOf (record { count = count }) items description (length out)))) × (One (λ r. r) (after (exportOf (record { count = count }) items description (length out)) (λ t. t) out) × One (λ r. r) (kept (textLength (exportOf (record { count = count }) items description (length out))) written))
+export-scl-one description items count out written = (one-result (result (textLength (exportOf (record { count = count }) items description (length out)))), (one-result (after (exportOf (record { count = count }) items description (length out)) (λ t. t) out), one-result (kept (textLength (exportOf (record { count = count }) items description (length out))) written)))

@@ -1,11 +1,16 @@
 // Scales for C: seven lent columns, the items' four and the sorted list's three, and beside them the count of items.
 use pitch::Ratio;
+use scl::Scl;
 use scl::SclAnswer;
 use scl_build::SclBuilder;
 use scl_build::SclBuilderAnswer;
 use scl_read::SclReadAnswer;
+use writing::SizeAnswer;
 ghost use mathlib.Core.Path.{_≡_};
-ghost use Rattle.scl.specs.Items.{ratioOf};
+ghost use mathlib.Core.Bool.{true};
+ghost use lib.ListN.{length};
+ghost use Rattle.base.specs.Tables.{after};
+ghost use Rattle.scl.specs.Items.{isUsable, ratioOf};
 ghost use Rattle.scl.specs.Table.{itemOf, itemTable};
 ghost use Rattle.scl.specs.declared.Denom.the-variants.{Given, Lacking};
 ghost use Rattle.scl.specs.declared.Item.the-variants.{Cents, Fraction};
@@ -13,8 +18,10 @@ ghost use Rattle.sorted.specs.Lent.{listTable};
 ghost use Rattle.scl_tables.specs.Build.{afterList};
 ghost use Rattle.scl_tables.specs.Room.{roomOf};
 ghost use Rattle.scl_build.specs.Answers.{saysBuilder};
-ghost use Rattle.scl_build.specs.Builder.{state, builderOf, afterNew, pushed, afterPush, pushedRatio, afterRatio, built, counted};
+ghost use Rattle.scl_build.specs.Builder.{state, builderOf, afterNew, pushed, afterPush, pushedRatio, afterRatio, built, counted, Comes};
 ghost use Rattle.scl_read.specs.Reader.{readOf, afterItems, afterSorted};
+ghost use Rattle.writing.specs.Fitted.{textLength};
+ghost use Rattle.scl_write.specs.Export.{exportOf, NeverFull};
 ghost use Rattle.telbijan_answers.specs.Interface.{result, kept, fieldOf};
 
 // The ratio of an item, stored: 18 for an unknown kind, and where the ratio lies outside 2^-900..2^900; never for a usable item.
@@ -28,6 +35,7 @@ pub extern "C" fn telbijan_item_as_ratio(
 ) -> u64
     ensures { λ r. ⌜ r ≡ result (ratioOf (itemOf kind cents numer denom)) ⌝ }
     ensures { λ _. ⌜ now (ratio .exit) ≡ kept (ratioOf (itemOf kind cents numer denom)) (now (ratio .entry)) ⌝ }
+    ensures { λ r. ⌜ (isUsable (itemOf kind cents numer denom) ≡ true → r ≡ 0) ⌝ }
 {
     telbijan_answers::store_ratio(scl::item_of(kind, cents, numer, denom).as_ratio(), ratio)
 }
@@ -230,6 +238,7 @@ pub extern "C" fn telbijan_build_scl(
     ensures { λ _. ⌜ listTable (now (place .exit)) (now (ratio .exit)) (now (wraps .exit))
         ≡ afterList (built (state room count) (itemTable (now (kind .entry)) (now (cents .entry)) (now (numer .entry)) (now (denom .entry))) (listTable (now (place .entry)) (now (ratio .entry)) (now (wraps .entry)))) (listTable (now (place .entry)) (now (ratio .entry)) (now (wraps .entry))) ⌝ }
     ensures { λ _. ⌜ now (items .exit) ≡ kept (counted (state room count) (built (state room count) (itemTable (now (kind .entry)) (now (cents .entry)) (now (numer .entry)) (now (denom .entry))) (listTable (now (place .entry)) (now (ratio .entry)) (now (wraps .entry))))) (now (items .entry)) ⌝ }
+    ensures { λ _. ⌜ Comes (state room count) (itemTable (now (kind .entry)) (now (cents .entry)) (now (numer .entry)) (now (denom .entry))) (listTable (now (place .entry)) (now (ratio .entry)) (now (wraps .entry))) (counted (state room count) (built (state room count) (itemTable (now (kind .entry)) (now (cents .entry)) (now (numer .entry)) (now (denom .entry))) (listTable (now (place .entry)) (now (ratio .entry)) (now (wraps .entry))))) (listTable (now (place .exit)) (now (ratio .exit)) (now (wraps .exit))) ⌝ }
 {
     let builder = SclBuilder { room, count };
     match builder.build(kind, cents, numer, denom, place, ratio, wraps) {
@@ -239,5 +248,34 @@ pub extern "C" fn telbijan_build_scl(
             0
         }
         SclAnswer::Refused(refusal) => telbijan_answers::code_of(refusal),
+    }
+}
+
+// The text of a scale, written into the lent bytes: the description as it is, the count, the items. The number of bytes is stored, and
+// bytes behind it keep their values. 10 for a table that cannot be used or a description that is not UTF-8, 12 where the text is
+// longer than the bytes: never where they are the description's length + 7 + 22 for each item.
+#[no_mangle]
+pub extern "C" fn telbijan_export_scl(
+    description: &[u8],
+    kind: &[u8],
+    cents: &[f64],
+    numer: &[u32],
+    denom: &[u32],
+    count: u16,
+    out: &mut [u8],
+    written: &mut usize,
+) -> u64
+    ensures { λ r. ⌜ r ≡ result (textLength (exportOf (record { count = count }) (itemTable (now (kind .entry)) (now (cents .entry)) (now (numer .entry)) (now (denom .entry))) (now (description .entry)) (length (now (out .entry))))) ⌝ }
+    ensures { λ _. ⌜ now (out .exit) ≡ after (exportOf (record { count = count }) (itemTable (now (kind .entry)) (now (cents .entry)) (now (numer .entry)) (now (denom .entry))) (now (description .entry)) (length (now (out .entry)))) (λ t. t) (now (out .entry)) ⌝ }
+    ensures { λ _. ⌜ now (written .exit) ≡ kept (textLength (exportOf (record { count = count }) (itemTable (now (kind .entry)) (now (cents .entry)) (now (numer .entry)) (now (denom .entry))) (now (description .entry)) (length (now (out .entry))))) (now (written .entry)) ⌝ }
+    ensures { λ _. ⌜ NeverFull (record { count = count }) (now (description .entry)) (length (now (out .entry))) (textLength (exportOf (record { count = count }) (itemTable (now (kind .entry)) (now (cents .entry)) (now (numer .entry)) (now (denom .entry))) (now (description .entry)) (length (now (out .entry))))) ⌝ }
+{
+    let scl = Scl { count };
+    match scl_write::export_scl(scl, description, kind, cents, numer, denom, out) {
+        SizeAnswer::Is(size) => {
+            *written = size;
+            0
+        }
+        SizeAnswer::Refused(refusal) => telbijan_answers::code_of(refusal),
     }
 }

@@ -3,7 +3,7 @@
 use borrow.Author.Needs.{needs}
 use mathlib.Core.Path.{_∙_, ap}
 use Rattle.base.specs.Said.{gives}
-use Rattle.kbm_read.proofs.Takes.{finish-missing, finish-room, finish-large, finish-count, finish-is}
+use Rattle.kbm_read.proofs.Finishes.{finish-missing, finish-room, finish-large, finish-count, finish-is}
 use Rattle.kbm_read.proofs.finish.Statement.{statement}
 use Rattle.kbm_read.proofs.finish.Tie as tie
 

@@ -4,7 +4,7 @@ use borrow.Author.Needs.{needs}
 use mir.Facts.{toZ-ofZ}
 use mir.Syntax.{w16, w32}
 use Rattle.base.proofs.Machine.{widen-fits, widened}
-use Rattle.kbm_read.proofs.Takes.{offset-fits}
+use Rattle.kbm_read.proofs.Finishes.{offset-fits}
 use Rattle.kbm_read.proofs.mapping_of.Statement.{statement}
 use Rattle.kbm_read.proofs.mapping_of.Tie as tie
 

@@ -1,4 +1,4 @@
--- `reduce` meets its contract: no step refuses (Reduction.antt).
+-- `reduce` meets its contract: no step refuses (Reaches.antt).
 -- Assumes nothing.
 use lib.Ieee.{binary64, fits}
 use mathlib.Core.Path.{_≡_, sym, _∙_, ap}

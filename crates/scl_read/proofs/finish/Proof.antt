@@ -1,7 +1,7 @@
 -- `finish` meets its contract: 2, 13, 14, 18, or the scale. No loop.
 use borrow.Author.Needs.{needs}
 use mathlib.Core.Path.{_∙_}
-use Rattle.scl_read.proofs.Takes.{finish-missing, finish-large, finish-count, finish-beyond, finish-is}
+use Rattle.scl_read.proofs.Finishes.{finish-missing, finish-large, finish-count, finish-beyond, finish-is}
 use Rattle.scl_read.proofs.finish.Statement.{statement}
 use Rattle.scl_read.proofs.finish.Tie as tie
 

@@ -15,45 +15,15 @@ table s = itemTable (s .args .kind .now) (s .args .cents .now) (s .args .numer .
 rooms : (s : tie.Start) → Items (s .args .count) (table s)
 rooms s = items-are (s .args .count) (table s) .0 (s .pre .0)
 
-shared-slice-read-item-of : tie.Need-shared-slice-read-item-of
-shared-slice-read-item-of c = let s = c .before .before .before .before .before in omega (arith, rooms s .kinds-room, s .pre .1)
-
-mul-item-of : tie.Need-mul-item-of
-mul-item-of c = let s = c .before .before .before .before .before in omega (arith, rooms s .cents-room, s .pre .1)
-
-shared-slice-read-item-of-2 : tie.Need-shared-slice-read-item-of-2
-shared-slice-read-item-of-2 c = let s = c .before .before .before .before .before .before in omega (arith, rooms s .cents-room, s .pre .1)
-
-mul-item-of-2 : tie.Need-mul-item-of-2
-mul-item-of-2 c = let s = c .before .before .before .before .before .before in omega (arith, rooms s .numers-room, s .pre .1)
-
-shared-slice-read-item-of-3 : tie.Need-shared-slice-read-item-of-3
-shared-slice-read-item-of-3 c = let s = c .before .before .before .before .before .before .before in omega (arith, rooms s .numers-room, s .pre .1)
-
-mul-item-of-3 : tie.Need-mul-item-of-3
-mul-item-of-3 c = let s = c .before .before .before .before .before .before .before in omega (arith, rooms s .denoms-room, s .pre .1)
-
-shared-slice-read-item-of-4 : tie.Need-shared-slice-read-item-of-4
-shared-slice-read-item-of-4 c = let s = c .before .before .before .before .before .before .before .before in omega (arith, rooms s .denoms-room, s .pre .1)
-
-item-of-requires : tie.Need-item-of-requires
-item-of-requires c κs = search needs
+item-at-requires : tie.Need-item-at-requires
+item-at-requires c κs =
+    let s = c .before .before .before .before in
+    (omega (arith, rooms s .kinds-room, s .pre .1), omega (arith, rooms s .cents-room, s .pre .1), omega (arith, rooms s .numers-room, s .pre .1), omega (arith, rooms s .denoms-room, s .pre .1))
 
 returns : tie.Need-returns
 returns c =
-    let s = c .before .before .before .before .before .before .before .before .before in
-    (c .item-of .ensures, rw (c .item-of .ensures) (standing-usable (s .args .count) (table s) (s .pre .0) (s .args .i) (s .pre .1)))
+    let s = c .before .before .before .before .before in
+    (c .item-at .ensures, rw (c .item-at .ensures) (standing-usable (s .args .count) (table s) (s .pre .0) (s .args .i) (s .pre .1)))
 
 pub item-at-spec : {M : Type 1} → statement M
-item-at-spec =
-    tie.close
-    (tie.spec
-    shared-slice-read-item-of
-    mul-item-of
-    shared-slice-read-item-of-2
-    mul-item-of-2
-    shared-slice-read-item-of-3
-    mul-item-of-3
-    shared-slice-read-item-of-4
-    item-of-requires
-    returns)
+item-at-spec = tie.close (tie.spec item-at-requires returns)

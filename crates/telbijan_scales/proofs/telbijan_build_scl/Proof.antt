@@ -32,8 +32,8 @@ returns : tie.Need-returns
 returns c =
     let call = c .before .before .before .before .before .before .before .before in
     let is = c .before .scl .given .1 in
-    let told = call .build .ensures in
-    (accepted saysScl (told .0) is refl, (told .1, stored saysScl (told .0) is (now (call .before .before .before .before .before .before .before .before .before .before .args .items)) refl refl))
+    let told = call .build .ensures .0 in
+    (accepted saysScl (told .0) is refl, (told .1, (stored saysScl (told .0) is (now (call .before .before .before .before .before .before .before .before .before .before .args .items)) refl refl, rw (told .0) at (call .build .ensures .1))))
 
 same-length-4 : tie.Need-same-length-4
 same-length-4 c = search needs
@@ -48,8 +48,8 @@ returns-2 : tie.Need-returns-2
 returns-2 c =
     let call = c .before .before .before .before .before .before .before .before .before in
     let is = c .before .before .refusal .given .1 in
-    let told = call .build .ensures in
-    (refused saysScl (told .0) is _ refl (c .code-of .ensures), (told .1, stays saysScl (told .0) is _ (now (call .before .before .before .before .before .before .before .before .before .before .args .items)) refl))
+    let told = call .build .ensures .0 in
+    (refused saysScl (told .0) is _ refl (c .code-of .ensures), (told .1, (stays saysScl (told .0) is _ (now (call .before .before .before .before .before .before .before .before .before .before .args .items)) refl, rw (told .0) at (call .build .ensures .1))))
 
 pub telbijan-build-scl-spec : {M : Type 1} → statement M
 telbijan-build-scl-spec =

@@ -2,7 +2,11 @@
 use borrow.Author.Needs.{needs}
 use denote.Ref.{now}
 use Rattle.pitch.specs.Answers.{saysRatio}
-use Rattle.telbijan_answers.specs.Interface.{kept}
+use mathlib.Core.Path.{_≡_, sym, _∙_, ap}
+use mathlib.Core.Bool.{true}
+use Rattle.scl.specs.Items.{isUsable}
+use Rattle.scl.specs.Table.{itemOf}
+use Rattle.telbijan_answers.specs.Interface.{result, kept}
 use Rattle.telbijan_answers.proofs.Interface.{handed-on}
 use Rattle.telbijan_scales.proofs.telbijan_item_as_ratio.Statement.{statement}
 use Rattle.telbijan_scales.proofs.telbijan_item_as_ratio.Tie as tie
@@ -17,7 +21,13 @@ store-ratio-requires : tie.Need-store-ratio-requires
 store-ratio-requires c κs = search needs
 
 returns : tie.Need-returns
-returns c = handed-on saysRatio (λ s. kept s (now (c .before .before .before .before .args .ratio))) (c .before .before .as-ratio .result) (rw (c .before .before .before .item-of .ensures) at (c .before .before .as-ratio .ensures)) (c .store-ratio .ensures)
+returns c =
+    let start = c .before .before .before .before in
+    let item = itemOf (start .args .kind) (start .args .cents) (start .args .numer) (start .args .denom) in
+    let answer = c .before .before .as-ratio in
+    let told = rw (c .before .before .before .item-of .ensures) at (answer .ensures) in
+    let handed = handed-on saysRatio (λ s. kept s (now (start .args .ratio))) (answer .result) (told .0) (c .store-ratio .ensures) in
+    (handed .0, (handed .1, λ (u : isUsable item ≡ true). handed .0 ∙ ap result (sym (told .0) ∙ told .1 u .is)))
 
 pub telbijan-item-as-ratio-spec : {M : Type 1} → statement M
 telbijan-item-as-ratio-spec =

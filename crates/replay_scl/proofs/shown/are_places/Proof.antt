@@ -55,8 +55,14 @@ returns-2 c = search needs
 is-end-requires : tie.Need-is-end-requires Inv-loop μ-loop
 is-end-requires c κs = search needs
 
+are-old-requires : tie.Need-are-old-requires Inv-loop μ-loop
+are-old-requires c κs = search needs
+
 returns-3 : tie.Need-returns-3 Inv-loop μ-loop
 returns-3 c = search needs
+
+returns-4 : tie.Need-returns-4 Inv-loop μ-loop
+returns-4 c = search needs
 
 pub are-places-spec : {M : Type 1} → statement M
 are-places-spec =
@@ -79,4 +85,6 @@ are-places-spec =
     loop-again
     returns-2
     is-end-requires
-    returns-3)
+    are-old-requires
+    returns-3
+    returns-4)

@@ -2,12 +2,21 @@
 -- Assumes nothing.
 use borrow.Author.Needs.{needs}
 use mathlib.Core.Path.{sym, _∙_, ap}
+use native.Mathlib.Omega.{arith}
 use Rattle.sorted.specs.Lent.{listTable}
 use Rattle.scl.specs.Items.{isUsable}
-use Rattle.scl.specs.Table.{itemTable}
+use Rattle.scl.specs.Table.{ItemTable, Typed, itemTable}
 use Rattle.scl_build.proofs.Builds.{build-refused, build-given, not-ready, ready-items, places-room, ratios-room, wraps-room, items-room, ready-last, last-usable, too-many, beyond, within}
+use Rattle.scl_build.proofs.Comes.{comes-too}
 use Rattle.scl_build.proofs.SclBuilder.build.Statement.{statement}
 use Rattle.scl_build.proofs.SclBuilder.build.Tie as tie
+
+abbrev table : tie.Start → ItemTable
+table s = itemTable (s .args .kind .now) (s .args .cents .now) (s .args .numer .now) (s .args .denom .now)
+
+-- what stands in the columns of u32 is below 2^32
+typed : (c : tie.After-shared-slice-known4) → Typed (table (c .before .before .before .before))
+typed c = record { numers = λ i. omega (arith, c .before .shared-slice-known3 .given i); denoms = λ i. omega (arith, c .shared-slice-known4 .given i) }
 
 is-ready-requires : tie.Need-is-ready-requires
 is-ready-requires c κs = search needs
@@ -24,7 +33,8 @@ same-length-3 c = search needs
 returns : tie.Need-returns
 returns c =
     let args = c .before .before .before .before .before .before .before .before .before .before .before .before .args in
-    build-refused (args .self) (itemTable (args .kind .now) (args .cents .now) (args .numer .now) (args .denom .now)) (listTable (args .place .now) (args .ratio .now) (args .wraps .now)) (too-many (args .self) (itemTable (args .kind .now) (args .cents .now) (args .numer .now) (args .denom .now)) (listTable (args .place .now) (args .ratio .now) (args .wraps .now)) (sym (c .before .before .is-ready .ensures) ∙ c .before .if1 .taken) (c .if2 .taken))
+    comes-too (args .self) (itemTable (args .kind .now) (args .cents .now) (args .numer .now) (args .denom .now)) (listTable (args .place .now) (args .ratio .now) (args .wraps .now)) (typed (c .before .before .before .before .before .before .before .before))
+    (build-refused (args .self) (itemTable (args .kind .now) (args .cents .now) (args .numer .now) (args .denom .now)) (listTable (args .place .now) (args .ratio .now) (args .wraps .now)) (too-many (args .self) (itemTable (args .kind .now) (args .cents .now) (args .numer .now) (args .denom .now)) (listTable (args .place .now) (args .ratio .now) (args .wraps .now)) (sym (c .before .before .is-ready .ensures) ∙ c .before .if1 .taken) (omega (arith, c .if2 .taken))))
 
 item-at-requires : tie.Need-item-at-requires
 item-at-requires c κs =
@@ -48,7 +58,8 @@ same-length-6 c = search needs
 returns-2 : tie.Need-returns-2
 returns-2 c =
     let args = c .before .before .before .before .before .before .before .before .before .before .before .before .before .before .before .args in
-    build-refused (args .self) (itemTable (args .kind .now) (args .cents .now) (args .numer .now) (args .denom .now)) (listTable (args .place .now) (args .ratio .now) (args .wraps .now)) (beyond (args .self) (itemTable (args .kind .now) (args .cents .now) (args .numer .now) (args .denom .now)) (listTable (args .place .now) (args .ratio .now) (args .wraps .now)) (sym (c .before .before .before .before .before .is-ready .ensures) ∙ c .before .before .before .before .if1 .taken) (c .before .before .before .if2 .left) (c .before .before .item-at .ensures) (sym (c .before .is-beyond .ensures) ∙ c .if3 .taken))
+    comes-too (args .self) (itemTable (args .kind .now) (args .cents .now) (args .numer .now) (args .denom .now)) (listTable (args .place .now) (args .ratio .now) (args .wraps .now)) (typed (c .before .before .before .before .before .before .before .before .before .before .before))
+    (build-refused (args .self) (itemTable (args .kind .now) (args .cents .now) (args .numer .now) (args .denom .now)) (listTable (args .place .now) (args .ratio .now) (args .wraps .now)) (beyond (args .self) (itemTable (args .kind .now) (args .cents .now) (args .numer .now) (args .denom .now)) (listTable (args .place .now) (args .ratio .now) (args .wraps .now)) (sym (c .before .before .before .before .before .is-ready .ensures) ∙ c .before .before .before .before .if1 .taken) (c .before .before .before .if2 .left) (c .before .before .item-at .ensures) (sym (c .before .is-beyond .ensures) ∙ c .if3 .taken)))
 
 build-list-requires : tie.Need-build-list-requires
 build-list-requires c κs =
@@ -72,7 +83,8 @@ returns-3 : tie.Need-returns-3
 returns-3 c =
     let args = c .before .before .before .before .before .before .before .before .before .before .before .before .before .before .before .before .before .before .before .before .before .before .before .before .args in
     let list = c .before .before .before .before .before .build-list in
-    build-given (args .self) (itemTable (args .kind .now) (args .cents .now) (args .numer .now) (args .denom .now)) (listTable (args .place .now) (args .ratio .now) (args .wraps .now)) (within (args .self) (itemTable (args .kind .now) (args .cents .now) (args .numer .now) (args .denom .now)) (listTable (args .place .now) (args .ratio .now) (args .wraps .now)) (sym (c .before .before .before .before .before .before .before .before .before .before .before .before .before .before .is-ready .ensures) ∙ c .before .before .before .before .before .before .before .before .before .before .before .before .before .if1 .taken) (c .before .before .before .before .before .before .before .before .before .before .before .before .if2 .left) (c .before .before .before .before .before .before .before .before .before .before .before .item-at .ensures) (sym (c .before .before .before .before .before .before .before .before .before .before .is-beyond .ensures) ∙ c .before .before .before .before .before .before .before .before .before .if3 .left)) (list .ensures .0) (list .ensures .1)
+    comes-too (args .self) (itemTable (args .kind .now) (args .cents .now) (args .numer .now) (args .denom .now)) (listTable (args .place .now) (args .ratio .now) (args .wraps .now)) (typed (c .before .before .before .before .before .before .before .before .before .before .before .before .before .before .before .before .before .before .before .before))
+    (build-given (args .self) (itemTable (args .kind .now) (args .cents .now) (args .numer .now) (args .denom .now)) (listTable (args .place .now) (args .ratio .now) (args .wraps .now)) (within (args .self) (itemTable (args .kind .now) (args .cents .now) (args .numer .now) (args .denom .now)) (listTable (args .place .now) (args .ratio .now) (args .wraps .now)) (sym (c .before .before .before .before .before .before .before .before .before .before .before .before .before .before .is-ready .ensures) ∙ c .before .before .before .before .before .before .before .before .before .before .before .before .before .if1 .taken) (c .before .before .before .before .before .before .before .before .before .before .before .before .if2 .left) (c .before .before .before .before .before .before .before .before .before .before .before .item-at .ensures) (sym (c .before .before .before .before .before .before .before .before .before .before .is-beyond .ensures) ∙ c .before .before .before .before .before .before .before .before .before .if3 .left)) (list .ensures .0) (list .ensures .1))
 
 same-length-10 : tie.Need-same-length-10
 same-length-10 c = search needs
@@ -86,7 +98,8 @@ same-length-12 c = search needs
 returns-4 : tie.Need-returns-4
 returns-4 c =
     let args = c .before .before .before .before .before .before .before .before .before .before .before .args in
-    build-refused (args .self) (itemTable (args .kind .now) (args .cents .now) (args .numer .now) (args .denom .now)) (listTable (args .place .now) (args .ratio .now) (args .wraps .now)) (not-ready (args .self) (itemTable (args .kind .now) (args .cents .now) (args .numer .now) (args .denom .now)) (listTable (args .place .now) (args .ratio .now) (args .wraps .now)) (sym (c .before .is-ready .ensures) ∙ c .if1 .left))
+    comes-too (args .self) (itemTable (args .kind .now) (args .cents .now) (args .numer .now) (args .denom .now)) (listTable (args .place .now) (args .ratio .now) (args .wraps .now)) (typed (c .before .before .before .before .before .before .before))
+    (build-refused (args .self) (itemTable (args .kind .now) (args .cents .now) (args .numer .now) (args .denom .now)) (listTable (args .place .now) (args .ratio .now) (args .wraps .now)) (not-ready (args .self) (itemTable (args .kind .now) (args .cents .now) (args .numer .now) (args .denom .now)) (listTable (args .place .now) (args .ratio .now) (args .wraps .now)) (sym (c .before .is-ready .ensures) ∙ c .if1 .left)))
 
 pub build-spec : {M : Type 1} → statement M
 build-spec =

@@ -1,0 +1,5 @@
+pub mod Pushes
+pub mod Sizes
+pub mod Reaches
+pub mod Plans
+pub mod Theorems

@@ -1,0 +1,71 @@
+-- `pushed` meets its contract: the push's builder, or the old one.
+-- Assumes nothing.
+use mathlib.Core.Path.{_≡_, sym, _∙_, ap}
+use Rattle.scl.specs.Table.{itemTable}
+use Rattle.scl_build.specs.Answers.{saysBuilder}
+use Rattle.reduction.proofs.Answered.{told}
+use Rattle.harmonics.proofs.Pushes.{push-given, push-kept}
+use borrow.Author.Needs.{needs}
+use Rattle.harmonics.proofs.pushed.Statement.{statement}
+use Rattle.harmonics.proofs.pushed.Tie as tie
+
+push-fraction-requires : tie.Need-push-fraction-requires
+push-fraction-requires c κs = search needs
+
+enum-known-next : tie.Need-enum-known-next
+enum-known-next c = search needs
+
+enum-told : tie.Need-enum-told
+enum-told c = search needs
+
+same-length : tie.Need-same-length
+same-length c = search needs
+
+same-length-2 : tie.Need-same-length-2
+same-length-2 c = search needs
+
+same-length-3 : tie.Need-same-length-3
+same-length-3 c = search needs
+
+same-length-4 : tie.Need-same-length-4
+same-length-4 c = search needs
+
+returns : tie.Need-returns
+returns c = let a = c .before .before .before .before .before .before .before .before .before .before .before .before .before .before .before .before .before .before .before .before .args in
+    let e = c .before .before .before .before .before .before .before .before .before .before .before .push-fraction .ensures in
+    push-given (a .state) (itemTable (a .kind .now) (a .cents .now) (a .numer .now) (a .denom .now)) _ (e .1) (told saysBuilder (e .0) (c .before .next .given .1))
+
+same-length-5 : tie.Need-same-length-5
+same-length-5 c = search needs
+
+same-length-6 : tie.Need-same-length-6
+same-length-6 c = search needs
+
+same-length-7 : tie.Need-same-length-7
+same-length-7 c = search needs
+
+same-length-8 : tie.Need-same-length-8
+same-length-8 c = search needs
+
+returns-2 : tie.Need-returns-2
+returns-2 c = let a = c .before .before .before .before .before .before .before .before .before .before .before .before .before .before .before .before .before .before .before .args in
+    let e = c .before .before .before .before .before .before .before .before .before .before .push-fraction .ensures in
+    push-kept (a .state) (itemTable (a .kind .now) (a .cents .now) (a .numer .now) (a .denom .now)) _ (e .1) (told saysBuilder (e .0) (c .enum-told .given .1))
+
+pub pushed-spec : {M : Type 1} → statement M
+pushed-spec =
+    tie.close
+    (tie.spec
+    push-fraction-requires
+    enum-known-next
+    enum-told
+    same-length
+    same-length-2
+    same-length-3
+    same-length-4
+    returns
+    same-length-5
+    same-length-6
+    same-length-7
+    same-length-8
+    returns-2)

@@ -1,0 +1,35 @@
+-- A scale from a segment of the harmonic series: the Rust's `create_harmonics_scale`. "Generators know their item count and test 13, 10,
+-- 12 in that order, then give 18 where it arises (zero divisions do); segment start 0 gives 10" (document 01, "Scales and searches").
+-- The count is a u16, so 13 never arises. Assumes nothing.
+use mathlib.Core.List.{List}
+use Prim.Native.Nat.{ℕ}
+use lib.Dec.{ltb}
+use Rattle.base.specs.Numbers.{unusable}
+use Rattle.base.specs.Said.{Said, gives, refuses, pick, andThen}
+use Rattle.sorted.specs.Lent.{ListTable}
+use Rattle.scl.specs.Table.{ItemTable}
+use Rattle.scl.specs.declared.Denom.the-variants.{Given}
+use Rattle.scl.specs.declared.Item.{Item}
+use Rattle.scl.specs.declared.Item.the-variants as item
+use Rattle.segment.specs.Segment.{fractionAt, stepsOf, countOf}
+use Rattle.segment.specs.declared.Divisions.{Divisions}
+use Rattle.segment.specs.declared.Fraction.{Fraction}
+use Rattle.segment.specs.declared.SegmentType.{SegmentType}
+use Rattle.segment.specs.declared.Steps.{Steps}
+use Rattle.generate.specs.Generated.{itemsFrom, madeOf}
+
+-- what `push_fraction` pushes
+abbrev pub asItem : Fraction → Item
+asItem f = item.Fraction (f .numer) (Given (f .denom))
+
+-- the j-th item
+abbrev pub itemAt : SegmentType → ℕ → ℕ → Steps → ℕ → Said Item
+itemAt type start size steps j = andThen (fractionAt type start size steps j) (λ f. gives (asItem f))
+
+-- THE ITEMS: as many as the segment is long, or as it has divisions
+abbrev pub harmonicsOf : SegmentType → ℕ → ℕ → Divisions → Said (List Item)
+harmonicsOf type start size divisions = andThen (stepsOf start size divisions) (λ steps. itemsFrom (itemAt type start size steps) 1 (countOf size divisions))
+
+-- the items of an accepted call: 10, then 12, then 18
+unfoldable pub madeHarmonics : ItemTable → ListTable → SegmentType → ℕ → ℕ → Divisions → Said (List Item)
+madeHarmonics t l type start size divisions = pick (ltb 0 start) (madeOf t l (countOf size divisions) (harmonicsOf type start size divisions)) (refuses unusable 0)

@@ -1,0 +1,2 @@
+pub mod Harmonics
+pub mod Steps

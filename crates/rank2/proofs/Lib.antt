@@ -1,0 +1,5 @@
+pub mod Values
+pub mod Pushes
+pub mod Behind
+pub mod Calls
+pub mod Theorems

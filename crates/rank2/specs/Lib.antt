@@ -1,0 +1,2 @@
+pub mod Rank2
+pub mod Steps

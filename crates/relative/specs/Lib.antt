@@ -1,0 +1,3 @@
+pub mod Scales
+pub mod Relative
+pub mod Refusals

@@ -1,0 +1,6 @@
+pub mod Opened
+pub mod Within
+pub mod Parting
+pub mod Given
+pub mod Refusals
+pub mod Theorems

@@ -1,0 +1,4 @@
+pub mod Casts
+pub mod Fractions
+pub mod Harmonics
+pub mod Theorems

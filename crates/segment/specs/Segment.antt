@@ -1,0 +1,64 @@
+-- The fractions of a segment of the harmonic series, as the Rust's `create_harmonics_scale` makes them, its f64 steps in its order
+-- with document 01's E and L. Assumes nothing.
+use Prim.Native.Nat.{ℕ, _+_, _-_}
+use lib.IntN.{pos}
+use lib.Ieee.{Float, binary64, add, mul, div, neg, lt, ofInt, toUnsigned}
+use Rattle.base.specs.Said.{Said, gives, pick, andThen}
+use Rattle.floats.specs.Floats.{floor}
+use Rattle.pitch.specs.Ratios.{fromFloat, repeated, dividedInto}
+use Rattle.segment.specs.declared.Divisions.{Divisions}
+use Rattle.segment.specs.declared.Divisions.the-variants.{Into, Lacking}
+use Rattle.segment.specs.declared.Fraction.{Fraction}
+use Rattle.segment.specs.declared.SegmentType.{SegmentType}
+use Rattle.segment.specs.declared.SegmentType.the-variants.{Otonal, Utonal}
+use Rattle.segment.specs.declared.Steps.{Steps}
+use Rattle.segment.specs.declared.Steps.the-variants.{Whole, Equal}
+
+-- `f64::from` of a whole number
+abbrev pub float : ℕ → Float
+float n = ofInt binary64 (pos n)
+
+-- f64::ceil: the floor of the number turned over, turned back
+abbrev pub ceil : Float → Float
+ceil x = neg (floor (neg x))
+
+-- the whole number below h where it is nearer as a ratio, else the one above it
+abbrev pub candidateOf : Float → Float
+candidateOf h = pick (lt (div binary64 h (floor h)) (div binary64 (ceil h) h)) (floor h) (ceil h)
+
+-- `as u32`
+unfoldable pub harmonicOf : Float → ℕ
+harmonicOf h = toUnsigned 32 (candidateOf h)
+
+abbrev pub fraction : ℕ → ℕ → Fraction
+fraction numer denom = record { numer = numer; denom = denom }
+
+-- without divisions: the harmonics after the first one over it, the last one over those before it
+abbrev pub wholeAt : SegmentType → ℕ → ℕ → ℕ → Fraction
+wholeAt Otonal start size j = fraction (start + j) start
+wholeAt Utonal start size j = fraction (start + size) (start + size - j)
+
+-- the same of the harmonic near a ratio
+abbrev pub nearAt : SegmentType → ℕ → ℕ → Float → Fraction
+nearAt Otonal start size ratio = fraction (harmonicOf (mul binary64 ratio (float start))) start
+nearAt Utonal start size ratio = fraction (start + size) (harmonicOf (div binary64 (float (start + size)) ratio))
+
+-- the j-th fraction: `step_size.repeated(j)` where the segment is divided
+abbrev pub fractionAt : SegmentType → ℕ → ℕ → Steps → ℕ → Said Fraction
+fractionAt type start size Whole j = gives (wholeAt type start size j)
+fractionAt type start size (Equal step) j = andThen (repeated step (float j)) (λ ratio. gives (nearAt type start size ratio))
+
+-- `equivalence_interval`
+abbrev pub intervalOf : ℕ → ℕ → Float
+intervalOf start size = div binary64 (add binary64 (float start) (float size)) (float start)
+
+-- `Ratio::from_float(equivalence_interval).divided_into_equal_steps(neji_divisions)`
+abbrev pub stepsOf : ℕ → ℕ → Divisions → Said Steps
+stepsOf start size Lacking = gives Whole
+stepsOf start size (Into number) =
+    andThen (andThen (fromFloat (intervalOf start size)) (λ ratio. dividedInto ratio (float number))) (λ step. gives (Equal step))
+
+-- how many items there are
+abbrev pub countOf : ℕ → Divisions → ℕ
+countOf size Lacking = size
+countOf size (Into number) = number

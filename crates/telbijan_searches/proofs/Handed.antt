@@ -1,0 +1,16 @@
+-- What a search answers, handed on with the number and the deviation that it stores. Assumes nothing.
+use mathlib.Core.Path.{_≡_, _∙_, ap}
+use Prim.Native.Nat.{ℕ}
+use lib.IntN.{ℤ}
+use lib.Ieee.{Float}
+use Rattle.base.specs.Said.{Said}
+use Rattle.approximation.specs.declared.Approximation.{Approximation}
+use Rattle.telbijan_answers.specs.Interface.{result, kept, fieldOf}
+
+pub handed-both :
+    {X : Type 0} (says : X → Said Approximation) (x : X) {s : Said Approximation} {n : ℕ} {v : ℤ} {w : Float} (number : ℤ) (deviation : Float) →
+    says x ≡ s →
+    (n ≡ result (says x)) × ((v ≡ kept (fieldOf (λ a. a .«approx_value») (says x)) number) × (w ≡ kept (fieldOf (λ a. a .deviation) (says x)) deviation)) →
+    (n ≡ result s) × ((v ≡ kept (fieldOf (λ a. a .«approx_value») s) number) × (w ≡ kept (fieldOf (λ a. a .deviation) s) deviation))
+handed-both says x number deviation told e =
+    (e .0 ∙ ap result told, (e .1 .0 ∙ ap (λ t. kept (fieldOf (λ a. a .«approx_value») t) number) told, e .1 .1 ∙ ap (λ t. kept (fieldOf (λ a. a .deviation) t) deviation) told))

@@ -1,0 +1,43 @@
+-- For each input, refused ones too, a function of the interface has one possible result, and each value behind a pointer and each
+-- lent part of memory one possible state after it: document 01, "What the contracts settle". A line for each. Assumes nothing.
+use mathlib.Core.List.{List}
+use Prim.Native.Nat.{ℕ}
+use lib.IntN.{ℤ}
+use lib.Ieee.{Float}
+use lib.ListN.{length}
+use Rattle.base.proofs.Said.{One, one-result}
+use Rattle.key.specs.declared.PianoKey.{PianoKey}
+use Rattle.sorted.specs.Lent.{ListTable}
+use Rattle.scl.specs.Table.{ItemTable, itemsIn}
+use Rattle.kbm.specs.declared.Kbm.{Kbm}
+use Rattle.kbm.specs.declared.KbmRoot.{KbmRoot}
+use Rattle.key_pitches.specs.Run.{keyPitches, runOf, afterHz, afterNumbers}
+use Rattle.telbijan_answers.specs.Interface.{result, kept}
+use Rattle.telbijan_tuning.specs.Tunings.{periodSaid, relativeSaid, sortedRelativeSaid, pitchSaid, keyPitchSaid, sortedPitchSaid, maybePitchSaid, maybeDegreePitchSaid}
+
+pub period-one : (count : ℕ) (t : ItemTable) (old : Float) → One (λ r. r) (result (periodSaid count t)) × One (λ r. r) (kept (periodSaid count t) old)
+period-one count t old = (one-result (result (periodSaid count t)), one-result (kept (periodSaid count t) old))
+
+pub relative-pitch-of-one : (count : ℕ) (t : ItemTable) (degree : ℤ) (old : Float) → One (λ r. r) (result (relativeSaid count t degree)) × One (λ r. r) (kept (relativeSaid count t degree) old)
+relative-pitch-of-one count t degree old = (one-result (result (relativeSaid count t degree)), one-result (kept (relativeSaid count t degree) old))
+
+pub sorted-relative-pitch-of-one : (count : ℕ) (t : ItemTable) (l : ListTable) (degree : ℤ) (old : Float) → One (λ r. r) (result (sortedRelativeSaid count t l degree)) × One (λ r. r) (kept (sortedRelativeSaid count t l degree) old)
+sorted-relative-pitch-of-one count t l degree old = (one-result (result (sortedRelativeSaid count t l degree)), one-result (kept (sortedRelativeSaid count t l degree) old))
+
+pub pitch-of-one : (count : ℕ) (t : ItemTable) (root : KbmRoot) (degree : ℤ) (old : Float) → One (λ r. r) (result (pitchSaid count t root degree)) × One (λ r. r) (kept (pitchSaid count t root degree) old)
+pitch-of-one count t root degree old = (one-result (result (pitchSaid count t root degree)), one-result (kept (pitchSaid count t root degree) old))
+
+pub pitch-of-key-one : (count : ℕ) (t : ItemTable) (root : KbmRoot) (key : PianoKey) (old : Float) → One (λ r. r) (result (keyPitchSaid count t root key)) × One (λ r. r) (kept (keyPitchSaid count t root key) old)
+pitch-of-key-one count t root key old = (one-result (result (keyPitchSaid count t root key)), one-result (kept (keyPitchSaid count t root key) old))
+
+pub sorted-pitch-of-one : (count : ℕ) (t : ItemTable) (l : ListTable) (root : KbmRoot) (degree : ℤ) (old : Float) → One (λ r. r) (result (sortedPitchSaid count t l root degree)) × One (λ r. r) (kept (sortedPitchSaid count t l root degree) old)
+sorted-pitch-of-one count t l root degree old = (one-result (result (sortedPitchSaid count t l root degree)), one-result (kept (sortedPitchSaid count t l root degree) old))
+
+pub maybe-pitch-of-one : (count : ℕ) (t : ItemTable) (kbm : Kbm) (map : List ℤ) (key : PianoKey) (old : Float) → One (λ r. r) (result (maybePitchSaid count t kbm map key)) × One (λ r. r) (kept (maybePitchSaid count t kbm map key) old)
+maybe-pitch-of-one count t kbm map key old = (one-result (result (maybePitchSaid count t kbm map key)), one-result (kept (maybePitchSaid count t kbm map key) old))
+
+pub maybe-pitch-of-degree-one : (count : ℕ) (t : ItemTable) (kbm : Kbm) (map : List ℤ) (degree : ℤ) (old : Float) → One (λ r. r) (result (maybeDegreePitchSaid count t kbm map degree)) × One (λ r. r) (kept (maybeDegreePitchSaid count t kbm map degree) old)
+maybe-pitch-of-degree-one count t kbm map degree old = (one-result (result (maybeDegreePitchSaid count t kbm map degree)), one-result (kept (maybeDegreePitchSaid count t kbm map degree) old))
+
+pub pitches-of-one : (count : ℕ) (t : ItemTable) (kbm : Kbm) (map : List ℤ) (first : PianoKey) (keys : ℕ) (pitches : List Float) (numbers : List ℕ) → One (λ r. r) (result (runOf count t kbm map keys (length pitches) (length numbers))) × (One (λ r. r) (afterHz (runOf count t kbm map keys (length pitches) (length numbers)) (keyPitches (itemsIn count t) kbm map first) keys pitches) × One (λ r. r) (afterNumbers (runOf count t kbm map keys (length pitches) (length numbers)) (keyPitches (itemsIn count t) kbm map first) keys numbers))
+pitches-of-one count t kbm map first keys pitches numbers = (one-result (result (runOf count t kbm map keys (length pitches) (length numbers))), (one-result (afterHz (runOf count t kbm map keys (length pitches) (length numbers)) (keyPitches (itemsIn count t) kbm map first) keys pitches), one-result (afterNumbers (runOf count t kbm map keys (length pitches) (length numbers)) (keyPitches (itemsIn count t) kbm map first) keys numbers)))

@@ -1,0 +1,105 @@
+-- Which refusals the pitch calls leave, and that each call has one result. Document 01, "Keys" and "Scales and searches".
+-- Assumes nothing.
+use mathlib.Core.Path.{_≡_, refl, sym, _∙_, ap, subst}
+use mathlib.Core.Bool.{Bool, true, false, _&&_}
+use mathlib.Core.List.{List}
+use Prim.Native.Nat.{ℕ, _<_}
+use lib.IntN.{ℤ, _+ℤ_, _-ℤ_}
+use lib.Signed.{mag}
+use Rattle.base.specs.Integers.{inI32, held}
+use Rattle.base.specs.Numbers.{overflow}
+use Rattle.base.specs.Said.{Said, gives, refuses, pick, andThen}
+use Rattle.base.proofs.Said.{One}
+use Rattle.key.specs.Keys.{key, stepsBetween}
+use Rattle.key.specs.declared.PianoKey.{PianoKey}
+use Rattle.pitch.specs.Answers.{saysPitch}
+use Rattle.pitch.proofs.Theorems.{pitch-one}
+use Rattle.sorted.specs.Lent.{ListTable, listIn, isList}
+use Rattle.scl.specs.Table.{ItemTable, itemsIn, isItems}
+use Rattle.scl.specs.declared.Item.{Item}
+use Rattle.kbm.specs.Degree.{degreeOf}
+use Rattle.kbm.specs.Keys.{Has}
+use Rattle.kbm.specs.Root.{isRoot}
+use Rattle.kbm.specs.Table.{isTable, tableOf}
+use Rattle.kbm.specs.declared.Kbm.{Kbm}
+use Rattle.kbm.specs.declared.KbmRoot.{KbmRoot}
+use Rattle.kbm.proofs.Language.{has}
+use Rattle.relative.specs.Scales.{tested, isScale}
+use Rattle.relative.proofs.Theorems.{sorted-refusals}
+use Rattle.rooted.specs.Pitches.{pitchOf, sortedPitchOf}
+use Rattle.rooted.specs.Refusals.{Pitched}
+use Rattle.rooted.proofs.Theorems.{pitch-refusals, sorted-pitch-refusals}
+use Rattle.tuning.specs.Keys.{keyPitchOf, maybePitchOf, maybeDegreePitchOf}
+use Rattle.tuning.specs.Refusals.{Sounds}
+
+-- ---- by the degree that a key has
+module _ (items : List Item) (root : KbmRoot) (o : isRoot root ≡ true) (m : mag (root .offset) < 2147483648) where
+  from-degree : {d : Said ℤ} (z : ℤ) → d ≡ gives z → Sounds root d (andThen d (pitchOf items root))
+  from-degree {d} z e = Sounds.sounds z e (subst (Pitched root) (sym (ap (λ (s : Said ℤ). andThen s (pitchOf items root)) e)) (pitch-refusals root o m items z))
+
+  no-degree : {d : Said ℤ} {n : ℕ} → d ≡ refuses n 0 → andThen d (pitchOf items root) ≡ refuses n 0
+  no-degree e = ap (λ (s : Said ℤ). andThen s (pitchOf items root)) e
+
+  -- a key of a root: 11 exactly where its distance passes 32 bits
+  held-sounds : (z : ℤ) → Sounds root (held z) (andThen (held z) (pitchOf items root))
+  unfolding held
+  held-sounds z = go (inI32 z) refl
+    where
+      go : (b : Bool) → inI32 z ≡ b → Sounds root (pick (inI32 z) (gives z) (refuses overflow 0)) (andThen (pick (inI32 z) (gives z) (refuses overflow 0)) (pitchOf items root))
+      go true e = from-degree z (rw e refl)
+      go false e = Sounds.passed (rw e refl) (no-degree {d = pick (inI32 z) (gives z) (refuses overflow 0)} (rw e refl))
+
+-- a key of a mapping: "Order: 16, 11 for d, 17, 11"
+module _ (items : List Item) (kbm : Kbm) (map : List ℤ) (o : isRoot (kbm .root) ≡ true) (m : mag (kbm .root .offset) < 2147483648) where
+  pub key-sounds : (k : PianoKey) → Sounds (kbm .root) (degreeOf kbm (tableOf (kbm .count) map) k) (maybePitchOf items kbm map k)
+  key-sounds k = go (degreeOf kbm (tableOf (kbm .count) map) k) refl (has kbm (tableOf (kbm .count) map) k)
+    where
+      go : (d : Said ℤ) → degreeOf kbm (tableOf (kbm .count) map) k ≡ d → Has kbm (tableOf (kbm .count) map) k d → Sounds (kbm .root) (degreeOf kbm (tableOf (kbm .count) map) k) (maybePitchOf items kbm map k)
+      go d e (Has.outside a h) = Sounds.outside (e ∙ h) (no-degree items (kbm .root) o m (e ∙ h))
+      go d e (Has.far a b h) = Sounds.passed (e ∙ h) (no-degree items (kbm .root) o m (e ∙ h))
+      go d e (Has.plain a b c h) = from-degree items (kbm .root) o m _ (e ∙ h)
+      go d e (Has.none a b q r h) = Sounds.unmapped (e ∙ h) (no-degree items (kbm .root) o m (e ∙ h))
+      go d e (Has.passed a b q z r c h) = Sounds.passed (e ∙ h) (no-degree items (kbm .root) o m (e ∙ h))
+      go d e (Has.degree a b q z r c h) = from-degree items (kbm .root) o m _ (e ∙ h)
+
+-- ---- the calls, where tables and root are usable
+module _ (count : ℕ) (t : ItemTable) (it : isItems count t ≡ true) where
+  module _ (root : KbmRoot) (o : isRoot root ≡ true) (m : mag (root .offset) < 2147483648) where
+    -- a number in 2^-900..2^900, 11 exactly for the root offset -2147483648, or 18
+    pub pitch-of-refusals : (d : ℤ) → Pitched root (tested (isItems count t && isRoot root) (pitchOf (itemsIn count t) root d))
+    pitch-of-refusals d = rw (it, o) (pitch-refusals root o m (itemsIn count t) d)
+
+    pub pitch-of-key-refusals : (k : PianoKey) → Sounds root (stepsBetween (root .reference) k) (tested (isItems count t && isRoot root) (keyPitchOf (itemsIn count t) root k))
+    pitch-of-key-refusals k = rw (it, o) (held-sounds (itemsIn count t) root o m (k .0 -ℤ root .reference .0))
+
+    pub sorted-pitch-of-refusals : (l : ListTable) → isList count l ≡ true → (d : ℤ) → Pitched root (tested (isScale count t l && isRoot root) (sortedPitchOf (itemsIn count t) (listIn count l) root d))
+    sorted-pitch-of-refusals l li d = rw (it, li, o) (sorted-pitch-refusals root o m (itemsIn count t) (listIn count l) d (sorted-refusals count t l it li d))
+
+  module _ (kbm : Kbm) (map : List ℤ) (o : isRoot (kbm .root) ≡ true) (m : mag (kbm .root .offset) < 2147483648) (u : isTable (kbm .count) map ≡ true) where
+    pub maybe-pitch-of-refusals : (k : PianoKey) → Sounds (kbm .root) (degreeOf kbm (tableOf (kbm .count) map) k) (tested (isItems count t && isRoot (kbm .root)) (tested (isTable (kbm .count) map) (maybePitchOf (itemsIn count t) kbm map k)))
+    maybe-pitch-of-refusals k = rw (it, o, u) (key-sounds (itemsIn count t) kbm map o m k)
+
+    -- by mapping degree: 11 for the key, then as by key
+    pub maybe-pitch-of-degree-refused : (d : ℤ) → inI32 (kbm .root .reference .0 +ℤ d) ≡ false → tested (isItems count t && isRoot (kbm .root)) (tested (isTable (kbm .count) map) (maybeDegreePitchOf (itemsIn count t) kbm map d)) ≡ refuses overflow 0
+    unfolding held
+    maybe-pitch-of-degree-refused d e = rw (it, o, u, e) refl
+
+    pub maybe-pitch-of-degree-is : (d : ℤ) → inI32 (kbm .root .reference .0 +ℤ d) ≡ true → tested (isItems count t && isRoot (kbm .root)) (tested (isTable (kbm .count) map) (maybeDegreePitchOf (itemsIn count t) kbm map d)) ≡ maybePitchOf (itemsIn count t) kbm map (key (kbm .root .reference .0 +ℤ d))
+    unfolding held
+    maybe-pitch-of-degree-is d e = rw (it, o, u, e) refl
+
+-- ---- two results of one input are equal
+pub pitch-of-one : (count : ℕ) (t : ItemTable) (root : KbmRoot) (d : ℤ) → One saysPitch (tested (isItems count t && isRoot root) (pitchOf (itemsIn count t) root d))
+pitch-of-one count t root d = pitch-one (tested (isItems count t && isRoot root) (pitchOf (itemsIn count t) root d))
+
+pub pitch-of-key-one : (count : ℕ) (t : ItemTable) (root : KbmRoot) (k : PianoKey) → One saysPitch (tested (isItems count t && isRoot root) (keyPitchOf (itemsIn count t) root k))
+pitch-of-key-one count t root k = pitch-one (tested (isItems count t && isRoot root) (keyPitchOf (itemsIn count t) root k))
+
+pub sorted-pitch-of-one : (count : ℕ) (t : ItemTable) (l : ListTable) (root : KbmRoot) (d : ℤ) → One saysPitch (tested (isScale count t l && isRoot root) (sortedPitchOf (itemsIn count t) (listIn count l) root d))
+sorted-pitch-of-one count t l root d = pitch-one (tested (isScale count t l && isRoot root) (sortedPitchOf (itemsIn count t) (listIn count l) root d))
+
+pub maybe-pitch-of-one : (count : ℕ) (t : ItemTable) (kbm : Kbm) (map : List ℤ) (k : PianoKey) → One saysPitch (tested (isItems count t && isRoot (kbm .root)) (tested (isTable (kbm .count) map) (maybePitchOf (itemsIn count t) kbm map k)))
+maybe-pitch-of-one count t kbm map k = pitch-one (tested (isItems count t && isRoot (kbm .root)) (tested (isTable (kbm .count) map) (maybePitchOf (itemsIn count t) kbm map k)))
+
+pub maybe-pitch-of-degree-one : (count : ℕ) (t : ItemTable) (kbm : Kbm) (map : List ℤ) (d : ℤ) → One saysPitch (tested (isItems count t && isRoot (kbm .root)) (tested (isTable (kbm .count) map) (maybeDegreePitchOf (itemsIn count t) kbm map d)))
+maybe-pitch-of-degree-one count t kbm map d = pitch-one (tested (isItems count t && isRoot (kbm .root)) (tested (isTable (kbm .count) map) (maybeDegreePitchOf (itemsIn count t) kbm map d)))
