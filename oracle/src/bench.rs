@@ -5,6 +5,7 @@ use crate::lent::Float;
 use crate::probe;
 use crate::ffi_scl::{self, Columns, Push};
 use crate::{ffi, ffi_kbm, rust_scl, scl_read};
+use crate::bench_tuning::tunings;
 use crate::inputs::Random;
 use std::hint::black_box;
 use std::time::{Duration, Instant};
@@ -13,7 +14,7 @@ use tune::powers;
 
 const TURNS: usize = 15;
 
-fn shortest(calls: &mut [&mut dyn FnMut()]) -> Vec<Duration> {
+pub fn shortest(calls: &mut [&mut dyn FnMut()]) -> Vec<Duration> {
     let mut best = vec![Duration::MAX; calls.len()];
     for _ in 0..TURNS {
         for (call, best) in calls.iter_mut().zip(&mut best) {
@@ -26,7 +27,7 @@ fn shortest(calls: &mut [&mut dyn FnMut()]) -> Vec<Duration> {
 }
 
 /// A line: what it is, the time of one call of ours, and ours over each of the others.
-fn line(name: &str, calls: usize, times: &[Duration], others: &[&str]) {
+pub fn line(name: &str, calls: usize, times: &[Duration], others: &[&str]) {
     let ours = times[0].as_secs_f64();
     print!("{name:<40} {:>9.1} ns a call", ours * 1e9 / calls as f64);
     for (time, other) in times[1..].iter().zip(others) {
@@ -182,7 +183,7 @@ fn mappings() {
 }
 
 /// The Rust on the second E and L, and with its own exp2 and log2.
-fn untouched(call: impl FnOnce()) {
+pub fn untouched(call: impl FnOnce()) {
     powers::use_untouched(true);
     call();
     powers::use_untouched(false);
@@ -276,4 +277,5 @@ pub fn bench() {
     builds();
     degrees();
     mappings();
+    tunings();
 }

@@ -7,10 +7,12 @@
 //! - `oracle freeze CRATES` writes a sample of the answers for the programs that replay them.
 
 mod bench;
+mod bench_tuning;
 mod differences;
 mod differences_kbm;
 mod differences_scl;
 mod differences_tuning;
+mod examples;
 mod ffi;
 mod ffi_generators;
 mod ffi_kbm;
@@ -93,6 +95,7 @@ fn compare() -> ExitCode {
     kbm_build::compare(&mut all);
     tuning::compare(&mut all);
     generators::compare(&mut all);
+    examples::compare(&mut all);
     differences::compare(&mut all);
     untouched::report();
     all.verdict()
