@@ -3,7 +3,7 @@
 
 use crate::ffi::OLD_U32;
 use crate::ffi_kbm::Mapping;
-use crate::ffi_scl::{Columns, Item};
+use crate::ffi_scl::{Columns, Item, Push};
 use crate::ffi_tuning::{self as ffi, Found, OLD_FOUND};
 use crate::inputs::{Random, f64_limits};
 use crate::kbm_use::is_wrong;
@@ -19,6 +19,7 @@ use tune::tuning::{Approximation, KeyboardMapping, Scale, Tuning};
 
 /// A scale that the Rust built, and the lent columns that hold it.
 pub struct Built {
+    pub pushes: Vec<Push>,
     pub scl: Scl,
     pub columns: Columns,
     pub count: u16,
@@ -26,7 +27,7 @@ pub struct Built {
 
 impl Built {
     /// None where the rules refuse the scale (18).
-    pub fn new(lengths: [usize; 7], pushes: &[crate::ffi_scl::Push]) -> Option<Built> {
+    pub fn new(lengths: [usize; 7], pushes: &[Push]) -> Option<Built> {
         let scl = rust_scl::pushes(pushes).build_with_description("").ok()?;
         let parts = rust_scl::parts(&scl);
         if rules_scl::beyond(&parts.items) {
@@ -35,7 +36,7 @@ impl Built {
         let mut columns = Columns::new(lengths);
         columns.put_items(0, &parts.items);
         columns.put_list(&parts.list);
-        Some(Built { scl, columns, count: pushes.len() as u16 })
+        Some(Built { pushes: pushes.to_vec(), scl, columns, count: pushes.len() as u16 })
     }
 
     fn items(&self) -> Vec<Item> {
@@ -237,8 +238,8 @@ pub fn scales() -> impl Iterator<Item = Built> {
 
 /// READINGS' fixed scales among them.
 pub fn named() -> Vec<Built> {
-    use crate::ffi_scl::Push::{Cents, Fraction, Int, Ratio};
-    let all: [&[crate::ffi_scl::Push]; 21] = [
+    use Push::{Cents, Fraction, Int, Ratio};
+    let all: [&[Push]; 21] = [
         &[], &[Int(2)], &[Int(3)], &[Fraction(9, 8), Fraction(5, 4), Int(2)], &[Fraction(5, 3), Fraction(80, 3), Int(2)], &[Int(3), Fraction(3, 2), Int(2)], &[Cents(-700.0), Cents(-0.001)],
         &[Cents(-300.0), Cents(-1200.0)], &[Cents(-1e-13), Int(39)], &[Cents(-1e-13), Int(3)], &[Fraction(19_999_999, 10_000_000), Int(2)], &[Fraction(1331, 27), Fraction(11, 3)],
         &[Int(1), Int(1), Int(1), Int(1), Int(1), Int(2)], &[Cents(100.0)], &[Cents(0.0001)], &[Cents(1e-12)], &[Int(1)], &[Cents(300.0), Cents(0.001)], &[Ratio(1.5), Ratio(0.5)],
@@ -251,7 +252,7 @@ type Lent = (Columns, u16);
 
 /// Tables that cannot be used, and the number of the call's tables that are at fault: 0 for the items, 1 for the list alone.
 fn bad_tables() -> Vec<(Lent, usize)> {
-    use crate::ffi_scl::Push::{Fraction, Int};
+    use Push::{Fraction, Int};
     let good = Built::new([4; 7], &[Fraction(3, 2), Int(2)]).unwrap().columns;
     let with = |change: fn(&mut Columns)| {
         let mut columns = good.clone();
@@ -486,14 +487,14 @@ fn random_mapping(random: &mut Random) -> (Mapping, Vec<i32>, Kbm) {
 
 /// What the Rust was seen to answer where a port would go astray, each beside ours: a search's number and deviation.
 fn fixed(all: &mut Report) {
-    use crate::ffi_scl::Push::{Cents, Fraction, Int};
+    use Push::{Cents, Fraction, Int};
     let third = Built::new([2; 7], &[Int(3)]).unwrap();
-    let built = |pushes: &[crate::ffi_scl::Push]| Built::new([pushes.len() + 1; 7], pushes).unwrap();
+    let built = |pushes: &[Push]| Built::new([pushes.len() + 1; 7], pushes).unwrap();
     let cents = |x: f64| powers::e(x / 1200.0).unwrap();
-    let just: &[crate::ffi_scl::Push] = &[Fraction(9, 8), Fraction(5, 4), Int(2)];
-    let repeats: &[crate::ffi_scl::Push] = &[Int(1), Int(1), Int(1), Int(1), Int(1), Int(2)];
+    let just: &[Push] = &[Fraction(9, 8), Fraction(5, 4), Int(2)];
+    let repeats: &[Push] = &[Int(1), Int(1), Int(1), Int(1), Int(1), Int(2)];
     all.function("searches, fixed", &[11, 18], |tally| {
-        let declared: [(&[crate::ffi_scl::Push], f64, Answer<i32>, Option<f64>); 15] = [
+        let declared: [(&[Push], f64, Answer<i32>, Option<f64>); 15] = [
             (&[Int(2)], 3.0, Ok(2), Some(0.7499999999999999)),
             // the found degree's pitch need not be the target: div_euclid truncates a rounded quotient, the remainder is exact
             (&[Int(3)], 129140162.99999967, Ok(18), Some(0.9999999999999987)),

@@ -2,8 +2,9 @@
 //! but what E, L or the rules refuse; the inputs are those of the comparison, but of the limits of nearest_fraction only eight.
 
 use crate::pitch::{self, ONES, One, TWOS, Two, ratio};
-use crate::tally::Code;
-use crate::{lent::Float, powers, rules_scl, rust_scl, scl_build};
+use crate::inputs::Random;
+use crate::tally::{Code, caught};
+use crate::{lent::Float, powers, rules_scl, rust_scl, scl_build, tuning};
 use tune::powers::use_untouched;
 
 /// How far answers are apart: the most in absolute terms, relative to ours, and in units of the last place.
@@ -100,6 +101,37 @@ fn scales() {
     println!("SclBuilder::build: other places or wraparounds in {others} of {cases} lists; the line above is the ratios of the rest");
 }
 
+/// Relative pitches and searches in the comparison's scales, each scale built on its own side. Left out is what the rules refuse.
+fn tunings() {
+    let (mut pitches, mut deviations, mut cases, mut others) = (Apart::new(), Apart::new(), 0, 0);
+    let mut random = Random::new(57);
+    for b in tuning::scales().step_by(4) {
+        let theirs = untouched(|| rust_scl::pushes(&b.pushes).build_with_description("").unwrap());
+        for _ in 0..8 {
+            let degree = random.next() as i32 % 100 - 50;
+            let ours = tuning::relative(&b, degree);
+            if ours.code == Code::ACCEPTED {
+                pitches.add(bits(ours.value), untouched(|| theirs.relative_pitch_of(degree).as_float()));
+            }
+            let x = random.ratio(20);
+            let ours = tuning::find(&b, x);
+            if ours.code == Code::ACCEPTED {
+                cases += 1;
+                use_untouched(true);
+                let answer = caught(|| theirs.find_by_relative_pitch(ratio(x)));
+                use_untouched(false);
+                match answer {
+                    Some(found) if found.approx_value == ours.value.0 => deviations.add(bits(ours.value.1), found.deviation.as_float()),
+                    _ => others += 1,
+                }
+            }
+        }
+    }
+    pitches.print("relative_pitch_of");
+    deviations.print("find_by_relative_pitch");
+    println!("find_by_relative_pitch: another degree in {others} of {cases}; the line above is the deviations of the rest");
+}
+
 pub fn report() {
     println!("the Rust's own exp2 and log2 beside E and L:");
     println!("{:<26} {:>9} {:>9} {:>12} {:>12} {:>20} {:>6}", "function", "cases", "differ", "most apart", "relative", "last places", "unlike");
@@ -131,4 +163,5 @@ pub fn report() {
     }
     nearest();
     scales();
+    tunings();
 }
