@@ -1,7 +1,7 @@
 //! The rows of docs/DIFFERENCES.md on pitches, searches and scales that are computed.
 
 use crate::differences::{CANNOT_BE, Row, refused, rust};
-use crate::ffi_generators::{self, Segment};
+use crate::ffi_generators::{self, Segment, Temperament};
 use crate::ffi_kbm::Mapping;
 use crate::ffi_scl::{Columns, Push};
 use crate::ffi_tuning::{self as ffi, Found};
@@ -70,12 +70,12 @@ fn pitches() -> Vec<Row> {
     vec![
         row("`Scl::relative_pitch_of`", "`2/1`, degree 901", || rust(|| scl(OCTAVE).relative_pitch_of(901).as_float()), "1.6905424996341288e271", || float(ffi::relative_pitch_of(&built(OCTAVE).columns, 1, 901)), "18"),
         row("`Scl::sorted_relative_pitch_of`", "`2/1`, degree -901", || rust(|| scl(OCTAVE).sorted_relative_pitch_of(-901).as_float()), "5.915260930833874e-272", || float(ffi::sorted_relative_pitch_of(&built(OCTAVE).columns, 1, -901)), "18"),
-        row("`Scl::period`, `relative_pitch_of` and every call on lent tables", "an item of kind 3, a list whose ratios fall, a count past the columns", || CANNOT_BE.to_string(), CANNOT_BE, || {
+        row("`Scl::period`", "an item of kind 3", || CANNOT_BE.to_string(), CANNOT_BE, || {
             let mut columns = built(JUST).columns;
             columns.kind[1] = 3;
             float(ffi::period(&columns, 3))
         }, "10"),
-        row("`pitch_of`, `sorted_pitch_of`", "root offset -2147483648", || rust(|| Tuning::<i32>::pitch_of(&(&scl(JUST), kbm_root(UNTURNED)), 0).as_hz()), "panics", || float(ffi::pitch_of(&built(JUST).columns, 3, UNTURNED, 0)), "11"),
+        row("`pitch_of`", "root offset -2147483648", || rust(|| Tuning::<i32>::pitch_of(&(&scl(JUST), kbm_root(UNTURNED)), 0).as_hz()), "panics", || float(ffi::pitch_of(&built(JUST).columns, 3, UNTURNED, 0)), "11"),
         row("`pitch_of`, a key", "reference key -1, key 2147483647", || rust(|| Tuning::<PianoKey>::pitch_of(&(&scl(JUST), kbm_root(Root { reference: -1, ..ROOT })), PianoKey::from_midi_number(i32::MAX)).as_hz()), "panics", || float(ffi::pitch_of_key(&built(JUST).columns, 3, Root { reference: -1, ..ROOT }, i32::MAX)), "11"),
         row("`pitch_of`, a key", "`9/8`, `5/4`, `2/1`, root 69 at 440 Hz, offset -9: key 69, which need not sound the reference pitch", || rust(|| Tuning::<PianoKey>::pitch_of(&(&scl(JUST), kbm_root(ROOT)), PianoKey::from_midi_number(69)).as_hz()), "55.0", || float(ffi::pitch_of_key(&built(JUST).columns, 3, ROOT, 69)), "55.0"),
         row("`sorted_pitch_of`", "`2/1`, root 69 at 440 Hz, degree 901", || rust(|| (&scl(OCTAVE), kbm_root(Root { offset: 0, ..ROOT })).sorted_pitch_of(901).as_hz()), "7.438386998390167e273", || float(ffi::sorted_pitch_of(&built(OCTAVE).columns, 1, Root { offset: 0, ..ROOT }, 901)), "18"),
@@ -86,13 +86,19 @@ fn pitches() -> Vec<Row> {
 
 fn searches() -> Vec<Row> {
     vec![
+        row("`Scl::find_by_relative_pitch`", "a list whose ratios fall", || CANNOT_BE.to_string(), CANNOT_BE, || {
+            let mut columns = built(JUST).columns;
+            columns.ratio.swap(1, 2);
+            found(ffi::find_by_relative_pitch(&columns, 3, 1.5))
+        }, "10"),
+        row("`Scl::find_by_relative_pitch`", "a count past the columns", || CANNOT_BE.to_string(), CANNOT_BE, || found(ffi::find_by_relative_pitch(&built(JUST).columns, 4, 1.5)), "10"),
         row("`Scl::find_by_relative_pitch`", "`2/1`, ratio 2^65", || searched(|| scl(OCTAVE).find_by_relative_pitch(Ratio::from_float(2f64.powi(65))), |n| n), "65, 1.0", || found(ffi::find_by_relative_pitch(&built(OCTAVE).columns, 1, 2f64.powi(65))), "10"),
         row("`Scl::find_by_relative_pitch`", "`2/1`, ratio -1.0", || searched(|| scl(OCTAVE).find_by_relative_pitch(Ratio::from_float(-1.0)), |n| n), "1, NaN", || found(ffi::find_by_relative_pitch(&built(OCTAVE).columns, 1, -1.0)), "10"),
         row("`Scl::find_by_relative_pitch`", "`1/1` alone, ratio 1.5", || searched(|| scl(&[Push::Int(1)]).find_by_relative_pitch(Ratio::from_float(1.5)), |n| n), "0, 1.5", || found(ffi::find_by_relative_pitch(&built(&[Push::Int(1)]).columns, 1, 1.5)), "18"),
         row("`Scl::find_by_relative_pitch`", "`3/1`, ratio 129140162.99999967, the pitch of degree 17", || searched(|| scl(&[Push::Int(3)]).find_by_relative_pitch(Ratio::from_float(129140162.99999967)), |n| n), "18, 0.9999999999999987", || found(ffi::find_by_relative_pitch(&built(&[Push::Int(3)]).columns, 1, 129140162.99999967)), "18, 0.9999999999999987"),
         row("`Scl::find_by_relative_pitch_sorted`", "`1/1` five times and `2/1`, ratio 1.0, which two entries equal", || searched(|| scl(REPEATS).find_by_relative_pitch_sorted(Ratio::from_float(1.0)), |n| n), "4, 1.0", || found(ffi::find_by_relative_pitch_sorted(&built(REPEATS).columns, 6, 1.0)), "0, 1.0"),
         row("`Scl::find_by_relative_pitch`", "65,535 items, period 1000001/1000000, ratio 2^64", || searched(|| scl(&many()).find_by_relative_pitch(Ratio::from_float(2f64.powi(64))), |n| n), "panics", || found(ffi::find_by_relative_pitch(&built(&many()).columns, 65_535, 2f64.powi(64))), "11"),
-        row("`find_by_pitch`, `find_by_pitch_sorted`", "`2/1`, root 69 at 440 Hz, 2097152 Hz", || searched(|| Tuning::<i32>::find_by_pitch(&(&scl(OCTAVE), kbm_root(Root { offset: 0, ..ROOT })), Pitch::from_hz(2097152.0)), |n| n), "12, 1.1636363636363634", || found(ffi::find_by_pitch(&built(OCTAVE).columns, 1, Root { offset: 0, ..ROOT }, 2097152.0)), "10"),
+        row("`find_by_pitch`", "`2/1`, root 69 at 440 Hz, 2097152 Hz", || searched(|| Tuning::<i32>::find_by_pitch(&(&scl(OCTAVE), kbm_root(Root { offset: 0, ..ROOT })), Pitch::from_hz(2097152.0)), |n| n), "12, 1.1636363636363634", || found(ffi::find_by_pitch(&built(OCTAVE).columns, 1, Root { offset: 0, ..ROOT }, 2097152.0)), "10"),
         row("`find_by_pitch`", "root offset -2147483648", || searched(|| Tuning::<i32>::find_by_pitch(&(&scl(OCTAVE), kbm_root(UNTURNED)), Pitch::from_hz(440.0)), |n| n), "panics", || found(ffi::find_by_pitch(&built(OCTAVE).columns, 1, UNTURNED, 440.0)), "11"),
         row("`find_by_pitch`", "`2/1`, root 69 at 440 Hz, offset -100, 440 Hz: the ratio is 2^100", || searched(|| Tuning::<i32>::find_by_pitch(&(&scl(OCTAVE), kbm_root(Root { offset: -100, ..ROOT })), Pitch::from_hz(440.0)), |n| n), "100, 1.0", || found(ffi::find_by_pitch(&built(OCTAVE).columns, 1, Root { offset: -100, ..ROOT }, 440.0)), "18"),
         row("`find_by_pitch`, a key", "`2/1`, root 2147483647 at 440 Hz, 880 Hz", || searched(|| Tuning::<PianoKey>::find_by_pitch(&(&scl(OCTAVE), kbm_root(Root { reference: i32::MAX, hz: 440.0, offset: 0 })), Pitch::from_hz(880.0)), PianoKey::midi_number), "panics", || found(ffi::find_key_by_pitch(&built(OCTAVE).columns, 1, Root { reference: i32::MAX, hz: 440.0, offset: 0 }, 880.0)), "11"),
@@ -110,8 +116,22 @@ fn segment(otonal: bool, start: u16, size: u16, divisions: Option<u16>, room: us
     if code == Code::ACCEPTED { count.to_string() } else { refused(code) }
 }
 
+fn rank2(generator: f64, positive: u16, period: f64) -> String {
+    rust(|| scala::create_rank2_temperament_scale(String::new(), Ratio::from_float(generator), positive, 0, Ratio::from_float(period)).map(|scl| scl.num_items())).to_string()
+}
+
+fn temperament(generator: f64, positive: u16, period: f64, room: usize) -> String {
+    let (code, count) = ffi_generators::create_rank2_temperament_scale(Temperament { generator, positive, negative: 0, period }, &mut Columns::new([room; 7]));
+    if code == Code::ACCEPTED { count.to_string() } else { refused(code) }
+}
+
 fn generators() -> Vec<Row> {
     vec![
+        row("`create_rank2_temperament_scale`, the count of items", "generator 2^33, 2 up, period 2.0", || rank2(2f64.powi(33), 2, 2.0), "Ok(3)", || temperament(2f64.powi(33), 2, 2.0, 9), "10"),
+        row("`create_rank2_temperament_scale`, the count of items", "generator 1.5, 2 up, period 1.0", || rank2(1.5, 2, 1.0), "Ok(3)", || temperament(1.5, 2, 1.0, 9), "10"),
+        row("`create_rank2_temperament_scale`, the count of items", "generator 1.0, 2 up, period 0.5: the highest note is 1.0", || rank2(1.0, 2, 0.5), "Ok(3)", || temperament(1.0, 2, 0.5, 9), "18"),
+        row("`create_rank2_temperament_scale`, the count of items", "generator 1.5, 65,535 up, period 1.0", || rank2(1.5, 65_535, 1.0), "Err(ScaleTooLarge)", || temperament(1.5, 65_535, 1.0, 9), "13"),
+        row("`create_rank2_temperament_scale`", "3 items, columns of 3 places", || CANNOT_BE.to_string(), CANNOT_BE, || temperament(1.5, 2, 2.0, 3), "12"),
         row("`create_harmonics_scale`, the count of items", "otonal, start 0, size 3", || harmonics(true, 0, 3, None), "3", || segment(true, 0, 3, None, 9), "10"),
         row("`create_harmonics_scale`, the count of items", "utonal, start 0, size 3, 2 divisions", || harmonics(false, 0, 3, Some(2)), "2", || segment(false, 0, 3, Some(2), 9), "10"),
         row("`create_harmonics_scale`, the count of items", "otonal, start 4, size 3, 0 divisions", || harmonics(true, 4, 3, Some(0)), "0", || segment(true, 4, 3, Some(0), 9), "18"),

@@ -1,5 +1,6 @@
-//! The examples on the Rust's own pages (mod.rs) that lie inside document 01's domain, run here: each answer is what the page says, and
-//! bit for bit what the Rust gives. The one outside it: 65,535 pushes of 0.0 to 65,534.0 cents, which here ends at 38,400 (10).
+//! The examples on the Rust's own pages of mod.rs that lie inside document 01's domain, run here: each answer is what the page says, and
+//! where it is a number bit for bit what the Rust gives. The one outside it: 65,535 pushes of 0.0 to 65,534.0 cents, which here ends at 38,400
+//! (10). Those on errors of builds (15, 13) are cases of `kbm_build` and `scl_build`.
 
 use crate::ffi_generators::{self, Segment, Temperament};
 use crate::ffi_kbm::{self, Mapping};
@@ -116,11 +117,16 @@ fn segments(tally: &mut Tally) {
 fn mappings(tally: &mut Tally) {
     let m = Mapping { count: 4, start: 10, end: 100, reference: 62, hz: Float::of(293.6647679174076), offset: 0, octave: 17 };
     let map = [0, 4, UNMAPPED, 4];
-    for (key, said) in [(10, Some(-221)), (60, None), (61, Some(-13)), (62, Some(0)), (63, Some(4)), (64, None), (65, Some(4)), (66, Some(17)), (67, Some(21)), (68, None), (99, Some(157)), (9, None), (100, None)] {
+    for (key, said) in [(10, Some(-221)), (60, None), (61, Some(-13)), (62, Some(0)), (63, Some(4)), (64, None), (65, Some(4)), (66, Some(17)), (67, Some(21)), (68, None), (99, Some(157))].into_iter().chain((0..10).chain(100..128).map(|key| (key, None))) {
         let ours = ffi_kbm::scale_degree_of(m, &map, key);
         tally.require((ours.0 == Code::ACCEPTED).then_some(ours.1) == said, key);
         tally.same(key, ours, kbm_use::degree(m, &map, key));
     }
+    let linear = Mapping { count: 0, start: 0, end: 128, octave: 42, ..m };
+    for (key, said) in [(61, -1), (62, 0), (63, 1)] {
+        tally.require(ffi_kbm::scale_degree_of(linear, &[], key) == (Code::ACCEPTED, said), key);
+    }
+    imported(tally);
     // one step of 100 cents: the pitches of its mapped keys
     let b = built(&[Push::Cents(100.0)]);
     let m = Mapping { start: 0, end: 128, octave: 12, ..m };
@@ -134,6 +140,22 @@ fn mappings(tally: &mut Tally) {
     let mut out = vec![0; 200];
     let (code, size) = ffi_kbm::export_kbm(white, &[0, UNMAPPED, 4, UNMAPPED, 8, 9], &mut out);
     tally.require(code == Code::ACCEPTED && out[..size] == *b"6\n10\n99\n60\n69\n432.000\n22\n0\nx\n4\nx\n8\n9\n", "22-EDO on white keys");
+}
+
+fn imported(tally: &mut Tally) {
+    let lines = [
+        "!A comment", "  !An indented comment", "6 <- Official map size. Can be larger than the number of provided mapping entries!", "10",
+        "99 (Rust's Range type is right exclusive. The upper bound becomes 100.)", "62", "  69  ", "432.0 = healing frequency", "17", "! Start of the mapping table", "0", "4", "x means unmapped", "4",
+        "X - uppercase is supported", "! End of the mapping table. 'x'es are added to match the official map size.",
+    ];
+    let mut map = [0; 6];
+    let (code, m) = ffi_kbm::read_kbm(lines.join("\n").as_bytes(), &mut map);
+    let said = Mapping { count: 6, start: 10, end: 100, reference: 69, hz: Float::of(432.0), offset: -7, octave: 17 };
+    tally.require(code == Code::ACCEPTED && m == said, m);
+    for (key, degree) in [(69, Some(0)), (70, Some(4)), (71, None), (72, Some(4)), (73, None), (74, None), (75, Some(17))] {
+        let ours = ffi_kbm::scale_degree_of(m, &map, key);
+        tally.require((ours.0 == Code::ACCEPTED).then_some(ours.1) == degree, key);
+    }
 }
 
 pub fn compare(all: &mut Report) {

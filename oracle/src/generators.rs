@@ -61,7 +61,9 @@ fn segments(tally: &mut Tally) {
                 for divisions in (0..=24).map(Some).chain([None]) {
                     let s = Segment { otonal, start, size, divisions };
                     let count = usize::from(divisions.unwrap_or(size));
-                    one_segment(tally, s, [count + 1 + usize::from(start % 3); 7]);
+                    let mut lengths = [count + 1 + usize::from(start % 3); 7];
+                    lengths[random.next() as usize % 7] = count + 1;
+                    one_segment(tally, s, lengths);
                     if start % 5 < 2 && size % 7 < 2 {
                         let mut lengths = [count + 2; 7];
                         lengths[random.next() as usize % 7] = count;
@@ -118,7 +120,9 @@ fn temperaments(tally: &mut Tally) {
         for period in usual {
             for (positive, negative) in [(0, 0), (1, 0), (0, 1), (5, 1), (3, 3), (11, 0), (0, 7)] {
                 let count = usize::from(positive + negative + 1);
-                one_temperament(tally, Temperament { generator, positive, negative, period }, [count + 1 + usize::from(positive % 2); 7]);
+                let mut lengths = [count + 1 + usize::from(positive % 2); 7];
+                lengths[random.next() as usize % 7] = count + 1;
+                one_temperament(tally, Temperament { generator, positive, negative, period }, lengths);
                 let mut lengths = [count + 2; 7];
                 lengths[random.next() as usize % 7] = count;
                 one_temperament(tally, Temperament { generator, positive, negative, period }, lengths);
@@ -142,6 +146,11 @@ fn temperaments(tally: &mut Tally) {
     let mut columns = Columns::new([5; 7]);
     let answer = ffi::create_rank2_temperament_scale(Temperament { generator: 1.5, positive: 2, negative: 1, period: 0.5 }, &mut columns);
     let cents: Vec<String> = columns.cents[1..].iter().map(|&bits| format!("{:.3}", f64::from_bits(bits))).collect();
+    let mut small = Columns::new([3; 7]);
+    let flat = ffi::create_rank2_temperament_scale(Temperament { generator: 1.0, positive: 1, negative: 0, period: 0.5 }, &mut small);
+    tally.require(flat == (Code::refusal(18, 0), OLD_U16), "the highest note is 1.0");
+    let alone = ffi::create_rank2_temperament_scale(Temperament { generator: 1.5, positive: 0, negative: 0, period: 3.0 }, &mut small);
+    tally.require(alone == (Code::ACCEPTED, 1) && f64::from_bits(small.ratio[1]) == 2.9999999999999996, "ratios pass through cents");
     tally.require(answer == (Code::ACCEPTED, 4) && cents == ["-1200.000", "203.910", "498.045", "701.955"], cents);
 }
 

@@ -183,10 +183,13 @@ pub fn shapes(items: usize) -> Vec<Vec<Push>> {
     found
 }
 
+/// How many scales of `scales` are random; those of every shape follow.
+pub const RANDOM_SCALES: usize = 40_000;
+
 /// Random scales of up to eleven items, and scales of every shape.
 pub fn scales() -> impl Iterator<Item = ([usize; 7], Vec<Push>)> {
     let mut random = Random::new(27);
-    let random = (0..40_000).map(move |k| {
+    let random = (0..RANDOM_SCALES).map(move |k| {
         let run = random_run(&mut random, 1 + k % 12);
         (run.lengths, run.taken())
     });

@@ -82,7 +82,7 @@ pub struct Report {
 
 impl Report {
     pub fn new() -> Report {
-        println!("random inputs are SplitMix64's, seeds 1 to 29");
+        println!("random inputs are SplitMix64's, from a seed for each function that its source names");
         println!("cases: of them the Rust's own answers, those on the second E and L, and those by the rules alone; then refusals met");
         println!("{:<26} {:>9} {:>9} {:>9} {:>9} {:>6}  {}", "function", "cases", "rust", "second", "rules", "differ", "NUMBER:times");
         Report { failed: false, lines: 0 }

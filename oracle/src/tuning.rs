@@ -51,9 +51,13 @@ pub fn asked<T>(call: impl FnOnce() -> T) -> Option<T> {
     if powers::left_domain() { None } else { answer }
 }
 
-/// The rules' answer; inside the domain the Rust must say the same.
+/// The rules' answer; inside the domain the Rust must say the same, and at 11 it must overflow.
 fn judged<T: PartialEq>(ruled: Answer<T>, outside: bool, old: T, rust: impl FnOnce() -> T) -> Said<T> {
     match ruled {
+        Err(11) => match caught(rust) {
+            None => Said::refused(Who::Rust, 11, 0, old),
+            Some(_) => Said::fault(old),
+        },
         Err(number) => Said::refused(Who::Rules, number, 0, old),
         Ok(value) if outside => Said::gives(Who::Rules, value),
         Ok(value) => match asked(rust) {
@@ -209,8 +213,11 @@ fn random_degree(random: &mut Random, count: u16) -> i32 {
 
 /// A target: near a degree of the scale, between two of them, anything in the range, or outside it.
 fn random_target(random: &mut Random, b: &Built) -> f64 {
-    let near = f64::from_bits(b.columns.ratio[random.next() as usize % (usize::from(b.count) + 1)]);
-    match random.next() % 8 {
+    let at = random.next() as usize % (usize::from(b.count) + 1);
+    let near = f64::from_bits(b.columns.ratio[at]);
+    match random.next() % 9 {
+        // next to the middle of two neighbours, where the tolerance decides
+        8 if at > 0 => (near * f64::from_bits(b.columns.ratio[at - 1])).sqrt() * (1.0 + (random.next() % 21) as f64 * 1e-7 - 1e-6),
         0 => near,
         1 => [near.next_up(), near.next_down()][random.next() as usize % 2],
         2 => near * [0.9999995, 1.0000005, 0.999999, 1.000001][random.next() as usize % 4],
@@ -231,9 +238,10 @@ fn random_hz(random: &mut Random, b: &Built, root: Root) -> f64 {
     }
 }
 
-/// The scales of the builder's comparison that are not refused, some of the random ones and every shape of up to 100 items.
+/// The scales of the builder's comparison that are not refused: some of the random ones, and every shape and period of up to 100 items.
 pub fn scales() -> impl Iterator<Item = Built> {
-    scl_build::scales().enumerate().filter(|(k, (_, pushes))| *k % 5 == 0 && pushes.len() <= 100).filter_map(|(_, (lengths, pushes))| Built::new(lengths, &pushes))
+    let taken = |k: usize, items: usize| items <= 100 && (k >= scl_build::RANDOM_SCALES || k % 5 == 0);
+    scl_build::scales().enumerate().filter(move |(k, (_, pushes))| taken(*k, pushes.len())).filter_map(|(_, (lengths, pushes))| Built::new(lengths, &pushes))
 }
 
 /// READINGS' fixed scales among them.
@@ -317,6 +325,11 @@ fn lent_wrong(all: &mut Report) {
                     tally.same(hz, ffi::find_key_by_pitch(&b.columns, b.count, root, pitch), ten(OLD_FOUND));
                 }
             }
+            for pitch in BAD_HZ {
+                tally.same(pitch, ffi::find_by_pitch(&b.columns, b.count, USUAL, pitch), ten(OLD_FOUND));
+                tally.same(pitch, ffi::find_by_pitch_sorted(&b.columns, b.count, USUAL, pitch), ten(OLD_FOUND));
+                tally.same(pitch, ffi::find_key_by_pitch(&b.columns, b.count, USUAL, pitch), ten(OLD_FOUND));
+            }
             for (map, size) in [(vec![], 1), (vec![40_000], 1), (vec![0, -32_769], 2)] {
                 assert!(map.len() < size || map.iter().any(|&entry| is_wrong(entry)));
                 let m = Mapping { count: size as u16, start: 0, end: 0, reference: i32::MIN, hz: Float::of(440.0), offset: i32::MIN, octave: 0 };
@@ -325,6 +338,13 @@ fn lent_wrong(all: &mut Report) {
             }
         }
     });
+}
+
+fn by_rules<T>(answer: Answer<T>, old: T) -> Said<T> {
+    match answer {
+        Ok(value) => Said::gives(Who::Rules, value),
+        Err(number) => Said::refused(Who::Rules, number, 0, old),
+    }
 }
 
 /// Lists that no build leaves: ratios at the ends of the reach, any wraparounds, place 0 that is not 1.0, a period of 1.0.
@@ -349,10 +369,9 @@ fn lent_strange(all: &mut Report) {
             let (items, list) = (rules::items_in(&c, count).unwrap(), rules::list_in(&c, count).unwrap());
             let root = random_root(&mut random);
             let (degree, x, hz) = (random_degree(&mut random, count), random.ratio(64), random.ratio(10));
-            let plain = |answer: Answer<f64>| judged(answer.map(Float::of), true, Float::Untouched, || unreachable!());
+            let plain = |answer: Answer<f64>| by_rules(answer.map(Float::of), Float::Untouched);
             let found = |found: Answer<rules::Found>, sorted: bool| {
-                let number = found.and_then(|f| if sorted { rules::ascending(&f, count).0 } else { rules::declared(&f, count).0 }.map(|n| (n, Float::of(f.deviation))));
-                judged(number, true, OLD_FOUND, || unreachable!())
+                by_rules(found.and_then(|f| if sorted { rules::ascending(&f, count).0 } else { rules::declared(&f, count).0 }.map(|n| (n, Float::of(f.deviation)))), OLD_FOUND)
             };
             let given = |x: f64| if rules::is_searched(x) { rules::search(&items, &list, x) } else { Err(10) };
             let pitched = |hz: f64| if rules::is_pitch(hz) { rules::search_pitch(&items, &list, root, hz) } else { Err(10) };
@@ -443,10 +462,10 @@ fn runs(all: &mut Report) {
             let (m, map, kbm) = random_mapping(random);
             let first = [m.reference.saturating_sub(20), 0, i32::MAX - 5, i32::MIN, random.i32()][random.next() as usize % 5];
             let (keys, places) = (random.next() as u32 % 40, random.next() as usize % 44);
-            let (old, mut numbers) = (lent::column(places), vec![OLD_U32; places + random.next() as usize % 3]);
+            let (old, mut numbers) = (lent::column(places), vec![OLD_U32; random.next() as usize % 44]);
             let mut pitches = old.clone();
             let code = ffi::pitches_of(&b.columns, b.count, m, &map, first, keys, &mut pitches, &mut numbers);
-            if keys as usize > places {
+            if keys as usize > places.min(numbers.len()) {
                 tally.same((keys, places), (code, (pitches, numbers.clone())), Said::refused(Who::Rules, 12, 0, (old, vec![OLD_U32; numbers.len()])));
                 return;
             }
@@ -467,6 +486,15 @@ fn runs(all: &mut Report) {
             let (old, mut pitches, mut numbers) = (vec![7; 3], vec![7; 3], vec![OLD_U32; 3]);
             let code = ffi::pitches_of(&c, count, m, &[], 60, 4, &mut pitches, &mut numbers);
             tally.same(part, (code, (pitches, numbers)), Said::refused(Who::Rules, if part == 0 { 10 } else { 12 }, 0, (old, vec![OLD_U32; 3])));
+        }
+        // a root's pitch or a map that cannot be used
+        let b = &named()[3];
+        let wrong = BAD_HZ.map(|hz| (hz, 0, vec![])).into_iter().chain([(440.0, 1, vec![]), (440.0, 1, vec![40_000])]);
+        for (hz, size, map) in wrong {
+            let m = Mapping { count: size, start: 0, end: 128, reference: 60, hz: Float::of(hz), offset: 0, octave: 0 };
+            let (old, mut pitches, mut numbers) = (vec![7; 3], vec![7; 3], vec![OLD_U32; 3]);
+            let code = ffi::pitches_of(&b.columns, b.count, m, &map, 60, 2, &mut pitches, &mut numbers);
+            tally.same((hz, size), (code, (pitches, numbers)), Said::refused(Who::Rules, 10, 0, (old, vec![OLD_U32; 3])));
         }
     });
 }
@@ -557,7 +585,7 @@ fn fixed(all: &mut Report) {
 }
 
 fn searches(all: &mut Report) {
-    let limits: Vec<f64> = f64_limits().into_iter().filter(|x| x.abs() < 1e20 || x.is_nan()).collect();
+    let limits = f64_limits();
     all.function("find_by_relative_pitch", &[10, 11, 18], |tally| {
         over(tally, 49, 10, |tally, random, b| {
             let x = random_target(random, b);
