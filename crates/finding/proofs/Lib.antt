@@ -1,2 +1,3 @@
 pub mod Theorems
 pub mod Refusals
+pub mod Numbers

@@ -76,7 +76,7 @@ octaves-or x = on computed (where-held (inPowers x) (value (powerOf (floorOf x))
 count-or : (q : Float) → OrBeyond (count q)
 count-or q = where-held (le leastI32 q && lt q pastI32) (value (toSigned 31 q))
 
-reduced-or : (period x : Float) → OrBeyond (reducedBy period x)
+pub reduced-or : (period x : Float) → OrBeyond (reducedBy period x)
 reduced-or period x =
     either (negligible period) (value (reducedTo x (pos 0)))
     (on (λ size. andThen (L x) (reducedOctaves size)) (log-or period) (λ size e. on (reducedOctaves size) (log-or x) (λ o e. on (λ r. andThen (count (divEuclid o size)) (λ w. gives (reducedTo r w))) (octaves-or (remEuclid o size)) (λ r e. on (λ w. gives (reducedTo r w)) (count-or (divEuclid o size)) (λ w e. value (reducedTo r w))))))
