@@ -62,7 +62,7 @@ unfolding ofInt round size
 zero-divisions octaves = none-over octaves
 
 -- a sum of whole numbers is exact
-sum-of : (s z : ℕ) (x y : Float) → HasValue x false s 1 → HasValue y false z 1 → add binary64 x y ≡ round binary64 false (s + z) 1
+pub sum-of : (s z : ℕ) (x y : Float) → HasValue x false s 1 → HasValue y false z 1 → add binary64 x y ≡ round binary64 false (s + z) 1
 unfolding add sum
 sum-of s z (fin true i d) y v w = absurd (mathlib.Core.Bool.true≢false (v .0))
 sum-of s z (fin false i d) (fin true j e) v w = absurd (mathlib.Core.Bool.true≢false (w .0))

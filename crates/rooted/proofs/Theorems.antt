@@ -124,3 +124,6 @@ degree-pitch-one items root d = pitch-one (pitchOf items root d)
 
 pub sorted-degree-pitch-one : (items : List Item) (es : List Entry) (root : KbmRoot) (d : ℤ) → One saysPitch (sortedPitchOf items es root d)
 sorted-degree-pitch-one items es root d = pitch-one (sortedPitchOf items es root d)
+
+pub times-answer-one : (hz : Float) (ratio : Said Float) → One saysPitch (andThen ratio (pitchTimes hz))
+times-answer-one hz ratio = pitch-one (andThen ratio (pitchTimes hz))

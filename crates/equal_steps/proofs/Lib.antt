@@ -1,0 +1,4 @@
+pub mod Small
+pub mod Octaves
+pub mod Divided
+pub mod Theorems
