@@ -8,7 +8,7 @@ use native.Mathlib.Decide.{decLe}
 use native.Mathlib.Omega.{arith}
 use lib.Dec.{lit<, lit≤}
 use lib.IntN.{ℤ}
-use lib.Ieee.{Float, fin, binary64, up, down, round, fits, add, mul, div, unlike, ofInt}
+use lib.Ieee.{Float, fin, binary64, up, down, round, fits, add, mul, div, ofInt}
 use lib.Ieee.Back.{round-whole}
 use lib.Ieee.Bits.{is-true}
 use lib.Ieee.Exact.{HasValue}
@@ -24,7 +24,7 @@ use Rattle.floats.proofs.Sized.{Sized, sized, round-sized, sized-more}
 use Rattle.explog.specs.Exp.{tOf}
 use Rattle.explog.specs.Log.{bOf, yOf}
 use Rattle.explog.specs.Root.{root, rootFrom}
-use Rattle.explog.specs.Rules.{E, L, inPowers, floorOf, powerOf, logOf}
+use Rattle.explog.specs.Rules.{E, inPowers, floorOf, powerOf, logOf}
 use Rattle.explog.proofs.Reach.{log-sized, exp-within, sized-powers}
 use Rattle.pitch.specs.Given.{computed}
 use Rattle.pitch.specs.Ratios.{fromFloat, asOctaves, fromOctaves, dividedInto}

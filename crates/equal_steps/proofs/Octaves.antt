@@ -3,11 +3,11 @@ use mathlib.Core.Path.{_≡_, refl, sym, _∙_, ap, subst}
 use mathlib.Core.Logic.{inl, inr}
 use mathlib.Core.Bool.{true, false, true≢false}
 use Prim.Native.Nat.{ℕ, zero, suc, _+_, _-_, _*_, _/_, _^_, _≤_, _<_}
-use native.Mathlib.Nat.{le-trans, le-of-eq, lt-of-lt-of-le, lt-of-le-of-lt, lt-of-not-le, not-le-of-lt, mul-one, one-mul, mul-comm, mul-assoc, mul-right-comm, mul-le-mul, mul-le-mul-right, le-of-mul-le-mul-right, eq-or-lt-of-le, mul-pos, le-of-lt}
+use native.Mathlib.Nat.{le-trans, le-of-eq, lt-of-lt-of-le, lt-of-le-of-lt, lt-of-not-le, not-le-of-lt, mul-one, one-mul, mul-comm, mul-assoc, mul-le-mul, mul-le-mul-right, le-of-mul-le-mul-right, eq-or-lt-of-le, mul-pos, le-of-lt}
 use native.Mathlib.Decide.{decLe}
 use native.Mathlib.Omega.{arith}
-use lib.Dec.{T, leb, lit<, lit≤}
-use lib.Pow.{pow-pos, pow-add, pow-mono, pow-lt, shl-lt}
+use lib.Dec.{T, lit<, lit≤}
+use lib.Pow.{pow-pos, pow-add, pow-mono, shl-lt}
 use lib.IntN.{ℤ}
 use lib.Ieee.{Float, fin, binary64, up, down, round, fits, le}
 use lib.Ieee.Exact.{HasValue, round-exact}

@@ -4,35 +4,29 @@ use mathlib.Core.Path.{_≡_, refl, sym, _∙_, ap, subst}
 use mathlib.Core.Logic.{inl, inr}
 use mathlib.Core.Bool.{Bool, true, false, true≢false}
 use Prim.Native.Nat.{ℕ, zero, suc, _+_, _-_, _*_, _/_, _%_, _^_, _≤_, _<_}
-use native.Mathlib.Nat.{le-trans, le-of-eq, le-of-lt, lt-of-lt-of-le, lt-of-le-of-lt, lt-of-not-le, not-le-of-lt, mul-one, one-mul, mul-comm, mul-assoc, mul-right-comm, mul-left-comm, mul-le-mul, mul-le-mul-right, mul-le-mul-left, le-of-mul-le-mul-right, div-le-of-le-mul, div-lt-iff-lt-mul, div-eq-of-lt, div-mul-le-self, eq-or-lt-of-le}
-use native.Mathlib.Decide.{decLe}
+use native.Mathlib.Nat.{le-trans, le-of-eq, le-of-lt, lt-of-lt-of-le, lt-of-le-of-lt, mul-one, one-mul, mul-comm, mul-assoc, mul-right-comm, mul-left-comm, mul-le-mul-right, mul-le-mul-left, le-of-mul-le-mul-right, div-le-of-le-mul, div-lt-iff-lt-mul, div-eq-of-lt, div-mul-le-self, eq-or-lt-of-le}
 use native.Mathlib.Omega.{arith}
-use lib.Dec.{T, leb, eqb, lit<, lit≤}
-use lib.Pow.{pow-pos, pow-add, pow-mono, pow-lt, shl-lt}
-use lib.IntN.{ℤ, pos}
-use lib.Ieee.{Float, nan, inf, fin, binary64, up, down, round, fits, le, lt, eq}
+use lib.Dec.{T, eqb, lit<, lit≤}
+use lib.Pow.{pow-pos, pow-add, pow-mono, pow-lt}
+use lib.IntN.{ℤ}
+use lib.Ieee.{Float, fin, binary64, up, down, round, fits, le}
 use lib.Ieee.Exact.{HasValue, round-exact}
 use lib.Ieee.Fits.{down-pos}
 use lib.Ieee.Order.{round-mono}
-use lib.Ieee.Positive.{positive, positive-of-value, values-of-le}
-use lib.Ieee.Back.{round-whole}
 use lib.Ieee.Scale.{finite, round-val, round-under}
-use borrow.Author.Tests.{lt-leb}
 use Rattle.base.specs.Said.{gives, pick}
 use Rattle.floats.specs.Units.{unitsOf, negative}
 use Rattle.floats.proofs.Compare.{le-pos}
 use Rattle.floats.proofs.Sized.{Sized, sized, round-sized}
 use Rattle.explog.specs.Exp.{tOf, pOf, stepE}
-use Rattle.explog.specs.Log.{bOf, yOf, squared, halved}
-use Rattle.explog.specs.Rules.{E, L, inPowers, floorOf, powerOf, logOf}
+use Rattle.explog.specs.Rules.{E, L, inPowers, floorOf, powerOf}
 use Rattle.explog.proofs.Bound.{powers}
 use Rattle.explog.proofs.Entries.{t-above}
 use Rattle.explog.proofs.Floor.{plus}
 use Rattle.explog.proofs.LiteralE.{e-literal}
 use Rattle.explog.proofs.Plain.{plainFloor, plainPower}
-use Rattle.explog.proofs.Sides.{Sided, upward, downward, side-of}
 use Rattle.explog.proofs.Theorems.{table-root}
-use Rattle.explog.proofs.Values.{Logged, answered, given, logged}
+use Rattle.explog.proofs.Values.{given}
 
 -- ---- a float in 0..2^-i
 pub data Small (i : ℕ) : Float → Type 0 where

@@ -35,11 +35,10 @@ use Rattle.generate.specs.Generated.{madeOf, itemsFrom, Leaves}
 use Rattle.generate.proofs.Items.{All, all-items}
 use Rattle.generate.proofs.Theorems.{beyond-when, accepted-or, made-leaves}
 use Rattle.harmonics.specs.Harmonics.{asItem, itemAt, harmonicsOf, madeHarmonics}
-use Rattle.harmonics.specs.Steps.{Reaches}
 use Rattle.harmonics.proofs.Plans.{steps-reach, none-start, no-place}
 use Rattle.harmonics.proofs.Reaches.{Ways, ways}
 use Rattle.harmonics.proofs.Theorems.{no-divisions}
-use Rattle.equal_steps.specs.Causes.{Tested, NoDivisions, PeriodOne, Beyond}
+use Rattle.equal_steps.specs.Causes.{Tested, NoDivisions, Beyond}
 use Rattle.equal_steps.proofs.Divided.{step, step-reach, steps-said, steps-in-powers}
 
 -- numbers of refusals stay apart

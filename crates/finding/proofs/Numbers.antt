@@ -24,7 +24,7 @@ use Rattle.searching.specs.declared.Found.{Found}
 use Rattle.searching.proofs.Numbers.{search-numbered}
 use Rattle.approximation.specs.Degrees.{approximation, declaredOf, ascendingOf, keyOf}
 use Rattle.approximation.specs.declared.Approximation.{Approximation}
-use Rattle.finding.specs.Find.{computedSearch, pitchSearchFrom, pitchSearchOf}
+use Rattle.finding.specs.Find.{pitchSearchFrom, pitchSearchOf}
 
 -- ---- the degree or key of what was found
 number-numbered : (deviation : Float) (z : ℤ) → Numbered (andThen (held z) (λ v. gives (approximation deviation v)))

@@ -2,7 +2,7 @@
 use Prim.Native.Nat.{ℕ}
 use native.Mathlib.Omega.{arith}
 use lib.Dec.{ltb}
-use lib.Ieee.{Float, binary64, mul, div}
+use lib.Ieee.{binary64, mul, div}
 use Rattle.base.specs.Said.{Numbered}
 use Rattle.base.proofs.Said.{numbered-pick, numbered-then}
 use Rattle.pitch.proofs.Numbers.{given-numbered, as-octaves-numbered, from-octaves-numbered}
@@ -16,7 +16,7 @@ use Rattle.segment.specs.declared.Steps.{Steps}
 use Rattle.segment.specs.declared.Steps.the-variants.{Whole, Equal}
 use Rattle.generate.specs.Generated.{countedOf}
 use Rattle.generate.proofs.Numbers.{made-numbered, counted-numbered, items-numbered}
-use Rattle.harmonics.specs.Harmonics.{asItem, itemAt, harmonicsOf, madeHarmonics}
+use Rattle.harmonics.specs.Harmonics.{asItem, itemAt, madeHarmonics}
 
 fraction-numbered : (type : SegmentType) (start size : ℕ) (steps : Steps) (j : ℕ) → Numbered (fractionAt type start size steps j)
 fraction-numbered type start size Whole j = Numbered.value _

@@ -13,7 +13,7 @@ use Rattle.scl.specs.Table.{ItemTable}
 use Rattle.generate.specs.Generated.{countedOf}
 use Rattle.generate.proofs.Numbers.{made-numbered, counted-numbered}
 use Rattle.notes.specs.Notes.{boundedAt, pitchAt, ratiosFrom, ascending}
-use Rattle.rank2.specs.Rank2.{countOf, isTemperament, ascendingOf, pushedAs, temperamentOf, madeRank2}
+use Rattle.rank2.specs.Rank2.{countOf, isTemperament, ascendingOf, pushedAs, madeRank2}
 
 pitch-numbered : (ratio generator period : Float) (positive i : ℕ) → Numbered (pitchAt ratio generator period positive i)
 pitch-numbered ratio generator period positive i = numbered-pick (eqb i 0) (Numbered.value ratio) (from-octaves-numbered (div binary64 (boundedAt generator period positive i) centsF))

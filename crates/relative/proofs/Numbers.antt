@@ -1,5 +1,5 @@
 -- What the relative pitches say is a value or one of document 01's numbers, whatever the tables hold. Assumes nothing.
-use mathlib.Core.Bool.{Bool, true, false}
+use mathlib.Core.Bool.{Bool}
 use mathlib.Core.List.{List}
 use Prim.Native.Nat.{ℕ}
 use native.Mathlib.Omega.{arith}
