@@ -25,7 +25,7 @@ use Rattle.scl.proofs.Items.{powers-ratio}
 use Rattle.reduction.proofs.Reaches.{log-gives}
 use Rattle.scl_tables.specs.Build.{lastOf}
 use Rattle.scl_tables.specs.Room.{roomOf}
-use Rattle.segment.specs.Segment.{float, nearAt, stepsOf, countOf}
+use Rattle.segment.specs.Segment.{float, nearAt, stepsOf, segmentCount}
 use Rattle.segment.specs.declared.Divisions.{Divisions}
 use Rattle.segment.specs.declared.Divisions.the-variants.{Into, Lacking}
 use Rattle.segment.specs.declared.SegmentType.{SegmentType}
@@ -49,7 +49,7 @@ apart e h = absurd (h (same-refuses e .0))
 pub record Items (type : SegmentType) (start size : ℕ) (divisions : Divisions) : Type 0 where
   pub items : List Item
   pub are : harmonicsOf type start size divisions ≡ gives items
-  pub size-is : length items ≡ countOf size divisions
+  pub size-is : length items ≡ segmentCount size divisions
   pub usable : areUsable items ≡ true
   pub held : AllHeld items
 
@@ -59,11 +59,11 @@ none-or (Into zero) = inl refl
 none-or (Into (suc n)) = inr (λ e. let z : suc n ≡ 0 = cc in omega (arith, z))
 
 module _ (type : SegmentType) (start size : ℕ) (some : 0 < start) (s-small : start < 2 ^ 16) (z-small : size < 2 ^ 16) where
-  of-steps : (divisions : Divisions) (steps : Steps) → countOf size divisions < 2 ^ 16 → stepsOf start size divisions ≡ gives steps → (itemAt type start size steps (countOf size divisions) ≡ refuses beyond-reach 0 → ⊥) → Items type start size divisions
+  of-steps : (divisions : Divisions) (steps : Steps) → segmentCount size divisions < 2 ^ 16 → stepsOf start size divisions ≡ gives steps → (itemAt type start size steps (segmentCount size divisions) ≡ refuses beyond-reach 0 → ⊥) → Items type start size divisions
   of-steps divisions steps small e last = go (ways start size some s-small z-small type n small steps (steps-reach start size divisions steps e))
     where
       n : ℕ
-      n = countOf size divisions
+      n = segmentCount size divisions
 
       by : All (itemAt type start size steps) 1 n → Items type start size divisions
       by m = record {
@@ -90,16 +90,16 @@ module _ (type : SegmentType) (start size : ℕ) (some : 0 < start) (s-small : s
       no-refusal (sym (ap (λ (s : Said Float). andThen (andThen s (λ ratio. gives (nearAt type start size ratio))) (λ f. gives (asItem f))) said) ∙ q)
 
   -- NO ITEM IS REFUSED, but by 0 divisions
-  pub items-of : (divisions : Divisions) → countOf size divisions < 2 ^ 16 → (NoDivisions divisions → ⊥) → Items type start size divisions
+  pub items-of : (divisions : Divisions) → segmentCount size divisions < 2 ^ 16 → (NoDivisions divisions → ⊥) → Items type start size divisions
   items-of Lacking small h = of-steps Lacking Whole small refl (λ q. no-refusal q)
   items-of (Into zero) small h = absurd (h refl)
   items-of (Into (suc n)) small h =
       let pos : 0 < suc n = omega arith in
       of-steps (Into (suc n)) (Equal (step start size (suc n) some s-small z-small pos small)) small (steps-said start size (suc n) some s-small z-small pos small) (last-said (suc n) pos small)
 
-module _ (type : SegmentType) (start size : ℕ) (divisions : Divisions) (s-small : start < 2 ^ 16) (z-small : size < 2 ^ 16) (small : countOf size divisions < 2 ^ 16) (t : ItemTable) (l : ListTable) where
+module _ (type : SegmentType) (start size : ℕ) (divisions : Divisions) (s-small : start < 2 ^ 16) (z-small : size < 2 ^ 16) (small : segmentCount size divisions < 2 ^ 16) (t : ItemTable) (l : ListTable) where
   abbrev n : ℕ
-  n = countOf size divisions
+  n = segmentCount size divisions
 
   abbrev call : Said (List Item)
   call = madeHarmonics t l type start size divisions

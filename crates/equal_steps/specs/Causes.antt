@@ -12,7 +12,7 @@ use Rattle.scl.specs.Items.{ratioOf}
 use Rattle.scl.specs.Table.{ItemTable, implicit}
 use Rattle.scl_tables.specs.Build.{lastOf}
 use Rattle.scl_tables.specs.Room.{roomOf}
-use Rattle.segment.specs.Segment.{countOf}
+use Rattle.segment.specs.Segment.{segmentCount}
 use Rattle.segment.specs.declared.Divisions.{Divisions}
 use Rattle.segment.specs.declared.Divisions.the-variants.{Into}
 use Rattle.segment.specs.declared.SegmentType.{SegmentType}
@@ -21,7 +21,7 @@ use Rattle.harmonics.specs.Harmonics.{harmonicsOf}
 -- the tests before 18 pass; 13 never arises, the count being a u16
 pub record Tested (t : ItemTable) (l : ListTable) (start size : ℕ) (divisions : Divisions) : Type 0 where
   pub some : 0 < start
-  pub room : countOf size divisions < roomOf t l
+  pub room : segmentCount size divisions < roomOf t l
 
 -- "zero divisions do"
 abbrev pub NoDivisions : Divisions → Type 0
@@ -30,7 +30,7 @@ NoDivisions divisions = divisions ≡ Into 0
 -- two or more items, and the period of the scale, the ratio of its last item, is 1.0
 abbrev pub PeriodOne : SegmentType → ℕ → ℕ → Divisions → Type 0
 PeriodOne type start size divisions =
-    (2 ≤ countOf size divisions) × (andThen (harmonicsOf type start size divisions) (λ is. ratioOf (lastOf (implicit ∷ is))) ≡ gives oneF)
+    (2 ≤ segmentCount size divisions) × (andThen (harmonicsOf type start size divisions) (λ is. ratioOf (lastOf (implicit ∷ is))) ≡ gives oneF)
 
 -- the causes of 18
 abbrev pub Beyond : SegmentType → ℕ → ℕ → Divisions → Type 0

@@ -8,7 +8,7 @@ use Rattle.base.proofs.Said.{numbered-pick, numbered-then}
 use Rattle.pitch.proofs.Numbers.{given-numbered, as-octaves-numbered, from-octaves-numbered}
 use Rattle.sorted.specs.Lent.{ListTable}
 use Rattle.scl.specs.Table.{ItemTable}
-use Rattle.segment.specs.Segment.{float, intervalOf, fractionAt, stepsOf, countOf}
+use Rattle.segment.specs.Segment.{float, intervalOf, fractionAt, stepsOf, segmentCount}
 use Rattle.segment.specs.declared.Divisions.{Divisions}
 use Rattle.segment.specs.declared.Divisions.the-variants.{Into, Lacking}
 use Rattle.segment.specs.declared.SegmentType.{SegmentType}
@@ -34,6 +34,6 @@ unfolding madeHarmonics
 create-harmonics-scale-numbered t l type start size divisions =
     counted-numbered
     (numbered-pick (ltb 0 start)
-    (made-numbered t l (countOf size divisions)
-    (numbered-then (steps-numbered start size divisions) (λ steps. items-numbered (itemAt type start size steps) (λ j. numbered-then (fraction-numbered type start size steps j) (λ f. Numbered.value (asItem f))) (countOf size divisions) 1)))
+    (made-numbered t l (segmentCount size divisions)
+    (numbered-then (steps-numbered start size divisions) (λ steps. items-numbered (itemAt type start size steps) (λ j. numbered-then (fraction-numbered type start size steps j) (λ f. Numbered.value (asItem f))) (segmentCount size divisions) 1)))
     (Numbered.number (omega arith) (omega arith)))

@@ -28,7 +28,7 @@ use Rattle.kbm.proofs.Language.{has}
 use Rattle.scl.specs.Table.{ItemTable, itemsIn, isItems}
 use Rattle.scl.specs.declared.Item.{Item}
 use Rattle.scl.proofs.Table.{both}
-use Rattle.relative.specs.Refusals.{Reached}
+use Rattle.relative.specs.Refusals.{ReachedOrBeyond}
 use Rattle.relative.proofs.Back.{pick-given}
 use Rattle.relative.proofs.Numbers.{tested-numbered, held-numbered}
 use Rattle.rooted.specs.Pitches.{pitchFrom, pitchOf}
@@ -60,9 +60,9 @@ shift e (Beside.beyond h) = Beside.beyond (e ∙ h)
 along : {s t : Said Float} → t ≡ s → Beside s (numberOf s) → Beside t (numberOf t)
 along {s} {t} e h = subst (Beside t) (sym (ap numberOf e)) (shift e h)
 
-reached-beside : {s : Said Float} → Reached s → Beside s (numberOf s)
-reached-beside (Reached.reached x r e) = along e (Beside.sounds x refl)
-reached-beside (Reached.beyond e) = along e (Beside.beyond refl)
+reached-beside : {s : Said Float} → ReachedOrBeyond s → Beside s (numberOf s)
+reached-beside (ReachedOrBeyond.reached x r e) = along e (Beside.sounds x refl)
+reached-beside (ReachedOrBeyond.beyond e) = along e (Beside.beyond refl)
 
 module _ (items : List Item) (root : KbmRoot) (o : isRoot root ≡ true) where
   hz-reach : inReach (root .pitch .0) ≡ true

@@ -13,7 +13,7 @@ use Rattle.scl.specs.Table.{ItemTable}
 use Rattle.generate.specs.Generated.{countedOf}
 use Rattle.generate.proofs.Numbers.{made-numbered, counted-numbered}
 use Rattle.notes.specs.Notes.{boundedAt, pitchAt, ratiosFrom, ascending}
-use Rattle.rank2.specs.Rank2.{countOf, isTemperament, ascendingOf, pushedAs, madeRank2}
+use Rattle.rank2.specs.Rank2.{noteCount, isTemperament, ascendingOf, pushedAs, madeRank2}
 
 pitch-numbered : (ratio generator period : Float) (positive i : ℕ) → Numbered (pitchAt ratio generator period positive i)
 pitch-numbered ratio generator period positive i = numbered-pick (eqb i 0) (Numbered.value ratio) (from-octaves-numbered (div binary64 (boundedAt generator period positive i) centsF))
@@ -36,9 +36,9 @@ pub create-rank2-temperament-scale-numbered : (t : ItemTable) (l : ListTable) (g
 unfolding madeRank2
 create-rank2-temperament-scale-numbered t l generator positive negative period =
     counted-numbered
-    (numbered-pick (leb (countOf positive negative) 65535)
+    (numbered-pick (leb (noteCount positive negative) 65535)
     (numbered-pick (isTemperament generator period)
-    (made-numbered t l (countOf positive negative)
-    (numbered-then (as-cents-numbered generator) (λ g. numbered-then (as-cents-numbered period) (λ p. numbered-then (ascending-numbered (pitchAt period g p positive) (pitch-numbered period g p positive) (countOf positive negative)) pushed-numbered))))
+    (made-numbered t l (noteCount positive negative)
+    (numbered-then (as-cents-numbered generator) (λ g. numbered-then (as-cents-numbered period) (λ p. numbered-then (ascending-numbered (pitchAt period g p positive) (pitch-numbered period g p positive) (noteCount positive negative)) pushed-numbered))))
     (Numbered.number (omega arith) (omega arith)))
     (Numbered.number (omega arith) (omega arith)))

@@ -24,7 +24,7 @@ use Rattle.scl_tables.specs.Build.{lastOf, countOf}
 use Rattle.scl_tables.proofs.Beyond.{Given}
 use Rattle.kbm.specs.declared.KbmRoot.{KbmRoot}
 use Rattle.reduction.proofs.Reaches.{log-gives}
-use Rattle.relative.specs.Refusals.{Reached}
+use Rattle.relative.specs.Refusals.{ReachedOrBeyond}
 use Rattle.relative.specs.Relative.{placeOf, relativePitchOf}
 use Rattle.relative.proofs.Back.{then-given, pick-given}
 use Rattle.relative.proofs.Ratios.{item-held}
@@ -167,25 +167,25 @@ module _ (items : List Item) (root : KbmRoot) (d : ℤ) (reach : inReach (root .
       is : above (rootPitch items hz at) (relativePitchOf items d) ≡ refuses beyond-reach 0
       is = sym pitch-is ∙ e
 
-      last : (x : Float) → inReach x ≡ true → rootPitch items hz at ≡ gives x → Reached (relativePitchOf items d) → FarPitch items root d
-      last x rx f (Reached.reached r rr g) =
+      last : (x : Float) → inReach x ≡ true → rootPitch items hz at ≡ gives x → ReachedOrBeyond (relativePitchOf items d) → FarPitch items root d
+      last x rx f (ReachedOrBeyond.reached r rr g) =
           let q : computed (mul binary64 x r) ≡ refuses beyond-reach 0 =
           sym (ap (λ (s : Said Float). andThen s (λ y. andThen (relativePitchOf items d) (pitchTimes y))) f ∙ ap (λ (s : Said Float). andThen s (pitchTimes x)) g ∙ rw (rx, rr)) ∙ is in
           FarPitch.product at x r turned f g (far-computed (mul binary64 x r) q)
-      last x rx f (Reached.beyond g) = FarPitch.degree (refused-far items d p (i d) g)
+      last x rx f (ReachedOrBeyond.beyond g) = FarPitch.degree (refused-far items d p (i d) g)
 
       by : (r : Float) → relativePitchOf items at ≡ gives r → inReach r ≡ true → (b : Bool) → inReach (div binary64 hz r) ≡ b → FarPitch items root d
       by r f rr true h = last (div binary64 hz r) h (ap (λ (s : Said Float). andThen s (pitchOver hz)) f ∙ rw (reach, rr, h)) (relative-refusals items d)
       by r f rr false h = FarPitch.quotient at r turned f h
 
-      go : Reached (relativePitchOf items at) → FarPitch items root d
-      go (Reached.reached r rr f) = by r f rr (inReach (div binary64 hz r)) refl
-      go (Reached.beyond f) = FarPitch.root-degree at turned (refused-far items at p (i at) f)
+      go : ReachedOrBeyond (relativePitchOf items at) → FarPitch items root d
+      go (ReachedOrBeyond.reached r rr f) = by r f rr (inReach (div binary64 hz r)) refl
+      go (ReachedOrBeyond.beyond f) = FarPitch.root-degree at turned (refused-far items at p (i at) f)
 
   -- 18 exactly for these causes, where 18 is the one refusal left
-  pub pitch-far : Reached (pitchOf items root d) → (pitchOf items root d ≡ refuses beyond-reach 0) ↔ FarPitch items root d
+  pub pitch-far : ReachedOrBeyond (pitchOf items root d) → (pitchOf items root d ≡ refuses beyond-reach 0) ↔ FarPitch items root d
   pitch-far s = (cause, back s)
     where
-      back : Reached (pitchOf items root d) → FarPitch items root d → pitchOf items root d ≡ refuses beyond-reach 0
-      back (Reached.reached x r e) f = absurd (not-given (steps e) f)
-      back (Reached.beyond e) f = e
+      back : ReachedOrBeyond (pitchOf items root d) → FarPitch items root d → pitchOf items root d ≡ refuses beyond-reach 0
+      back (ReachedOrBeyond.reached x r e) f = absurd (not-given (steps e) f)
+      back (ReachedOrBeyond.beyond e) f = e

@@ -45,7 +45,7 @@ use Rattle.relative.proofs.Theorems.{place-le}
 use Rattle.rooted.specs.Pitches.{pitchOf}
 use Rattle.rooted.proofs.Theorems.{offset-turned, pitch-refusals}
 use Rattle.tuning.specs.Keys.{maybeDegreePitchOf}
-use Rattle.tuning.specs.Refusals.{Sounds}
+use Rattle.tuning.specs.Refusals.{KeySounds}
 use Rattle.tuning.proofs.Theorems.{key-sounds, maybe-pitch-of-degree-refused, maybe-pitch-of-degree-is}
 use Rattle.key_pitches.specs.Beside.{Beside}
 use Rattle.key_pitches.specs.Run.{keyPitches, isTuning, runOf, afterNumbers}
@@ -100,11 +100,11 @@ module _ (text : List ℕ) (t : ItemTable) (l : ListTable) {d : List ℕ} {items
   -- BY MAPPING DEGREE: 11 exactly where there is no such key, else as by key
   pub read-maybe-pitch-of-degree : (z : ℤ) →
       (inI32 (k .root .reference .0 +ℤ z) ≡ false → tested (isItems (length items) left && isRoot (k .root)) (tested (isTable (k .count) (afterRead mapping map)) (maybeDegreePitchOf (itemsIn (length items) left) k (afterRead mapping map) z)) ≡ refuses overflow 0)
-      × (inI32 (k .root .reference .0 +ℤ z) ≡ true → Sounds (k .root) (degreeOf k (tableOf (k .count) (afterRead mapping map)) (key (k .root .reference .0 +ℤ z)))
+      × (inI32 (k .root .reference .0 +ℤ z) ≡ true → KeySounds (k .root) (degreeOf k (tableOf (k .count) (afterRead mapping map)) (key (k .root .reference .0 +ℤ z)))
       (tested (isItems (length items) left && isRoot (k .root)) (tested (isTable (k .count) (afterRead mapping map)) (maybeDegreePitchOf (itemsIn (length items) left) k (afterRead mapping map) z))))
   read-maybe-pitch-of-degree z = (
     maybe-pitch-of-degree-refused (length items) left its k (afterRead mapping map) root (read-root r .offset) table z,
-    λ e. subst (Sounds (k .root) (degreeOf k (tableOf (k .count) (afterRead mapping map)) (key (k .root .reference .0 +ℤ z)))) (sym (maybe-pitch-of-degree-is (length items) left its k (afterRead mapping map) root (read-root r .offset) table z e))
+    λ e. subst (KeySounds (k .root) (degreeOf k (tableOf (k .count) (afterRead mapping map)) (key (k .root .reference .0 +ℤ z)))) (sym (maybe-pitch-of-degree-is (length items) left its k (afterRead mapping map) root (read-root r .offset) table z e))
         (key-sounds (itemsIn (length items) left) k (afterRead mapping map) root (read-root r .offset) (key (k .root .reference .0 +ℤ z))),
   )
 
@@ -124,7 +124,7 @@ module _ (text : List ℕ) (t : ItemTable) (l : ListTable) {d : List ℕ} {items
   -- where the key j steps above the first is one of 32 bits it sounds as by key, else 11
   pub read-run-key : (first : PianoKey) (j : ℕ) →
       (inI32 (first .0 +ℤ pos j) ≡ false → keyPitches (itemsIn (length items) left) k (afterRead mapping map) first j ≡ refuses overflow 0)
-      × (inI32 (first .0 +ℤ pos j) ≡ true → Sounds (k .root) (degreeOf k (tableOf (k .count) (afterRead mapping map)) (key (first .0 +ℤ pos j))) (keyPitches (itemsIn (length items) left) k (afterRead mapping map) first j))
+      × (inI32 (first .0 +ℤ pos j) ≡ true → KeySounds (k .root) (degreeOf k (tableOf (k .count) (afterRead mapping map)) (key (first .0 +ℤ pos j))) (keyPitches (itemsIn (length items) left) k (afterRead mapping map) first j))
   unfolding held
   read-run-key first j = (
     λ e. rw e refl,
