@@ -39,7 +39,7 @@ use Rattle.equal_steps.proofs.Octaves.{Up, up-to, log-up, log-small}
 use Rattle.equal_steps.proofs.Small.{Small, small, round-small, exp-small}
 
 -- ---- one of n parts
-over : (m : ℕ) (e : ℤ) (n : ℕ) (w : Float) → HasValue w false n 1 → 0 < n → div binary64 (fin false m e) w ≡ round binary64 false (m * up e) (down e * n)
+pub over : (m : ℕ) (e : ℤ) (n : ℕ) (w : Float) → HasValue w false n 1 → 0 < n → div binary64 (fin false m e) w ≡ round binary64 false (m * up e) (down e * n)
 unfolding div
 over m e n (fin true i d) v p = absurd (true≢false (v .0))
 over m e n (fin false i d) v p =

@@ -2,3 +2,4 @@ pub mod Small
 pub mod Octaves
 pub mod Divided
 pub mod Theorems
+pub mod Whole
