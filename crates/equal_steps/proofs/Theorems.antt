@@ -4,22 +4,22 @@ use mathlib.Core.Path.{_≡_, refl, sym, _∙_, ap}
 use mathlib.Core.Logic.{_↔_, _⊎_, inl, inr}
 use mathlib.Core.Bool.{Bool, true, false}
 use mathlib.Core.List.{List, _∷_}
-use Prim.Native.Nat.{ℕ, zero, suc, _^_, _≤_, _<_}
+use Prim.Native.Nat.{ℕ, zero, suc, _+_, _-_, _^_, _≤_, _<_}
 use native.Mathlib.Omega.{arith}
 use lib.Dec.{ltb}
 use lib.Ieee.{Float, binary64, fits, mul}
 use lib.Ieee.Bits.{is-true}
 use lib.Ieee.Fits.{mul-fits}
-use lib.ListN.{length}
+use lib.ListN.{length, getD}
 use borrow.Author.Tests.{lt-ltb, ltb-true, ltb-false}
 use Rattle.base.specs.Numbers.{unusable, no-room, too-large, beyond-reach}
 use Rattle.base.specs.Said.{Said, gives, refuses, andThen}
-use Rattle.base.proofs.Said.{no-value, no-refusal, same-refuses}
+use Rattle.base.proofs.Said.{no-value, no-refusal, same-value, same-refuses}
 use Rattle.explog.specs.Rules.{logOf}
 use Rattle.pitch.specs.Ratios.{asOctaves, fromOctaves, repeated}
 use Rattle.sorted.specs.Lent.{ListTable}
 use Rattle.scl.specs.Items.{ratioOf, AllHeld}
-use Rattle.scl.specs.Table.{ItemTable, implicit, areUsable}
+use Rattle.scl.specs.Table.{ItemTable, implicit, noItem, areUsable}
 use Rattle.scl.specs.declared.Item.{Item}
 use Rattle.scl.proofs.Items.{powers-ratio}
 use Rattle.reduction.proofs.Reaches.{log-gives}
@@ -32,7 +32,7 @@ use Rattle.segment.specs.declared.SegmentType.{SegmentType}
 use Rattle.segment.specs.declared.Steps.{Steps}
 use Rattle.segment.specs.declared.Steps.the-variants.{Whole, Equal}
 use Rattle.generate.specs.Generated.{madeOf, itemsFrom, Leaves}
-use Rattle.generate.proofs.Items.{All, all-items}
+use Rattle.generate.proofs.Items.{All, all-items, last-of}
 use Rattle.generate.proofs.Theorems.{beyond-when, accepted-or, made-leaves}
 use Rattle.harmonics.specs.Harmonics.{asItem, itemAt, harmonicsOf, madeHarmonics}
 use Rattle.harmonics.proofs.Plans.{steps-reach, none-start, no-place}
@@ -52,6 +52,7 @@ pub record Items (type : SegmentType) (start size : ℕ) (divisions : Divisions)
   pub size-is : length items ≡ segmentCount size divisions
   pub usable : areUsable items ≡ true
   pub held : AllHeld items
+  pub last : (steps : Steps) → stepsOf start size divisions ≡ gives steps → 0 < segmentCount size divisions → (i : Item) → itemAt type start size steps (segmentCount size divisions) ≡ gives i → lastOf (implicit ∷ items) ≡ i
 
 none-or : (divisions : Divisions) → NoDivisions divisions ⊎ (NoDivisions divisions → ⊥)
 none-or Lacking = inr (λ e. let z : _≡_ {A = ℕ} 0 1 = cc in omega (arith, z))
@@ -72,6 +73,11 @@ module _ (type : SegmentType) (start size : ℕ) (some : 0 < start) (s-small : s
         size-is = m .size;
         usable = m .usable;
         held = m .held;
+        last = λ x q p i is.
+            let z : 1 + n - 1 ≡ n = omega arith in
+            let same : x ≡ steps = same-value x steps (sym q ∙ e) in
+            last-of (m .items) (omega (arith, m .size, p)) ∙ ap (λ (k : ℕ). getD (m .items) (k - 1) noItem) (m .size)
+            ∙ m .last i p (ap (itemAt type start size steps) z ∙ ap (λ (y : Steps). itemAt type start size y n) (sym same) ∙ is);
       }
 
       go : Ways start size some s-small z-small (itemAt type start size steps) n → Items type start size divisions

@@ -5,7 +5,7 @@ use mathlib.Core.Logic.{inl, inr}
 use mathlib.Core.Bool.{true, false, true≢false}
 use mathlib.Core.List.{List, _∷_}
 use Prim.Native.Nat.{ℕ, _+_, _-_, _*_, _^_, _≤_, _<_}
-use native.Mathlib.Nat.{le-of-eq, mul-one, mul-assoc, mul-pos}
+use native.Mathlib.Nat.{mul-one, mul-assoc, mul-pos}
 use native.Mathlib.Omega.{arith}
 use lib.Dec.{T, lit<}
 use lib.Ieee.{Float, fin, binary64, up, down, round, size, div, le, lt, eq, ofInt, ofBits}
@@ -14,17 +14,15 @@ use lib.Ieee.Exact.{HasValue}
 use lib.Ieee.Fits.{down-pos}
 use lib.Ieee.Order.{round-mono}
 use lib.Ieee.Scale.{round-same}
-use lib.ListN.{length, getD}
 use Rattle.base.specs.Numbers.{beyond-reach}
 use Rattle.base.specs.Said.{Said, gives, refuses, andThen}
-use Rattle.base.proofs.Said.{no-refusal, same-value}
 use Rattle.floats.specs.Floats.{oneF}
 use Rattle.floats.specs.Ranges.{inReach}
 use Rattle.explog.proofs.Values.{given}
 use Rattle.pitch.specs.Given.{computed}
 use Rattle.sorted.specs.Lent.{ListTable}
 use Rattle.scl.specs.Items.{ratioOf}
-use Rattle.scl.specs.Table.{ItemTable, implicit, noItem}
+use Rattle.scl.specs.Table.{ItemTable, implicit}
 use Rattle.scl.specs.declared.Item.{Item}
 use Rattle.scl_tables.specs.Build.{lastOf}
 use Rattle.segment.specs.Segment.{float, wholeAt}
@@ -32,15 +30,13 @@ use Rattle.segment.specs.declared.Divisions.the-variants.{Lacking}
 use Rattle.segment.specs.declared.SegmentType.{SegmentType}
 use Rattle.segment.specs.declared.SegmentType.the-variants.{Otonal, Utonal}
 use Rattle.segment.specs.declared.Steps.the-variants.{Whole}
-use Rattle.generate.proofs.Items.{All, all-items, last-of}
-use Rattle.harmonics.specs.Harmonics.{asItem, itemAt, madeHarmonics}
-use Rattle.harmonics.proofs.Reaches.{Ways, ways}
+use Rattle.harmonics.specs.Harmonics.{asItem, madeHarmonics}
 use Rattle.equal_steps.specs.Causes.{Beyond, PeriodOne}
 use Rattle.equal_steps.proofs.Divided.{over}
-use Rattle.equal_steps.proofs.Theorems.{beyond-reach-when}
+use Rattle.equal_steps.proofs.Theorems.{items-of, beyond-reach-when}
 
 -- ---- a quotient of whole numbers, rounded once
-quotient : (a b : ℕ) (x w : Float) → HasValue x false a 1 → HasValue w false b 1 → 0 < b → div binary64 x w ≡ round binary64 false a b
+pub quotient : (a b : ℕ) (x w : Float) → HasValue x false a 1 → HasValue w false b 1 → 0 < b → div binary64 x w ≡ round binary64 false a b
 quotient a b (fin true m e) w v u p = absurd (true≢false (v .0))
 quotient a b (fin false m e) w v u p =
     let y : m * up e ≡ a * down e = sym (mul-one (m * up e)) ∙ v .1 in
@@ -67,19 +63,10 @@ module _ (start size′ : ℕ) (some : 0 < start) (s-small : start < 2 ^ 16) (z-
   last-far Otonal q = fraction-far (start + size′) start refl refl q
   last-far Utonal q = fraction-far (start + size′) (start + size′ - size′) refl (omega arith) q
 
-  whole-all : (type : SegmentType) → All (itemAt type start size′ Whole) 1 size′
-  whole-all type = go (ways start size′ some s-small z-small type size′ z-small Whole (le-of-eq refl))
-    where
-      go : Ways start size′ some s-small z-small (itemAt type start size′ Whole) size′ → All (itemAt type start size′ Whole) 1 size′
-      go (Ways.all h) = all-items (itemAt type start size′ Whole) size′ 1 (λ j a b. h j (omega arith))
-      go (Ways.beyond q h) = no-refusal q
-
   period-far : (type : SegmentType) → PeriodOne type start size′ Lacking → ⊥
   period-far type x =
-      let m = whole-all type in
-      let z : 1 + size′ - 1 ≡ size′ = omega arith in
-      let is : lastOf (implicit ∷ m .items) ≡ asItem (wholeAt type start size′ size′) =
-      last-of (m .items) (omega (arith, m .size, two)) ∙ ap (λ (k : ℕ). getD (m .items) (k - 1) noItem) (m .size) ∙ m .last (asItem (wholeAt type start size′ size′)) (omega (arith, two)) (ap (λ (k : ℕ). gives (asItem (wholeAt type start size′ k))) z) in
+      let m = items-of type start size′ some s-small z-small Lacking z-small (λ e. let z : _≡_ {A = ℕ} 0 1 = cc in omega (arith, z)) in
+      let is = m .last Whole refl (omega (arith, two)) (asItem (wholeAt type start size′ size′)) refl in
       last-far type (ap ratioOf (sym is) ∙ ap (λ (s : Said (List Item)). andThen s (λ is. ratioOf (lastOf (implicit ∷ is)))) (sym (m .are)) ∙ x .1)
 
 -- WITHOUT DIVISIONS NEVER 18
