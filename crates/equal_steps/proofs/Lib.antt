@@ -3,3 +3,4 @@ pub mod Octaves
 pub mod Divided
 pub mod Theorems
 pub mod Whole
+pub mod Empty

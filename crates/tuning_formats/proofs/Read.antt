@@ -12,7 +12,7 @@ use lib.IntN.{ℤ, pos, _+ℤ_, _-ℤ_}
 use lib.ListN.{length, getD}
 use Rattle.base.specs.Integers.{inI32, held}
 use Rattle.base.specs.Numbers.{overflow, no-room, beyond-reach}
-use Rattle.base.specs.Said.{gives, refuses, pick}
+use Rattle.base.specs.Said.{Said, gives, refuses, pick, andThen}
 use Rattle.floats.proofs.Between.{within-more, within-reach}
 use Rattle.floats.proofs.Ranges.{pitch-says}
 use Rattle.key.specs.Keys.{key}
@@ -44,7 +44,7 @@ use Rattle.relative.specs.Scales.{tested}
 use Rattle.relative.proofs.Theorems.{place-le}
 use Rattle.rooted.specs.Pitches.{pitchOf}
 use Rattle.rooted.proofs.Theorems.{offset-turned, pitch-refusals}
-use Rattle.tuning.specs.Keys.{maybeDegreePitchOf}
+use Rattle.tuning.specs.Keys.{maybePitchOf, maybeDegreePitchOf}
 use Rattle.tuning.specs.Refusals.{KeySounds}
 use Rattle.tuning.proofs.Theorems.{key-sounds, maybe-pitch-of-degree-refused, maybe-pitch-of-degree-is}
 use Rattle.key_pitches.specs.Beside.{Beside}
@@ -86,16 +86,27 @@ module _ (text : List ℕ) (t : ItemTable) (l : ListTable) {d : List ℕ} {items
   table : isTable (k .count) (afterRead mapping map) ≡ true
   table = leaves-meaning mapping map k es r fits .0
 
+  far : (z : ℤ) → (pitchOf (implicit ∷ items) (k .root) z ≡ refuses beyond-reach 0) ↔ FarPitch (implicit ∷ items) (k .root) z
+  far z =
+      let h = lines-held (s .lines) in
+      let u = lines-usable (s .lines) in
+      let reach = within-reach (within-more (lib.Dec.lit≤ tt) (lib.Dec.lit≤ tt) (pitch-says (k .root .pitch .0) root)) in
+      pitch-far (implicit ∷ items) (k .root) z reach (period-given (implicit ∷ items) (omega arith) h u) (degree-given (implicit ∷ items) (omega arith) h u) (pos 0 -ℤ k .root .offset) (offset-turned (k .root) (read-root r .offset) (read-root r .turns))
+      (read-turns text t l s room mapping map r fits (pitch-refusals (k .root) root (read-root r .offset) (implicit ∷ items) z))
+
   -- THE CAUSES OF 18 of `pitch_of`, its one refusal: exactly where one of these steps left its range
   pub read-pitch-far : (z : ℤ) → (tested (isItems (length items) left && isRoot (k .root)) (pitchOf (itemsIn (length items) left) (k .root) z) ≡ refuses beyond-reach 0) ↔ FarPitch (implicit ∷ items) (k .root) z
   read-pitch-far z =
       let is : tested (isItems (length items) left && isRoot (k .root)) (pitchOf (itemsIn (length items) left) (k .root) z) ≡ pitchOf (implicit ∷ items) (k .root) z = rw (its, root) (ap (λ (x : List Item). pitchOf x (k .root) z) (leaves-items text t l s room .1)) in
-      let h = lines-held (s .lines) in
-      let u = lines-usable (s .lines) in
-      let reach = within-reach (within-more (lib.Dec.lit≤ tt) (lib.Dec.lit≤ tt) (pitch-says (k .root .pitch .0) root)) in
-      let f = pitch-far (implicit ∷ items) (k .root) z reach (period-given (implicit ∷ items) (omega arith) h u) (degree-given (implicit ∷ items) (omega arith) h u) (pos 0 -ℤ k .root .offset) (offset-turned (k .root) (read-root r .offset) (read-root r .turns))
-      (read-turns text t l s room mapping map r fits (pitch-refusals (k .root) root (read-root r .offset) (implicit ∷ items) z)) in
-      (λ e. f .0 (sym is ∙ e), λ x. is ∙ f .1 x)
+      (λ e. far z .0 (sym is ∙ e), λ x. is ∙ far z .1 x)
+
+  -- and of `maybe_pitch_of`, where the key has the degree z
+  pub read-maybe-far : (at : PianoKey) (z : ℤ) → degreeOf k (tableOf (k .count) (afterRead mapping map)) at ≡ gives z →
+      (tested (isItems (length items) left && isRoot (k .root)) (tested (isTable (k .count) (afterRead mapping map)) (maybePitchOf (itemsIn (length items) left) k (afterRead mapping map) at)) ≡ refuses beyond-reach 0) ↔ FarPitch (implicit ∷ items) (k .root) z
+  read-maybe-far at z e =
+      let is : tested (isItems (length items) left && isRoot (k .root)) (tested (isTable (k .count) (afterRead mapping map)) (maybePitchOf (itemsIn (length items) left) k (afterRead mapping map) at)) ≡ pitchOf (implicit ∷ items) (k .root) z =
+      rw (its, root, table) (ap (λ (d : Said ℤ). andThen d (pitchOf (itemsIn (length items) left) (k .root))) e ∙ ap (λ (x : List Item). pitchOf x (k .root) z) (leaves-items text t l s room .1)) in
+      (λ q. far z .0 (sym is ∙ q), λ x. is ∙ far z .1 x)
 
   -- BY MAPPING DEGREE: 11 exactly where there is no such key, else as by key
   pub read-maybe-pitch-of-degree : (z : ℤ) →
