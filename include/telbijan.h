@@ -276,16 +276,17 @@ uint64_t telbijan_pitches_of(const uint8_t *kind, size_t kind_length, const doub
 /* ---- Searches for C: the degree or key that comes nearest to a ratio or a pitch, over a scale's lent columns. */
 
 /* The degree whose relative pitch comes nearest to a ratio, and how far the ratio lies above it, a ratio, both stored: 10 for items or a
-   list that cannot be used and for a ratio outside 2^-64..2^64, 18 in a scale of one item with period 1.0, 11 where the degree passes 32
-   bits. Of two that come equally near, within 0.999999, it is the lower one. */
+   list that cannot be used and for a ratio outside 2^-64..2^64; 18 in a scale of one item with period 1.0, and where a step leaves
+   2^-900..2^900, which in a list that was built or read none does; 11 where the degree passes 32 bits. Of two that come equally near,
+   within 0.999999, it is the lower one. A scale without items answers degree 0 with the ratio itself. */
 uint64_t telbijan_find_by_relative_pitch(const uint8_t *kind, size_t kind_length, const double *cents, size_t cents_length, const uint32_t *numer, size_t numer_length, const uint32_t *denom, size_t denom_length, const uint32_t *place, size_t place_length, const double *ratio, size_t ratio_length, const int32_t *wraps, size_t wraps_length, uint16_t count, double target, int32_t *degree, double *deviation);
 
 /* The same, the degree counted in ascending order. */
 uint64_t telbijan_find_by_relative_pitch_sorted(const uint8_t *kind, size_t kind_length, const double *cents, size_t cents_length, const uint32_t *numer, size_t numer_length, const uint32_t *denom, size_t denom_length, const uint32_t *place, size_t place_length, const double *ratio, size_t ratio_length, const int32_t *wraps, size_t wraps_length, uint16_t count, double target, int32_t *degree, double *deviation);
 
 /* The degree whose pitch comes nearest to a pitch in Hz, and the deviation from it, both stored: 10 for tables, a root's pitch or a pitch
-   outside 2^-10..2^20 that cannot be used, 11 for the root offset -2147483648, 18 where a ratio leaves its range, 11 where the degree
-   passes 32 bits. */
+   outside 2^-10..2^20 that cannot be used, 11 for the root offset -2147483648, 18 where the root's pitch lies outside 2^-900..2^900 or the
+   ratio from it up to the pitch outside 2^-64..2^64, and as for a ratio, 11 where the degree passes 32 bits. */
 uint64_t telbijan_find_by_pitch(const uint8_t *kind, size_t kind_length, const double *cents, size_t cents_length, const uint32_t *numer, size_t numer_length, const uint32_t *denom, size_t denom_length, const uint32_t *place, size_t place_length, const double *ratio, size_t ratio_length, const int32_t *wraps, size_t wraps_length, uint16_t count, int32_t reference, double hz, int32_t offset, double pitch, int32_t *degree, double *deviation);
 
 /* The same, the degree counted in ascending order. */
