@@ -67,37 +67,40 @@ fn search_of(name: &[u8]) -> Call {
 }
 
 // The calls that take the items alone; for another an answer that no line has.
-fn of_items(items: Items, call: Call, of: Asked) -> Outcome {
-    let k = items.kind;
-    let e = items.cents;
-    let n = items.numer;
-    let d = items.denom;
+fn of_items(
+    kind: &[u8],
+    cents: &[f64],
+    numer: &[u32],
+    denom: &[u32],
+    call: Call,
+    of: Asked,
+) -> Outcome {
     let scl = Scl { count: of.count };
     match call {
-        Call::Period => crate::asked::of_ratio(relative::period(scl, &k, &e, &n, &d)),
+        Call::Period => crate::asked::of_ratio(relative::period(scl, kind, cents, numer, denom)),
         Call::Relative => crate::asked::of_ratio(relative::relative_pitch_of(
             scl,
-            &k,
-            &e,
-            &n,
-            &d,
+            kind,
+            cents,
+            numer,
+            denom,
             Degree(of.number),
         )),
         Call::Degree => crate::asked::of_pitch(tuning::pitch_of(
             scl,
-            &k,
-            &e,
-            &n,
-            &d,
+            kind,
+            cents,
+            numer,
+            denom,
             of.root,
             Degree(of.number),
         )),
         Call::Key => crate::asked::of_pitch(tuning::pitch_of_key(
             scl,
-            &k,
-            &e,
-            &n,
-            &d,
+            kind,
+            cents,
+            numer,
+            denom,
             of.root,
             PianoKey(of.number),
         )),
@@ -106,100 +109,128 @@ fn of_items(items: Items, call: Call, of: Asked) -> Outcome {
 }
 
 // Those that take the list too.
-fn of_scale(items: Items, list: List, call: Call, of: Asked) -> Outcome {
-    let k = items.kind;
-    let e = items.cents;
-    let n = items.numer;
-    let d = items.denom;
-    let p = list.place;
-    let r = list.ratio;
-    let w = list.wraps;
+fn of_scale(
+    k: &[u8],
+    e: &[f64],
+    n: &[u32],
+    d: &[u32],
+    p: &[u32],
+    r: &[f64],
+    w: &[i32],
+    call: Call,
+    of: Asked,
+) -> Outcome {
     let scl = Scl { count: of.count };
     let at = Degree(of.number);
+    let root = of.root;
+    let x = Ratio(of.x);
+    let hz = Pitch(of.x);
     match call {
         Call::SortedRelative => crate::asked::of_ratio(relative::sorted_relative_pitch_of(
             scl,
-            &k,
-            &e,
-            &n,
-            &d,
-            &p,
-            &r,
-            &w,
+            k,
+            e,
+            n,
+            d,
+            p,
+            r,
+            w,
             at,
         )),
         Call::SortedPitch => crate::asked::of_pitch(tuning::sorted_pitch_of(
             scl,
-            &k,
-            &e,
-            &n,
-            &d,
-            &p,
-            &r,
-            &w,
-            of.root,
+            k,
+            e,
+            n,
+            d,
+            p,
+            r,
+            w,
+            root,
             at,
         )),
         Call::Find => crate::asked::of_degree(finding::find_by_relative_pitch(
             scl,
-            &k,
-            &e,
-            &n,
-            &d,
-            &p,
-            &r,
-            &w,
-            Ratio(of.x),
+            k,
+            e,
+            n,
+            d,
+            p,
+            r,
+            w,
+            x,
         )),
         Call::FindSorted => crate::asked::of_degree(finding::find_by_relative_pitch_sorted(
             scl,
-            &k,
-            &e,
-            &n,
-            &d,
-            &p,
-            &r,
-            &w,
-            Ratio(of.x),
+            k,
+            e,
+            n,
+            d,
+            p,
+            r,
+            w,
+            x,
         )),
         Call::FindPitch => crate::asked::of_degree(finding::find_by_pitch(
             scl,
-            &k,
-            &e,
-            &n,
-            &d,
-            &p,
-            &r,
-            &w,
-            of.root,
-            Pitch(of.x),
+            k,
+            e,
+            n,
+            d,
+            p,
+            r,
+            w,
+            root,
+            hz,
         )),
         Call::FindPitchSorted => crate::asked::of_degree(finding::find_by_pitch_sorted(
             scl,
-            &k,
-            &e,
-            &n,
-            &d,
-            &p,
-            &r,
-            &w,
-            of.root,
-            Pitch(of.x),
+            k,
+            e,
+            n,
+            d,
+            p,
+            r,
+            w,
+            root,
+            hz,
         )),
         Call::FindKey => crate::asked::of_key(finding::find_key_by_pitch(
             scl,
-            &k,
-            &e,
-            &n,
-            &d,
-            &p,
-            &r,
-            &w,
-            of.root,
-            Pitch(of.x),
+            k,
+            e,
+            n,
+            d,
+            p,
+            r,
+            w,
+            root,
+            hz,
         )),
-        _ => of_items(items, call, of),
+        _ => of_items(k, e, n, d, call, of),
     }
+}
+
+// What a call answers on these columns.
+fn said(items: Items, list: List, call: Call, of: Asked) -> Outcome {
+    let kind = items.kind;
+    let cents = items.cents;
+    let numer = items.numer;
+    let denom = items.denom;
+    let place = list.place;
+    let ratio = list.ratio;
+    let wraps = list.wraps;
+    of_scale(
+        &kind,
+        &cents,
+        &numer,
+        &denom,
+        &place,
+        &ratio,
+        &wraps,
+        call,
+        of,
+    )
 }
 
 pub fn is_same_scaled(name: &[u8], line: &[u8], at: usize) -> bool {
@@ -209,6 +240,6 @@ pub fn is_same_scaled(name: &[u8], line: &[u8], at: usize) -> bool {
     let table = frozen_scales::read_columns(line, frozen::later(line, at, 6));
     let items = table.items;
     let list = table.list;
-    let said = of_scale(items, list, call_of(name), of);
-    crate::asked::is_outcome(said, line, table.after)
+    let outcome = said(items, list, call_of(name), of);
+    crate::asked::is_outcome(outcome, line, table.after)
 }
