@@ -13,6 +13,7 @@ mod differences_kbm;
 mod differences_scl;
 mod differences_tuning;
 mod examples;
+mod examples_numbers;
 mod ffi;
 mod ffi_generators;
 mod ffi_kbm;
@@ -24,6 +25,7 @@ mod freeze_kbm;
 mod freeze_numbers;
 mod freeze_scl;
 mod freeze_text;
+mod freeze_tuning;
 mod generators;
 mod inputs;
 mod kbm_build;
@@ -96,6 +98,7 @@ fn compare() -> ExitCode {
     tuning::compare(&mut all);
     generators::compare(&mut all);
     examples::compare(&mut all);
+    examples_numbers::compare(&mut all);
     differences::compare(&mut all);
     untouched::report();
     all.verdict()
