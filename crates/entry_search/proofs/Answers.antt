@@ -32,7 +32,8 @@ use Rattle.searching.proofs.Opened.{pickedAt, nearest-told, search-none}
 use Rattle.approximation.specs.declared.Approximation.{Approximation}
 use Rattle.entries.specs.Entries.{entryIn, entriesIn, columnsIn, noEntry}
 use Rattle.entries.specs.declared.SortedEntry.{SortedEntry}
-use Rattle.entry_search.specs.Scans.{Aims, Starts, placesOf as stepsOf, scanned, Near, Ready, chosenBy, nearestBy, foundBy, degreeBy, answerOf}
+use Rattle.entry_search.specs.Columns.{degreeBy, columnSearch}
+use Rattle.entry_search.specs.Scans.{Aims, Starts, placesOf as stepsOf, scanned, Near, Ready, chosenBy, nearestBy, foundBy, answerOf}
 use Rattle.entry_search.specs.declared.Aim.{Aim}
 use Rattle.entry_search.specs.declared.Scan.{Scan}
 use Rattle.entry_search.proofs.Opened.{found-none, found-beyond, found-near, answer-unusable, answer-usable}
@@ -283,7 +284,7 @@ module _ (count : ℕ) (t : ItemTable) (ys : List SortedEntry) (x : Float) (s : 
       go true u g some = near-left u g some
       go false u g some = clash g (ap (λ (f : Scan). f .usable) (stays u) ∙ u)
 
-  pub answers : (sorted : Bool) → answerOf left sorted ≡ tested (isScale count t (columnsIn ys) && inSearch x) (andThen (searchOf (itemsIn count t) (listIn count (columnsIn ys)) x) (degreeBy sorted count))
+  pub answers : (sorted : Bool) → answerOf left sorted ≡ columnSearch sorted count t (columnsIn ys) x
   answers sorted = go (s .usable) refl
     where
       go : (b : Bool) → s .usable ≡ b → answerOf left sorted ≡ tested (isScale count t (columnsIn ys) && inSearch x) (said sorted)

@@ -18,7 +18,8 @@ use Rattle.searching.specs.declared.Found.{Found}
 use Rattle.approximation.specs.Degrees.{declaredOf, ascendingOf}
 use Rattle.entries.specs.Entries.{entryIn}
 use Rattle.entries.specs.declared.SortedEntry.{SortedEntry}
-use Rattle.entry_search.specs.Scans.{Aims, begunOf, Starts, goesUp, scanStep, chosenBy, nearestBy, foundBy, degreeBy, answerOf}
+use Rattle.entry_search.specs.Columns.{degreeBy}
+use Rattle.entry_search.specs.Scans.{Aims, begunOf, Starts, goesUp, scanStep, chosenBy, nearestBy, foundBy, answerOf}
 use Rattle.entry_search.specs.declared.Aim.{Aim}
 use Rattle.entry_search.specs.declared.Scan.{Scan}
 

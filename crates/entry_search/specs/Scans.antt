@@ -3,7 +3,7 @@
 use mathlib.Core.Path.{_≡_}
 use mathlib.Core.Bool.{Bool, true, _&&_, _||_}
 use mathlib.Core.List.{List}
-use Prim.Native.Nat.{ℕ, zero, suc, _+_, _-_, _≤_, _<_}
+use Prim.Native.Nat.{ℕ, zero, suc, _+_, _≤_, _<_}
 use lib.Dec.{eqb, ltb, leb}
 use lib.IntN.{pos}
 use lib.ListN.{getD}
@@ -20,16 +20,12 @@ use Rattle.relative.specs.Scales.{tested}
 use Rattle.searching.specs.Search.{chosenOf, indexOf, foundAt, nearestOf, searchOf}
 use Rattle.searching.specs.declared.Choice.{Choice}
 use Rattle.searching.specs.declared.Found.{Found}
-use Rattle.approximation.specs.Degrees.{declaredOf, ascendingOf}
 use Rattle.approximation.specs.declared.Approximation.{Approximation}
 use Rattle.entries.specs.Entries.{entryIn, noEntry}
 use Rattle.entries.specs.declared.SortedEntry.{SortedEntry}
+use Rattle.entry_search.specs.Columns.{degreeBy}
 use Rattle.entry_search.specs.declared.Aim.{Aim}
 use Rattle.entry_search.specs.declared.Scan.{Scan}
-
--- the declared degree of what was found, or the ascending one
-abbrev pub degreeBy : Bool → ℕ → Found → Said Approximation
-degreeBy sorted count = pick sorted (ascendingOf count) (declaredOf count)
 
 -- ---- the start
 -- what a search of x looks for in any list: the entry that comes nearest to the target, so many periods up

@@ -14,16 +14,15 @@ ghost use mathlib.Core.Bool.{true, _&&_};
 ghost use Prim.Native.Nat.{_≤_, _<_};
 ghost use lib.Dec.{leb, ltb};
 ghost use lib.ListN.{length};
-ghost use Rattle.base.specs.Said.{andThen};
 ghost use Rattle.floats.specs.Ranges.{inReach, inSearch};
-ghost use Rattle.sorted.specs.Lent.{listIn, goesOn};
+ghost use Rattle.sorted.specs.Lent.{goesOn};
 ghost use Rattle.scl.specs.Table.{itemTable, itemsIn, isItems};
-ghost use Rattle.relative.specs.Scales.{tested, isScale};
 ghost use Rattle.searching.specs.Answers.{saysFound};
-ghost use Rattle.searching.specs.Search.{searchOf, foundAt};
+ghost use Rattle.searching.specs.Search.{foundAt};
 ghost use Rattle.approximation.specs.Answers.{saysDegreeSearch};
 ghost use Rattle.entries.specs.Entries.{entryIn, columnsIn};
-ghost use Rattle.entry_search.specs.Scans.{Aims, Starts, Near, Ready, begunOf, goesUp, scanStep, placesOf, nearestBy, foundBy, degreeBy, answerOf};
+ghost use Rattle.entry_search.specs.Columns.{columnSearch};
+ghost use Rattle.entry_search.specs.Scans.{Aims, Starts, Near, Ready, begunOf, goesUp, scanStep, placesOf, nearestBy, foundBy, answerOf};
 
 // What a search looks for: the ratio without its periods, how many these are, and whether there is nothing to find (18).
 pub struct Aim {
@@ -269,8 +268,7 @@ pub fn find_in_entries<'i>(
     target: Ratio,
     sorted: bool,
 ) -> DegreeSearch
-    ensures { λ r. ⌜ saysDegreeSearch r ≡ tested (isScale (scl .count) (itemTable (now (kind .entry)) (now (cents .entry)) (now (numer .entry)) (now (denom .entry))) (columnsIn (now (list .entry))) && inSearch (target .0))
-        (andThen (searchOf (itemsIn (scl .count) (itemTable (now (kind .entry)) (now (cents .entry)) (now (numer .entry)) (now (denom .entry)))) (listIn (scl .count) (columnsIn (now (list .entry)))) (target .0)) (degreeBy sorted (scl .count))) ⌝ }
+    ensures { λ r. ⌜ saysDegreeSearch r ≡ columnSearch sorted (scl .count) (itemTable (now (kind .entry)) (now (cents .entry)) (now (numer .entry)) (now (denom .entry))) (columnsIn (now (list .entry))) (target .0) ⌝ }
 {
     let mut s = start(scl, kind, cents, numer, denom, list.len(), target);
     let n = places_of(s);
