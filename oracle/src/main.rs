@@ -21,6 +21,7 @@ mod ffi_scl;
 mod ffi_tuning;
 mod floats;
 mod freeze;
+mod freeze_entries;
 mod freeze_kbm;
 mod freeze_numbers;
 mod freeze_scl;
