@@ -1,12 +1,12 @@
 -- Two numbers from 2 ^ 62 to 2 ^ 63 that lie in one cell, between two neighbouring middles of f64s, round to one f64. Assumes nothing.
 use mathlib.Core.Path.{_≡_, sym, ap, _∙_}
-use mathlib.Core.Bool.{Bool, false, not}
-use Prim.Native.Nat.{ℕ, suc, _+_, _-_, _*_, _/_, _%_, _^_, _≤_, _<_, compare, Ordering, Ordering·lt, Ordering·eq, Ordering·gt}
-use native.Mathlib.Nat.{le-antisymm, le-trans, le-of-eq, lt-of-lt-of-le, lt-of-not-le, not-le-of-lt, le-of-suc-le-suc, div-one, mul-one, one-mul, mul-le-mul-right, mul-assoc}
+use mathlib.Core.Bool.{false, not}
+use Prim.Native.Nat.{ℕ, _+_, _-_, _*_, _/_, _%_, _^_, _≤_, _<_, compare, Ordering, Ordering·lt, Ordering·eq, Ordering·gt}
+use native.Mathlib.Nat.{le-antisymm, le-trans, lt-of-lt-of-le, lt-of-not-le, not-le-of-lt, div-one, mul-le-mul-right, mul-assoc}
 use native.Mathlib.Omega.{arith}
 use lib.Dec.{T, isLe, isEq, leb→le, nleb→lt, eqb→eq, lit<, lit≤}
 use lib.IntN.{pos}
-use lib.Pow.{pow-add, pow-pos, pow-mono, shl-lt}
+use lib.Pow.{pow-mono, shl-lt}
 use lib.Ieee.{Float, binary64, nearest, round, units, size, mul, ofInt, ofBits}
 use lib.Ieee.Nearest.{closest, closest-same}
 use lib.Ieee.Digits.{size-lt, size-le}

@@ -1,10 +1,10 @@
 -- The steps after step 32 multiply by so little that the product is all but the sum: within a third of 1, from above. Assumes nothing.
-use mathlib.Core.Path.{_≡_, refl, sym, ap, _∙_, subst}
-use mathlib.Core.Bool.{Bool, true, false, _&&_}
+use mathlib.Core.Path.{_≡_, sym, ap, subst}
+use mathlib.Core.Bool.{Bool, true, false}
 use Prim.Native.Nat.{ℕ, zero, suc, _+_, _-_, _*_, _/_, _%_, _^_, _≤_, _<_}
-use native.Mathlib.Nat.{le-trans, le-of-eq, mul-le-mul-left, mul-le-mul-right, mul-le-mul, pow-suc, pow-zero}
+use native.Mathlib.Nat.{le-trans, mul-le-mul-left, mul-le-mul-right, mul-le-mul, pow-suc, pow-zero}
 use native.Mathlib.Omega.{arith}
-use lib.Dec.{T, eqb, leb, leb→le, lit≤}
+use lib.Dec.{eqb, leb, leb→le}
 use lib.ListN.{getD}
 use lib.Pow.{pow-mono}
 use Rattle.base.specs.Said.{pick}

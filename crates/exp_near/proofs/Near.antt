@@ -15,7 +15,7 @@ use Rattle.power_parts.proofs.Floors.{both, floor, at-least, three-low, more-lo
 use Rattle.power_parts.proofs.Groups.{product-split, rise-split}
 use Rattle.exp_near.specs.Near.{Near}
 use Rattle.exp_near.proofs.Spread.{Spread, spread}
-use Rattle.exp_near.proofs.Lifts.{Lifted, lift}
+use Rattle.exp_near.proofs.Lifts.{lift}
 use Rattle.exp_near.proofs.Tree.{strict, under, top-end, low-end, least, highest, nearer}
 
 -- (2 ^ 62) ^ n

@@ -1,17 +1,17 @@
 -- P against the exact product of what its steps multiply by: each step loses less than 1, and the later factors are too near 1 to
 -- make more of it. Assumes nothing.
-use mathlib.Core.Path.{_≡_, refl, sym, ap, _∙_, subst}
+use mathlib.Core.Path.{_≡_, ap, _∙_, subst}
 use mathlib.Core.Bool.{Bool, true, false}
 use Prim.Native.Nat.{ℕ, zero, suc, _+_, _-_, _*_, _/_, _%_, _^_, _≤_, _<_}
-use native.Mathlib.Nat.{le-trans, le-of-eq, le-of-lt, mul-le-mul-left, mul-le-mul-right, mul-le-mul, le-of-mul-le-mul-right, add-zero, add-suc, pow-suc, pow-zero, mul-comm, div-add-mod', mod-lt}
+use native.Mathlib.Nat.{le-trans, le-of-lt, mul-le-mul-left, mul-le-mul-right, add-zero, add-suc, pow-suc, pow-zero, div-add-mod', mod-lt}
 use native.Mathlib.Numerals.{add-one}
 use native.Mathlib.Omega.{arith}
 use lib.Dec.{T, eqb, leb, leb→le, lit<, lit≤}
 use lib.ListN.{getD}
-use lib.Pow.{pow-add, pow-pos, pow-mono}
+use lib.Pow.{pow-add, pow-mono}
 use Rattle.base.specs.Said.{pick}
-use Rattle.powers.specs.Exp.{tOf, pOf, stepE}
-use Rattle.powers.specs.Inner.{factorOf, Power}
+use Rattle.powers.specs.Exp.{tOf, pOf}
+use Rattle.powers.specs.Inner.{factorOf}
 use Rattle.powers.proofs.Every.{every, at-each}
 use Rattle.powers.proofs.Factors.{entries}
 use Rattle.powers.proofs.Entries.{t-entry, t-above}

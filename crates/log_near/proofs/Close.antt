@@ -1,13 +1,13 @@
--- A guess of L's bits that lies strictly inside its bounds is right. Assumes nothing.
+-- L's bits of y are a number b where y lies between the powers of two of b and of b + 1, by a margin; so a guess that is seen to lie there is
+-- right. Assumes nothing.
 use mathlib.Core.Path.{_≡_, refl, sym, ap, _∙_, subst}
 use mathlib.Core.Logic.{_≢_}
-use Prim.Native.Nat.{ℕ, zero, suc, _+_, _-_, _*_, _/_, _%_, _^_, _≤_, _<_}
-use native.Mathlib.Nat.{le-refl, le-trans, le-of-eq, le-of-lt, le-antisymm, le-of-suc-le-suc, lt-of-not-le, not-le-of-lt, lt-of-le-of-lt, lt-of-lt-of-le, mul-le-mul, mul-le-mul-left, mul-le-mul-right, le-of-mul-le-mul-right, mul-lt-mul-of-pos-right, mul-pos, one-le-pow, pow-lt-pow-left, pow-zero, pow-suc, one-mul, mul-one, div-one, add-assoc, mul-assoc, mul-comm, mul-add}
+use Prim.Native.Nat.{ℕ, zero, suc, _+_, _-_, _*_, _/_, _^_, _≤_, _<_}
+use native.Mathlib.Nat.{le-refl, le-trans, le-of-eq, le-of-lt, le-antisymm, le-of-suc-le-suc, lt-of-not-le, not-le-of-lt, mul-le-mul, mul-le-mul-left, mul-le-mul-right, le-of-mul-le-mul-right, mul-pos, one-le-pow, pow-lt-pow-left, pow-zero, pow-suc, one-mul, div-one, add-assoc, mul-comm, mul-add}
 use native.Mathlib.Numerals.{add-one}
 use native.Mathlib.Omega.{arith}
 use lib.Dec.{lit<, lit≤}
-use lib.ListN.{getD}
-use lib.Pow.{pow-pos, pow-mono, pow-add}
+use lib.Pow.{pow-pos, pow-mono}
 use Rattle.powers.specs.Log.{yOf, bOf}
 use Rattle.log_roots.specs.Table.{roots}
 use Rattle.log_roots.specs.Roots.{lowOf, highOf}
@@ -78,8 +78,16 @@ module _ (M N B z y c : ℕ) (pos : 0 < M) (nz : N ≢ 0) (sum : N + c ≡ M + 1
       clash : (p q Z Y : ℕ) → p ≤ q → q * Z ≤ Y → p * (Z * Z) ≤ Y * Z
       clash p q Z Y g h = omega (arith, mul-le-mul-right (Z * Z) g, mul-le-mul-right Z h)
 
-  pub inside : (b : ℕ) → Le N b (M + 2) 0 y → Le N 0 (y * M + 1) (b + 1) (M * M) → B ≡ b
+  inside : (b : ℕ) → Le N b (M + 2) 0 y → Le N 0 (y * M + 1) (b + 1) (M * M) → B ≡ b
   inside b f g = le-antisymm (at-most b g) (at-least b f)
+
+not-zero : (n : ℕ) → 0 < n → n ≢ 0
+not-zero n h = omega arith
+
+-- L's 52 bits of y are b where y, in parts of 2 ^ 62, lies from 2 ^ (b / 2 ^ 52) * (1 + 2 / 2 ^ 62) up to below 2 ^ ((b + 1) / 2 ^ 52): the 52
+-- squarings with their roundings lose no more than 2 of the 709 parts and more that lie between two such powers
+pub bracket : (y b : ℕ) → 2 ^ 62 ≤ y → y < 2 ^ 63 → Le (2 ^ 52) b (2 ^ 62 + 2) 0 y → Le (2 ^ 52) 0 (y * 2 ^ 62 + 1) (b + 1) (2 ^ 62 * 2 ^ 62) → bOf y 52 ≡ b
+bracket y b low high = inside (2 ^ 62) (2 ^ 52) (bOf y 52) (yOf y 52) y (2 ^ 62 + 1 - 2 ^ 52) (lit< tt) (not-zero (2 ^ 52) (lit< tt)) refl (lit≤ tt) (turns y low high 52) b
 
 -- ---- the two bounds of the guess: q is the head, d what t adds
 lower : (N M h t q d y : ℕ) → 0 < M → 0 < q → 2 * d + 10 ≤ M → (q + 16) * (M + d + 8) ≤ y * M → Le N h M 0 (q + 16) → Le N t M 0 (M + (d + 5)) → Le N (h + t) (M + 2) 0 y
@@ -110,9 +118,6 @@ adds-high M W v t d C K c pos h few k l s =
     mul-both x c n W s = sym (mul-add x c n) ∙ ap (λ (z : ℕ). x * z) s
 
 -- ---- the guess
-not-zero : (n : ℕ) → 0 < n → n ≢ 0
-not-zero n h = omega arith
-
 head-most : (h q : ℕ) → h < 2 ^ 30 → Head h q → Le (2 ^ 52) 0 q (h * 2 ^ 22) (2 ^ 62)
 head-most h q small p =
     let f = subst (λ (x : ℕ). Le (2 ^ 30) 0 (lowOf h 0 30) x ((2 ^ 100) ^ 30)) (div-one h) (low-power h small 30 (lit≤ tt)) in
@@ -159,9 +164,10 @@ module _ (t d : ℕ) (few : t < 5242880) (d-is : d ≡ t * 3048493539143 / 2 ^ 3
       step-high (2 ^ 52) (2 ^ 62) (2 ^ 100) 195103586505168 t (d + 5) c (lit< tt) some s
       (adds-high (2 ^ 62) (2 ^ 100) 195103586505168 t d 3048493539143 (2 ^ 32) c (lit< tt) d-high (omega arith) (lit≤ tt) over s) root-least
 
+  -- the code's two tests
   pub decided : (y h q : ℕ) → 2 ^ 62 ≤ y → y < 2 ^ 63 → h < 2 ^ 30 → Head h q → (q + 16) * (2 ^ 62 + d + 8) / 2 ^ 62 < y → y < q * (2 ^ 62 + d + 709) / 2 ^ 62 → bOf y 52 ≡ h * 2 ^ 22 + t
   decided y h q y-low y-high small p one two =
-      inside (2 ^ 62) (2 ^ 52) (bOf y 52) (yOf y 52) y (2 ^ 62 + 1 - 2 ^ 52) (lit< tt) (not-zero (2 ^ 52) (lit< tt)) refl (lit≤ tt) (turns y y-low y-high 52) (h * 2 ^ 22 + t)
+      bracket y (h * 2 ^ 22 + t) y-low y-high
       (lower (2 ^ 52) (2 ^ 62) (h * 2 ^ 22) t q d y (lit< tt) (le-trans (lit< tt) (p .above)) (roomy d d-small) (under ((q + 16) * (2 ^ 62 + d + 8)) y one) (head-least h q small p) added-high)
       (upper (2 ^ 52) (2 ^ 62) (h * 2 ^ 22) t q d y (lit< tt) (over (q * (2 ^ 62 + d + 709)) y two) (head-most h q small p) added-low)
     where

@@ -1,14 +1,14 @@
 -- L's turns against the powers of y: 2 ^ B * y' * M ^ n is at most y ^ n * M, and little less. Assumes nothing.
-use mathlib.Core.Path.{_≡_, refl, sym, ap, _∙_, subst}
+use mathlib.Core.Path.{_≡_, refl, ap, _∙_, subst}
 use mathlib.Core.Bool.{Bool, true, false, not}
-use Prim.Native.Nat.{ℕ, zero, suc, _+_, _-_, _*_, _/_, _^_, _≤_, _<_}
-use native.Mathlib.Nat.{le-trans, le-of-eq, le-of-lt, lt-of-le-of-lt, lt-of-lt-of-le, mul-le-mul, mul-le-mul-left, mul-le-mul-right, le-of-mul-le-mul-right, mul-lt-mul-of-pos-left, mul-lt-mul-of-pos-right, lt-of-mul-lt-mul-right, one-le-pow, one-mul, mul-one, add-assoc, pow-zero, pow-suc, div-add-mod', mod-lt}
+use Prim.Native.Nat.{ℕ, zero, suc, _+_, _*_, _/_, _^_, _≤_, _<_}
+use native.Mathlib.Nat.{le-of-lt, lt-of-le-of-lt, mul-le-mul, mul-le-mul-left, mul-le-mul-right, le-of-mul-le-mul-right, mul-lt-mul-of-pos-left, mul-lt-mul-of-pos-right, lt-of-mul-lt-mul-right, one-mul, pow-zero, pow-suc, div-add-mod', mod-lt}
 use native.Mathlib.Omega.{arith}
-use lib.Dec.{T, leb, leb→le, nleb→lt, lit≤, lit<}
-use lib.Pow.{pow-add, pow-pos}
+use lib.Dec.{T, leb, leb→le, nleb→lt, lit<}
+use lib.Pow.{pow-add}
 use Rattle.base.specs.Said.{pick}
 use Rattle.powers.specs.Log.{yOf, bOf}
-use Rattle.log_roots.proofs.Ratio.{Le, Lt, le-left-out, lt-right-out, one-pow, two-pow}
+use Rattle.log_roots.proofs.Ratio.{two-pow}
 
 -- ---- a turn, on any numbers: X is 2 ^ B, Y is y0 ^ n, Z is M ^ n, w is 2 or 1
 square-low : (M X Y Z y w q : ℕ) → 0 < M → X * y * Z ≤ Y * M → M * (w * q) ≤ y * y → X * X * w * q * (Z * Z) ≤ Y * Y * M

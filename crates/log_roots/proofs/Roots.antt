@@ -4,7 +4,7 @@ use mathlib.Core.Logic.{_≢_}
 use mathlib.Core.Bool.{Bool, true, false, not, _&&_}
 use mathlib.Core.List.{List}
 use Prim.Native.Nat.{ℕ, zero, suc, _+_, _-_, _*_, _/_, _%_, _^_, _≤_, _<_}
-use native.Mathlib.Nat.{le-refl, zero-add, mul-le-mul-left, mul-le-mul-right, add-zero, add-suc, add-assoc, mul-one, mul-assoc, mul-pos, pow-suc, pow-zero, mod-lt, div-one, div-div-eq-div-mul}
+use native.Mathlib.Nat.{le-refl, zero-add, mul-le-mul-left, mul-le-mul-right, add-zero, add-suc, add-assoc, mul-one, mul-assoc, mul-pos, pow-suc, pow-zero, mod-lt, div-div-eq-div-mul}
 use native.Mathlib.Omega.{arith}
 use lib.Dec.{T, eqb, leb, ltb, eqb→eq, leb→le, ltb→lt, lit≤, lit<}
 use lib.ListN.{length, getD}

@@ -1,7 +1,7 @@
 -- The tables of powers of two as lists, and what each entry says, by one computed test over the list. Assumes nothing.
 use mathlib.Core.Path.{_≡_, refl, ap, _∙_}
 use mathlib.Core.List.{List, [], _∷_}
-use Prim.Native.Nat.{ℕ, _*_, _/_, _%_, _^_, _<_}
+use Prim.Native.Nat.{ℕ, _/_, _%_, _^_, _<_}
 use native.Mathlib.Nat.{div-one}
 use lib.ListN.{getD}
 use Rattle.powers.proofs.Every.{every}

@@ -1,6 +1,6 @@
 -- Powers of two between products of roots: what the tables of L's fast path say. Assumes nothing.
 use mathlib.Core.Bool.{Bool}
-use Prim.Native.Nat.{ℕ, zero, suc, _+_, _-_, _*_, _/_, _%_, _≤_, _<_, _^_}
+use Prim.Native.Nat.{ℕ, zero, suc, _+_, _-_, _*_, _/_, _%_, _≤_, _^_}
 use lib.Dec.{eqb}
 use lib.ListN.{getD}
 use Rattle.base.specs.Said.{pick}

@@ -1,7 +1,7 @@
 -- The table of E's first steps as lists, and what each entry says, by one computed test over the list. Assumes nothing.
 use mathlib.Core.Path.{_≡_, refl}
 use mathlib.Core.List.{List, [], _∷_}
-use Prim.Native.Nat.{ℕ, _*_, _/_, _%_, _^_, _<_}
+use Prim.Native.Nat.{ℕ, _/_, _%_, _^_, _<_}
 use lib.ListN.{getD}
 use Rattle.powers.specs.Inner.{Power}
 use Rattle.powers.proofs.Every.{every}
