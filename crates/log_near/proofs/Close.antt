@@ -3,7 +3,7 @@
 use mathlib.Core.Path.{_≡_, refl, sym, ap, _∙_, subst}
 use mathlib.Core.Logic.{_≢_}
 use Prim.Native.Nat.{ℕ, zero, suc, _+_, _-_, _*_, _/_, _^_, _≤_, _<_}
-use native.Mathlib.Nat.{le-refl, le-trans, le-of-eq, le-of-lt, le-antisymm, le-of-suc-le-suc, lt-of-not-le, not-le-of-lt, mul-le-mul, mul-le-mul-left, mul-le-mul-right, le-of-mul-le-mul-right, mul-pos, one-le-pow, pow-lt-pow-left, pow-zero, pow-suc, one-mul, div-one, add-assoc, mul-comm, mul-add}
+use native.Mathlib.Nat.{le-refl, le-trans, le-of-eq, le-of-lt, le-antisymm, le-of-suc-le-suc, lt-of-not-le, not-le-of-lt, lt-of-lt-of-le, mul-le-mul, mul-le-mul-left, mul-le-mul-right, le-of-mul-le-mul-right, mul-pos, one-le-pow, pow-lt-pow-left, pow-zero, pow-suc, one-mul, div-one, add-assoc, mul-comm, mul-add}
 use native.Mathlib.Numerals.{add-one}
 use native.Mathlib.Omega.{arith}
 use lib.Dec.{lit<, lit≤}
@@ -164,15 +164,20 @@ module _ (t d : ℕ) (few : t < 5242880) (d-is : d ≡ t * 3048493539143 / 2 ^ 3
       step-high (2 ^ 52) (2 ^ 62) (2 ^ 100) 195103586505168 t (d + 5) c (lit< tt) some s
       (adds-high (2 ^ 62) (2 ^ 100) 195103586505168 t d 3048493539143 (2 ^ 32) c (lit< tt) d-high (omega arith) (lit≤ tt) over s) root-least
 
-  -- the code's two tests
-  pub decided : (y h q : ℕ) → 2 ^ 62 ≤ y → y < 2 ^ 63 → h < 2 ^ 30 → Head h q → (q + 16) * (2 ^ 62 + d + 8) / 2 ^ 62 < y → y < q * (2 ^ 62 + d + 709) / 2 ^ 62 → bOf y 52 ≡ h * 2 ^ 22 + t
-  decided y h q y-low y-high small p one two =
+  -- the code's two tests, with margins e and f below, g above
+  pub decided : (y h q e f g : ℕ) → 2 ^ 62 ≤ y → y < 2 ^ 63 → h < 2 ^ 30 → Head h q → 16 ≤ e → 8 ≤ f → g ≤ 709
+      → (q + e) * (2 ^ 62 + d + f) / 2 ^ 62 < y → y < q * (2 ^ 62 + d + g) / 2 ^ 62 → bOf y 52 ≡ h * 2 ^ 22 + t
+  decided y h q e f g y-low y-high small p e-enough f-enough g-enough one two =
       bracket y (h * 2 ^ 22 + t) y-low y-high
-      (lower (2 ^ 52) (2 ^ 62) (h * 2 ^ 22) t q d y (lit< tt) (le-trans (lit< tt) (p .above)) (roomy d d-small) (under ((q + 16) * (2 ^ 62 + d + 8)) y one) (head-least h q small p) added-high)
-      (upper (2 ^ 52) (2 ^ 62) (h * 2 ^ 22) t q d y (lit< tt) (over (q * (2 ^ 62 + d + 709)) y two) (head-most h q small p) added-low)
+      (lower (2 ^ 52) (2 ^ 62) (h * 2 ^ 22) t q d y (lit< tt) (le-trans (lit< tt) (p .above)) (roomy d d-small)
+      (le-trans (mul-le-mul (more q e-enough) (more (2 ^ 62 + d) f-enough)) (under ((q + e) * (2 ^ 62 + d + f)) y one)) (head-least h q small p) added-high)
+      (upper (2 ^ 52) (2 ^ 62) (h * 2 ^ 22) t q d y (lit< tt) (lt-of-lt-of-le (over (q * (2 ^ 62 + d + g)) y two) (mul-le-mul-left q (more (2 ^ 62 + d) g-enough))) (head-most h q small p) added-low)
     where
       roomy : (d : ℕ) → d + 5 ≤ 3721400000 → 2 * d + 10 ≤ 2 ^ 62
       roomy d h = omega arith
+
+      more : (x : ℕ) {m n : ℕ} → m ≤ n → x + m ≤ x + n
+      more x h = omega arith
 
       under : (x y : ℕ) → x / 2 ^ 62 < y → x ≤ y * 2 ^ 62
       under x y h = omega arith

@@ -4,6 +4,7 @@ use mathlib.Core.Path.{ap}
 use mathlib.Core.Bool.{false}
 use Prim.Native.Nat.{ℕ, _*_, _^_}
 use native.Mathlib.Omega.{arith}
+use lib.Dec.{lit≤}
 use lib.Ieee.{binary64, round}
 use borrow.Author.Needs.{needs}
 use Rattle.powers.proofs.Bound.{power-below}
@@ -21,7 +22,7 @@ power-bits-requires : tie.Need-power-bits-requires
 power-bits-requires c κs = search needs
 
 returns : tie.Need-returns
-returns c = near-rounds _ _ (c .before .near-power .ensures) (c .if1 .taken)
+returns c = near-rounds _ _ _ _ (lit≤ tt) (lit≤ tt) (c .before .near-power .ensures) (c .if1 .taken)
 
 returns-2 : tie.Need-returns-2
 returns-2 c =

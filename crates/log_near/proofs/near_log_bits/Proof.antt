@@ -3,7 +3,7 @@
 use mathlib.Core.Path.{_≡_, refl, sym, ap, _∙_, subst}
 use Prim.Native.Nat.{ℕ, _+_, _*_, _/_, _^_, _≤_, _<_}
 use native.Mathlib.Omega.{arith}
-use lib.Dec.{lit<}
+use lib.Dec.{lit<, lit≤}
 use borrow.Author.Needs.{needs}
 use Rattle.powers.specs.Log.{bOf}
 use Rattle.powers.proofs.Turns.{b-size}
@@ -82,7 +82,7 @@ returns-2 c =
     let m = c .before .before .before in
     let h = m .before .before .before .before .before in
     let a = h .before .before in
-    let e = decided _ _ (m .before .if2 .taken) refl (a .args .y) _ _ (a .pre .0) (a .pre .1) (h .rough-log .ensures) (m .before .before .before .before .root-power .ensures)
+    let e = decided _ _ (m .before .if2 .taken) refl (a .args .y) _ _ _ _ _ (a .pre .0) (a .pre .1) (h .rough-log .ensures) (m .before .before .before .before .root-power .ensures) (lit≤ tt) (lit≤ tt) (lit≤ tt)
     (subst (λ (x : ℕ). x < a .args .y) (m .mul-shift62 .ensures) (c .before .before .if3 .taken))
     (subst (λ (x : ℕ). a .args .y < x) (c .before .mul-shift622 .ensures) (c .if4 .taken)) in
     record { is = sym e; below = subst (λ (x : ℕ). x < 2 ^ 52) e (b-size (a .args .y) 52) }
