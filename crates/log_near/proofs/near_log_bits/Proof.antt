@@ -1,24 +1,15 @@
 -- The result is B: by `decided` of Close.antt where the tests hold, else L's turns give it.
 -- No loop.
 use mathlib.Core.Path.{_≡_, refl, sym, ap, _∙_, subst}
-use Prim.Native.Nat.{ℕ, _+_, _*_, _/_, _^_, _≤_, _<_}
+use Prim.Native.Nat.{ℕ, _^_, _<_}
 use native.Mathlib.Omega.{arith}
 use lib.Dec.{lit<, lit≤}
 use borrow.Author.Needs.{needs}
 use Rattle.powers.specs.Log.{bOf}
 use Rattle.powers.proofs.Turns.{b-size}
-use Rattle.log_near.proofs.Close.{decided, none}
+use Rattle.log_near.proofs.Close.{divisor, sum-below, decided, none}
 use Rattle.log_near.proofs.near_log_bits.Statement.{statement}
 use Rattle.log_near.proofs.near_log_bits.Tie as tie
-
-divisor : (q r : ℕ) → 2 ^ 62 ≤ q → r ≡ q * 12786308645202655659 / 2 ^ 64 → 0 < r / 2097152
-divisor q r h e = omega arith
-
-below-top : (q : ℕ) → q + 16 < 2 ^ 63 → q < 2 ^ 63
-below-top q h = omega arith
-
-added : (t : ℕ) → t < 5242880 → 2 ^ 62 + t * 3048493539143 / 2 ^ 32 + 709 < 2 ^ 63
-added t h = omega arith
 
 rough-log-requires : tie.Need-rough-log-requires
 rough-log-requires c κs = search needs
@@ -39,7 +30,7 @@ mul-d : tie.Need-mul-d
 mul-d c = search needs
 
 add-mul-shift62 : tie.Need-add-mul-shift62
-add-mul-shift62 c = search needs
+add-mul-shift62 c = omega (arith, c .before .before .before .root-power .ensures .below)
 
 add-mul-shift62-2 : tie.Need-add-mul-shift62-2
 add-mul-shift62-2 c = search needs
@@ -48,7 +39,7 @@ add-mul-shift62-3 : tie.Need-add-mul-shift62-3
 add-mul-shift62-3 c = search needs
 
 mul-shift62-requires : tie.Need-mul-shift62-requires
-mul-shift62-requires c κs = search needs
+mul-shift62-requires c κs = let p = c .before .before .before .root-power .ensures in (omega (arith, p .below), sum-below _ _ (c .if2 .taken) (lit< tt))
 
 add-mul-shift62-4 : tie.Need-add-mul-shift62-4
 add-mul-shift62-4 c = search needs
@@ -57,7 +48,7 @@ add-mul-shift62-5 : tie.Need-add-mul-shift62-5
 add-mul-shift62-5 c = search needs
 
 mul-shift62-requires-2 : tie.Need-mul-shift62-requires-2
-mul-shift62-requires-2 c κs = let p = c .before .before .before .before .before .root-power .ensures in let f = c .before .before .if2 .taken in (below-top _ (p .below), added _ f)
+mul-shift62-requires-2 c κs = let p = c .before .before .before .before .before .root-power .ensures in let f = c .before .before .if2 .taken in (omega (arith, p .below), sum-below _ _ f (lit< tt))
 
 mul-result : tie.Need-mul-result
 mul-result c = search needs
