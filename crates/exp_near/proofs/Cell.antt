@@ -40,9 +40,9 @@ whole p low high =
     (λ i. units binary64 false (closest n (1 * 2 ^ (size-of p low high i - 53))) (size-of p low high i - 53))
     ∙ ap (λ (z : ℕ). units binary64 false z 1084) (closest-same n (1 * 2 ^ 1084) p 1024 (lit< tt) (lit< tt) (mul-assoc p (2 ^ 1074) 1024))
 
--- the test that the code makes: q is 45 above p at most, or 14 below; u is 511 - 45 at most, and w leaves room for 45 + 14 more
-module _ (p q : ℕ) (p-low : 2 ^ 62 ≤ p) (p-high : p < 2 ^ 63) (q-low : 2 ^ 62 ≤ q) (q-high : q < 2 ^ 63) (low : p ≤ q + 14) (high : q ≤ p + 45)
-    (u w : ℕ) (under : u ≤ 466) (over : w ≤ u + 498) (test : (q + u) % 1024 < w) where
+-- the test that the code makes: q is c above p at most, or 14 below; u and c are 511 at most, and w leaves room for what is above
+module _ (p q c : ℕ) (p-low : 2 ^ 62 ≤ p) (p-high : p < 2 ^ 63) (q-low : 2 ^ 62 ≤ q) (q-high : q < 2 ^ 63) (low : p ≤ q + 14) (high : q ≤ p + c)
+    (u w : ℕ) (under : u + c ≤ 511) (over : w ≤ u + 498) (test : (q + u) % 1024 < w) where
   same-cell : closest q 1024 ≡ closest p 1024
   same-cell =
       let j = (q + u) / 1024 in

@@ -1,3 +1,4 @@
+pub mod Counts
 pub mod Spread
 pub mod Lifts
 pub mod Tree

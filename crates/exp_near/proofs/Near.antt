@@ -14,6 +14,7 @@ use Rattle.power_parts.specs.Parts.{productOf, riseOf, Part, Rise}
 use Rattle.power_parts.proofs.Floors.{both, floor, at-least, three-low, more-low, pair-near}
 use Rattle.power_parts.proofs.Groups.{product-split, rise-split}
 use Rattle.exp_near.specs.Near.{Near}
+use Rattle.exp_near.proofs.Counts.{onesOf, few-ones, ones-most}
 use Rattle.exp_near.proofs.Spread.{Spread, spread}
 use Rattle.exp_near.proofs.Lifts.{lift}
 use Rattle.exp_near.proofs.Tree.{strict, under, top-end, low-end, least, highest, nearer}
@@ -44,8 +45,8 @@ sums b s n1 n2 n3 n4 r1 r2 r3 r4 e p1 p2 p3 p4 =
     sym (rise-split b s (n1 + n2) (n3 + n4) ∙ (λ i. x i + y i))
 
 module _ (b s A : ℕ) (from : 7 ≤ s) (pa : Power b s A) where
-  spread-from : (n : ℕ) → s + n ≤ 52 → Spread (2 ^ 62) A (productOf b s n) (pOf b (s + n)) n (many n) (tOf (s + n))
-  spread-from n h = subst (λ (x : ℕ). Spread (2 ^ 62) x (productOf b s n) (pOf b (s + n)) n (many n) (tOf (s + n))) (sym (pa .is)) (spread b s n from h)
+  spread-from : (n : ℕ) → s + n ≤ 52 → Spread (2 ^ 62) A (productOf b s n) (pOf b (s + n)) (onesOf b s n) (many n) (tOf (s + n))
+  spread-from n h = subst (λ (x : ℕ). Spread (2 ^ 62) x (productOf b s n) (pOf b (s + n)) (onesOf b s n) (many n) (tOf (s + n))) (sym (pa .is)) (spread b s n from h)
 
   inside : (n Z : ℕ) → s + n ≤ 52 → many n ≡ Z → A * productOf b s n < 2 * 2 ^ 62 * Z
   inside n Z h e = subst (λ (x : ℕ). A * productOf b s n < 2 * 2 ^ 62 * x) e
@@ -177,9 +178,9 @@ module _ (b s A : ℕ) (from : 7 ≤ s) (pa : Power b s A) where
             steps = omega arith
 
             -- P after all steps
-            ends : Spread (2 ^ 62) A (productOf b s (N + 20)) (pOf b 52) (N + 20) Z5 (tOf 52)
-            ends = subst (λ (z : ℕ). Spread (2 ^ 62) A (productOf b s (N + 20)) (pOf b 52) (N + 20) z (tOf 52)) all-many
-                (subst (λ (k : ℕ). Spread (2 ^ 62) A (productOf b s (N + 20)) (pOf b k) (N + 20) (many (N + 20)) (tOf k)) steps (spread-from (N + 20) (omega arith)))
+            ends : Spread (2 ^ 62) A (productOf b s (N + 20)) (pOf b 52) (onesOf b s (N + 20)) Z5 (tOf 52)
+            ends = subst (λ (z : ℕ). Spread (2 ^ 62) A (productOf b s (N + 20)) (pOf b 52) (onesOf b s (N + 20)) z (tOf 52)) all-many
+                (subst (λ (k : ℕ). Spread (2 ^ 62) A (productOf b s (N + 20)) (pOf b k) (onesOf b s (N + 20)) (many (N + 20)) (tOf k)) steps (spread-from (N + 20) (omega arith)))
 
             pub is-near : (q : ℕ) → q ≡ q4 * (2 ^ 62 + S) / 2 ^ 62 → Near b q
             is-near q e =
@@ -191,6 +192,8 @@ module _ (b s A : ℕ) (from : 7 ≤ s) (pa : Power b s A) where
                 let u2 = at-least G2 G3 q2 e2 (p2 .above) (p3 .above) in
                 let u3 = at-least q1 q2 q3 e3 u1 u2 in
                 let u4 = at-least q3 G4 q4 e4 u3 (p4 .above) in
+                let top : q ≤ pOf b 52 + onesOf b s (N + 20) = highest q (pOf b 52) (onesOf b s (N + 20)) K (lit< tt) (omega (arith, few-ones b s (N + 20), steps))
+                (le-trans (mul-le-mul-left 256 all-under) (top-end A (productOf b s (N + 20)) Z5 Gs K (256 * pOf b 52 + 257 * onesOf b s (N + 20)) all-some all-from (ends .high))) in
                 record {
                   above = at-least q4 (2 ^ 62 + S) q e u4 (more S);
                   below = under (2 ^ 62) A (productOf b s (N + 20)) Z5 Gs K q all-some (lit< tt) (inside (N + 20) Z5 (omega arith) all-many) all-from all-under;
@@ -198,9 +201,8 @@ module _ (b s A : ℕ) (from : 7 ≤ s) (pa : Power b s A) where
                       least (2 ^ 62) A G1 G2 G3 G4 (2 ^ 62 + S) q1 q2 q3 q4 q (pOf b 52) (lit≤ tt) (floor A G1 q1 e1) (floor G2 G3 q2 e2) (floor q1 q2 q3 e3) f4 f
                       (power-below b s A (omega arith) pa) a2 a3 a4 first-below three-below four-below (room S s-below)
                       (low-end (pOf b 52) A (productOf b s (N + 20)) Z5 H L all-some (ends .low) all-to);
-                  high =
-                      highest q (pOf b 52) (N + 20) K (lit< tt) (omega arith)
-                      (le-trans (mul-le-mul-left 256 all-under) (top-end A (productOf b s (N + 20)) Z5 Gs K (256 * pOf b 52 + 257 * (N + 20)) all-some all-from (ends .high)));
+                  high = omega (arith, top, ones-most b s (N + 20) steps);
+                  most = omega (arith, top, few-ones b s (N + 20), steps);
                 }
               where
                 more : (S : ℕ) → 2 ^ 62 ≤ 2 ^ 62 + S

@@ -1,12 +1,13 @@
--- P against the exact product of what its steps multiply by: each step loses less than 1, and the later factors are too near 1 to
--- make more of it. Assumes nothing.
+-- P against the exact product of what its steps multiply by: each step whose bit is set loses less than 1, the others nothing, and the
+-- later factors are too near 1 to make more of it. Assumes nothing.
 use mathlib.Core.Path.{_≡_, ap, _∙_, subst}
-use mathlib.Core.Bool.{Bool, true, false}
+use mathlib.Core.Logic.{_≢_}
+use mathlib.Core.Bool.{Bool, true, false, not}
 use Prim.Native.Nat.{ℕ, zero, suc, _+_, _-_, _*_, _/_, _%_, _^_, _≤_, _<_}
-use native.Mathlib.Nat.{le-trans, le-of-lt, mul-le-mul-left, mul-le-mul-right, add-zero, add-suc, pow-suc, pow-zero, div-add-mod', mod-lt}
+use native.Mathlib.Nat.{le-trans, le-of-lt, mul-le-mul-left, mul-le-mul-right, add-zero, add-suc, pow-suc, pow-zero, mul-div-cancel, div-add-mod', mod-lt}
 use native.Mathlib.Numerals.{add-one}
 use native.Mathlib.Omega.{arith}
-use lib.Dec.{T, eqb, leb, leb→le, lit<, lit≤}
+use lib.Dec.{T, eqb, leb, eqb→eq, leb→le, lit<, lit≤}
 use lib.ListN.{getD}
 use lib.Pow.{pow-add, pow-mono}
 use Rattle.base.specs.Said.{pick}
@@ -17,6 +18,7 @@ use Rattle.powers.proofs.Factors.{entries}
 use Rattle.powers.proofs.Entries.{t-entry, t-above}
 use Rattle.powers.proofs.Bound.{t-square, p-step, powers}
 use Rattle.power_parts.specs.Parts.{productOf}
+use Rattle.exp_near.proofs.Counts.{onesOf, few-ones}
 
 -- ---- T_k is 2 ^ 62 + 2 ^ 62 / 2 ^ k at most
 near : ℕ → ℕ → Bool
@@ -49,30 +51,48 @@ good b k h = go (eqb (b / 2 ^ (52 - suc k) % 2) 1)
     go true = record { above = up; near = t-near k h; flat = sq }
     go false = record { above = lit≤ tt; near = omega arith; flat = le-trans (mul-le-mul-right (tOf (suc k)) up) sq }
 
--- ---- P0 is P where the product X of n factors begins, P where it ends; Z is M ^ n, T the last entry used
-pub record Spread (M P0 X P n Z T : ℕ) : Type 0 where
+-- ---- P0 is P where the product X of some factors begins, P where it ends; c of them are no 1; Z is M to how many they are, T the last entry used
+pub record Spread (M P0 X P c Z T : ℕ) : Type 0 where
   pub low : P * Z ≤ P0 * X
-  pub high : 256 * (P0 * X) ≤ (256 * P + 257 * n) * Z
+  pub high : 256 * (P0 * X) ≤ (256 * P + 257 * c) * Z
   pub bound : P0 * X * T ≤ 2 * M * M * Z
 
--- one factor more: Q is P * F / M, rounded down
-next : (M P0 X P n Z T F W U Q : ℕ) → 257 * n ≤ W → Q * M ≤ P * F → P * F < Q * M + M → Good M F W T U → Spread M P0 X P n Z T → Spread M P0 (X * F) Q (suc n) (Z * M) U
-next M P0 X P n Z T F W U Q few q-low q-high g h =
+-- one factor more: Q is P * F / M, rounded down; where d is 0 the factor is 1, and nothing is lost
+record Step (M P c F Q d : ℕ) : Type 0 where
+  low : Q * M ≤ P * F
+  high : P * F ≤ Q * M + d * M
+  grown : 257 * c * F ≤ 257 * c * M + d * M
+
+next : (M P0 X P c Z T F U Q d : ℕ) → Step M P c F Q d → F * U ≤ M * T → Spread M P0 X P c Z T → Spread M P0 (X * F) Q (c + d) (Z * M) U
+next M P0 X P c Z T F U Q d g flat h = record {
+  low = omega (arith, mul-le-mul-right Z (g .low), mul-le-mul-right F (h .low));
+  high = omega (arith, mul-le-mul-right F (h .high), mul-le-mul-right Z (g .high), mul-le-mul-right Z (g .grown));
+  bound = omega (arith, mul-le-mul-left (P0 * X) flat, mul-le-mul-right M (h .bound));
+}
+
+-- the earlier losses grow by less than 1 / 256
+grow : (M c F W : ℕ) → 257 * c ≤ W → M ≤ F → F * W ≤ M * W + M → 257 * c * F ≤ 257 * c * M + 1 * M
+grow M c F W few above near =
     let t = F - M in
-    let e : F ≡ M + t = let a = g .above in omega arith in
-    let small : 257 * n * t ≤ M =
-    let a : t * W ≤ M = let b = g .near in omega (arith, ap (λ (x : ℕ). x * W) e) in
-    le-trans (mul-le-mul-right t few) (omega arith) in
-    let over : 257 * n * F ≤ 257 * n * M + M = omega (arith, ap (λ (x : ℕ). 257 * n * x) e) in
-    record {
-      low = omega (arith, mul-le-mul-right Z q-low, mul-le-mul-right F (h .low));
-      high = omega (arith, mul-le-mul-right F (h .high), mul-le-mul-right Z (le-of-lt q-high), mul-le-mul-right Z over);
-      bound = omega (arith, mul-le-mul-left (P0 * X) (g .flat), mul-le-mul-right M (h .bound));
-    }
+    let e : F ≡ M + t = omega arith in
+    let a : t * W ≤ M = omega (arith, ap (λ (x : ℕ). x * W) e) in
+    let small : 257 * c * t ≤ M = le-trans (mul-le-mul-right t few) (omega arith) in
+    omega (arith, ap (λ (x : ℕ). 257 * c * x) e)
+
+step : (P c G Q d W : ℕ) (t : Bool) → (T t → d ≡ 1) → (T (not t) → d ≢ 1) → d < 2 → Q ≡ P * pick t G (2 ^ 62) / 2 ^ 62 → 257 * c ≤ W → 2 ^ 62 ≤ G → G * W ≤ 2 ^ 62 * W + 2 ^ 62
+    → Step (2 ^ 62) P c (pick t G (2 ^ 62)) Q d
+step P c G Q d W true f g two e few above near =
+    let o = div-add-mod' (P * G) (2 ^ 62) in
+    let m = mod-lt (P * G) {m = 2 ^ 62} (lit< tt) in
+    rw (f tt, e) (record { low = omega arith; high = omega arith; grown = grow (2 ^ 62) c G W few above near })
+step P c G Q d W false f g two e few above near =
+    let n = g tt in
+    let z : d ≡ 0 = omega arith in
+    rw (z, e, mul-div-cancel P {n = 2 ^ 62} (lit< tt)) (record { low = omega arith; high = omega arith; grown = omega arith })
 
 -- from step 7 on
-few : (s n : ℕ) → 7 ≤ s → n ≤ 52 → 257 * n ≤ 2 ^ suc (s + n)
-few s n h l =
+few : (s n c : ℕ) → 7 ≤ s → n ≤ 52 → c ≤ n → 257 * c ≤ 2 ^ suc (s + n)
+few s n c h l b =
     let two : (n : ℕ) → n < 2 ^ n = twos in
     let q : suc (s + n) ≡ suc s + n = omega arith in
     let e : 2 ^ suc (s + n) ≡ 2 ^ suc s * 2 ^ n = ap (λ (x : ℕ). 2 ^ x) q ∙ pow-add 2 (suc s) n in
@@ -83,16 +103,16 @@ few s n h l =
     twos zero = lit< tt
     twos (suc n) = let h = twos n in omega arith
 
-pub spread : (b s n : ℕ) → 7 ≤ s → s + n ≤ 52 → Spread (2 ^ 62) (pOf b s) (productOf b s n) (pOf b (s + n)) n ((2 ^ 62) ^ n) (tOf (s + n))
-unfolding productOf
+pub spread : (b s n : ℕ) → 7 ≤ s → s + n ≤ 52 → Spread (2 ^ 62) (pOf b s) (productOf b s n) (pOf b (s + n)) (onesOf b s n) ((2 ^ 62) ^ n) (tOf (s + n))
+unfolding productOf onesOf
 spread b s zero h l =
     let i = powers b s (omega arith) in
     rw (add-zero s, pow-zero (2 ^ 62)) (record { low = omega arith; high = omega arith; bound = omega (arith, i .bound) })
 spread b s (suc n) h l =
     let k = s + n in
-    let F = factorOf b (suc k) in
-    let e = div-add-mod' (pOf b k * F) (2 ^ 62) in
-    let m = mod-lt (pOf b k * F) {m = 2 ^ 62} (lit< tt) in
-    rw (add-suc s n, p-step b k, pow-suc (2 ^ 62) n)
-    (next (2 ^ 62) (pOf b s) (productOf b s n) (pOf b k) n ((2 ^ 62) ^ n) (tOf k) F (2 ^ suc k) (tOf (suc k)) _ (few s n h (omega arith))
-    (omega arith) (omega arith) (good b k (omega arith)) (spread b s n h (omega arith)))
+    let d = b / 2 ^ (52 - suc k) % 2 in
+    let g = good b k (omega arith) in
+    rw (add-suc s n, pow-suc (2 ^ 62) n)
+    (next (2 ^ 62) (pOf b s) (productOf b s n) (pOf b k) (onesOf b s n) ((2 ^ 62) ^ n) (tOf k) (factorOf b (suc k)) (tOf (suc k)) (pOf b (suc k)) d
+    (step (pOf b k) (onesOf b s n) (tOf (suc k)) (pOf b (suc k)) d (2 ^ suc k) (eqb d 1) (eqb→eq d 1) (λ t e. subst (λ (x : ℕ). T (not (eqb x 1))) e t) (mod-lt (b / 2 ^ (52 - suc k)) {m = 2} (lit< tt)) (p-step b k)
+    (few s n (onesOf b s n) h (omega arith) (few-ones b s n)) (le-of-lt (t-above (suc k) (omega arith))) (t-near k (omega arith))) (g .flat) (spread b s n h (omega arith)))

@@ -64,8 +64,8 @@ module _ (M A G1 G2 G3 G4 D q1 q2 q3 q4 q P : ℕ) (big : 2 ^ 52 ≤ M) (f1 : Fl
       let l : 65536 * P ≤ 65536 * q + 975489 = le-of-mul-le-mul-right k (mul-pos (mul-pos (mul-pos (mul-pos pos pos) pos) pos) pos) in
       omega (arith, l)
 
-pub highest : (q P n K : ℕ) → 0 < K → n ≤ 45 → 256 * (q * K) ≤ (256 * P + 257 * n) * K → q ≤ P + 45
-highest q P n K pos few h = let l : 256 * q ≤ 256 * P + 257 * n = le-of-mul-le-mul-right {k = K} (omega arith) pos in omega arith
+pub highest : (q P c K : ℕ) → 0 < K → c < 256 → 256 * (q * K) ≤ (256 * P + 257 * c) * K → q ≤ P + c
+highest q P c K pos few h = let l : 256 * q ≤ 256 * P + 257 * c = le-of-mul-le-mul-right {k = K} (omega arith) pos in omega arith
 
 -- a factor that has at most a W-th beyond M has at most a 16,384th, where W is that much
 pub nearer : (M W G : ℕ) → 16384 ≤ W → M ≤ G → G * W ≤ M * W + M → 16384 * G ≤ 16385 * M

@@ -26,12 +26,14 @@ pub fn near_power(b: u64) -> u64
     wide::mul_shift62(most, ONE + (high + low))
 }
 
-// A number that rounds as P does: one near P where no middle of two f64s can lie between them, else P itself.
+// A number that rounds as P does: one near P where no middle of two f64s can lie between them, else P itself. The near one is
+// above P by one for each set bit of b at most.
 pub fn power_to_round(b: u64) -> u64
     ensures { λ r. ⌜ Alike b r ⌝ }
 {
     let q = near_power(b);
-    if (q + 466) % 1024 < 964 {
+    let set = u64::count_ones(b) as u64;
+    if (q + (511 - set)) % 1024 < 1009 - set {
         q
     } else {
         power_bits(b)
