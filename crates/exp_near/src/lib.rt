@@ -1,6 +1,11 @@
-// P of E, fast: a number near P from tables, and where that could round another way than P, P itself by its steps.
+// P of E, fast and rounded: by a number near P from tables, and where that could round another way than P, by P itself, from its steps.
+ghost use mathlib.Core.Path.{_≡_};
+ghost use mathlib.Core.Bool.{false};
+ghost use Prim.Native.Nat.{_*_, _^_, _≤_};
+ghost use lib.Ieee.{binary64, round};
+ghost use Rattle.powers.specs.Exp.{pOf};
 ghost use Rattle.powers.specs.Inner.{Power};
-ghost use Rattle.exp_near.specs.Near.{Near, Alike};
+ghost use Rattle.exp_near.specs.Near.{Near};
 
 // 2^62 stands for 1 in P.
 const ONE: u64 = 0x4000_0000_0000_0000;
@@ -26,16 +31,17 @@ pub fn near_power(b: u64) -> u64
     wide::mul_shift62(most, ONE + (high + low))
 }
 
-// A number that rounds as P does: one near P where no middle of two f64s can lie between them, else P itself. The near one is
-// above P by one for each set bit of b at most.
-pub fn power_to_round(b: u64) -> u64
-    ensures { λ r. ⌜ Alike b r ⌝ }
+// The f64 nearest to P * 2^(n - 1086): by the number near P where no middle of two f64s can lie between them, else by P. The near one
+// is above P by one for each set bit of b at most.
+pub fn nearest_to_power(b: u64, n: u64) -> f64
+    requires { ⌜ (124 ≤ n) × (n ≤ 1924) ⌝ }
+    ensures { λ r. ⌜ r ≡ round binary64 false (pOf b 52 * 2 ^ n) (2 ^ 1086) ⌝ }
 {
-    let q = near_power(b);
     let set = u64::count_ones(b) as u64;
-    if (q + (511 - set)) % 1024 < 1009 - set {
-        q
+    let moved = near_power(b) + (511 - set);
+    if moved % 1024 < 1009 - set {
+        f64::from_bits((n - 2) * 0x10_0000_0000_0000 + moved / 1024)
     } else {
-        power_bits(b)
+        rounding::nearest_power(power_bits(b), n)
     }
 }

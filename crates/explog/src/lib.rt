@@ -56,8 +56,7 @@ pub fn exp2(x: f64) -> floats::FloatAnswer
     if is_in_powers(x) {
         let parts = floats::unpack(x);
         let f = floor_sum(parts.negative, parts.digits, parts.exponent);
-        let p = exp_near::power_to_round(f % PARTS);
-        floats::FloatAnswer::Is(rounding::nearest_power(p, f / PARTS))
+        floats::FloatAnswer::Is(exp_near::nearest_to_power(f % PARTS, f / PARTS))
     } else {
         floats::FloatAnswer::Refused(base::Refusal {
             number: base::BEYOND_REACH,
