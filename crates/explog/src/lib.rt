@@ -16,27 +16,36 @@ const PARTS: u64 = 0x10_0000_0000_0000;
 // 1022 * 2^52: the exponent of 1.0 among those that count from 2^-1074, in parts.
 const PARTS_OF_ONE: u64 = 0x3fe0_0000_0000_0000;
 
+// The s lowest bits, set below zero alone: what rounds a quotient by 2^s up.
+fn rounding_up(negative: bool, s: u64) -> u64
+    requires { ⌜ s < 64 ⌝ }
+    ensures { λ r. ⌜ r ≡ pick negative (2 ^ s - 1) 0 ⌝ }
+{
+    if negative { (1u64 << s) - 1 } else { 0 }
+}
+
+// 2^62 + w, or below zero 2^62 - w.
+fn moved_up(negative: bool, w: u64) -> u64
+    requires { ⌜ w ≤ 2 ^ 62 ⌝ }
+    ensures { λ r. ⌜ r ≡ pick negative (2 ^ 62 - w) (2 ^ 62 + w) ⌝ }
+{
+    if negative { ONE - w } else { ONE + w }
+}
+
 // The whole part of 2^62 + v or 2^62 - v, for v = d * 2^(k - 1022), at most 2^62: E's f, moved up to be above zero.
 fn floor_sum(negative: bool, d: u64, k: u64) -> u64
     requires { ⌜ d < 2 ^ 53 ⌝ ∗ ⌜ d * 2 ^ k ≤ 2 ^ 1084 ⌝ ∗ ⌜ k ≤ 1032 ⌝ }
     ensures { λ r. ⌜ r ≡ pick negative (2 ^ 1084 - d * 2 ^ k) (2 ^ 1084 + d * 2 ^ k) / 2 ^ 1022 ⌝ }
 {
-    if 1022 <= k {
-        let w = d << (k - 1022);
-        if negative { ONE - w } else { ONE + w }
-    } else if k <= 959 {
+    if k <= 968 {
         if negative {
             if d == 0 { ONE } else { ONE - 1 }
         } else {
             ONE
         }
     } else {
-        let s = 1022 - k;
-        if negative {
-            ONE - ((d + ((1u64 << s) - 1)) >> s)
-        } else {
-            ONE + (d >> s)
-        }
+        let s = 1032 - k;
+        moved_up(negative, (d * 1024 + rounding_up(negative, s)) >> s)
     }
 }
 

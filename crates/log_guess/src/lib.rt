@@ -11,11 +11,14 @@ pub fn rough_log(y: u64) -> u64
     let i = y / 0x80_0000_0000_0000 % 128;
     let r = wide::high_product(y << 1, crate::table::inverse(i));
     let s = std::num::wrapping_sub_u64(r, 0x4000_0000_0000_0000) << 2;
-    let second = std::num::wrapping_sub_u64(
+    let slope = std::num::wrapping_sub_u64(
         0x2e2a_5b51_0000_0000,
         wide::high_product(s, 0x1e82_0000_0000_0000),
     );
-    let first = std::num::wrapping_sub_u64(0x5c55_1d89_0000_0000, wide::high_product(s, second));
-    let log = std::num::wrapping_add_u64(wide::high_product(s, first), crate::table::logarithm(i));
+    let rise = std::num::wrapping_sub_u64(
+        wide::high_product(s, 0x5c55_1d89_0000_0000),
+        wide::high_product(wide::high_product(s, s), slope),
+    );
+    let log = std::num::wrapping_add_u64(rise, crate::table::logarithm(i));
     log / 0x1_0000_0000 % 0x4000_0000
 }

@@ -186,8 +186,8 @@ module _ (t d : ℕ) (few : t < 5242880) (d-is : d ≡ t * 3048493539143 / 2 ^ 3
       over x y h = omega arith
 
 -- what the code's steps ask for: the divisor is not zero, the sums stay below 2 ^ 63
-pub divisor : (q r : ℕ) → 2 ^ 62 ≤ q → r ≡ q * 12786308645202624512 / 2 ^ 64 → 0 < r / 2097152
-divisor q r h e = omega arith
+pub divisor : (y r : ℕ) → 2 ^ 62 ≤ y → r ≡ y * 12786308645202624512 / 2 ^ 64 → 0 < r / 2097152
+divisor y r h e = omega arith
 
 pub sum-below : (t m : ℕ) → t < 5242880 → m < 2 ^ 32 → 2 ^ 62 + t * 3048493539143 / 2 ^ 32 + m < 2 ^ 63
 sum-below t m h k = omega arith

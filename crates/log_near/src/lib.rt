@@ -27,7 +27,7 @@ pub fn near_log_bits(y: u64) -> u64
         let h = log_guess::rough_log(y);
         let q = root_power(h);
         let rest = std::num::wrapping_sub_u64(y, q) << 31;
-        let t = rest / (wide::high_product(q, 0xb172_17f7_d1cf_0000) / 0x20_0000);
+        let t = rest / (wide::high_product(y, 0xb172_17f7_d1cf_0000) / 0x20_0000);
         if t < 5242880 {
             let d = t * 3048493539143 / 0x1_0000_0000;
             if wide::mul_shift62(q + 16, ONE + d + 8) < y {

@@ -24,7 +24,7 @@ high-product-requires : tie.Need-high-product-requires
 high-product-requires c κs = search needs
 
 div-t : tie.Need-div-t
-div-t c = divisor _ _ (c .before .before .root-power .ensures .above) (c .high-product .ensures)
+div-t c = divisor _ _ (c .before .before .before .before .before .pre .0) (c .high-product .ensures)
 
 mul-d : tie.Need-mul-d
 mul-d c = search needs
