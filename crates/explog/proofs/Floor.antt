@@ -1,7 +1,7 @@
 -- The whole part of Q + v / P and of Q - v / P, and of v / P for a v that is d * 2 ^ k and a P that is 2 ^ 1022. Assumes nothing.
 use mathlib.Core.Path.{_≡_, sym, ap, _∙_}
 use Prim.Native.Nat.{ℕ, suc, _+_, _-_, _*_, _/_, _%_, _^_, _≤_, _<_}
-use native.Mathlib.Nat.{le-trans, le-of-eq, le-of-suc-le-suc, lt-of-lt-of-le, add-mul, suc-mul, zero-mul, one-mul, mul-assoc, mul-comm, mul-div-cancel, mul-div-mul-right, div-add-mod', mod-lt, div-lt-iff-lt-mul, div-eq-of-lt, le-of-mul-le-mul-right, div-div-eq-div-mul, div-le-of-le-mul, mul-pos, pos-of-ne-zero, add-zero}
+use native.Mathlib.Nat.{le-trans, le-of-suc-le-suc, lt-of-lt-of-le, add-mul, suc-mul, zero-mul, one-mul, mul-assoc, mul-comm, mul-div-mul-right, div-add-mod', mod-lt, div-lt-iff-lt-mul, div-eq-of-lt, div-div-eq-div-mul, div-le-of-le-mul, mul-pos, pos-of-ne-zero, add-zero}
 use native.Mathlib.Omega.{arith}
 use lib.Dec.{lit<, lit≤}
 use lib.Arith.{digits-div}
