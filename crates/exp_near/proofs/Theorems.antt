@@ -26,5 +26,5 @@ pub ones-few : (b : ℕ) → b < 2 ^ 64 → ones b ≤ 64
 ones-few = ones-le 64
 
 -- the bits are no NaN's
-pub no-nan-there : (r u n : ℕ) → r < 2 ^ 63 → u ≤ 511 → n ≤ 1924 → T (not (nanBits binary64 ((n - 2) * 2 ^ 52 + (r + u) / 1024)))
+pub no-nan-there : (r u n : ℕ) → r < 2 ^ 63 → u ≤ 1024 → n ≤ 1924 → T (not (nanBits binary64 ((n - 2) * 2 ^ 52 + (r + u) / 1024)))
 no-nan-there r u n h l to = no-nan _ (omega arith)
