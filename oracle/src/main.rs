@@ -3,6 +3,7 @@
 //! - `oracle` compares and prints a line for each function: cases tried, refusals met, differences. Any difference, and any
 //!   function with no case, makes it fail.
 //! - `oracle bench` times the two sides in one run.
+//! - `oracle powers COUNT SEED` compares COUNT numbers each for E and L, COUNT - say 100000000 - in about a minute.
 //! - `oracle differences` prints the rows of docs/DIFFERENCES.md, which the comparison runs.
 //! - `oracle freeze CRATES` writes a sample of the answers for the programs that replay them.
 
@@ -63,6 +64,10 @@ fn main() -> ExitCode {
             bench::bench();
             ExitCode::SUCCESS
         }
+        ["powers", count, seed] => match (count.parse(), seed.parse()) {
+            (Ok(count), Ok(seed)) if powers::many(count, seed) => ExitCode::SUCCESS,
+            _ => ExitCode::FAILURE,
+        },
         ["differences"] => {
             differences::print();
             ExitCode::SUCCESS
@@ -75,7 +80,7 @@ fn main() -> ExitCode {
             }
         },
         _ => {
-            eprintln!("usage: oracle [bench | differences | freeze CRATES]");
+            eprintln!("usage: oracle [bench | powers COUNT SEED | differences | freeze CRATES]");
             ExitCode::FAILURE
         }
     }
