@@ -44,7 +44,7 @@ extern "C" {
 #define TELBIJAN_FORMAL_OCTAVE_MISSING 15 /* a builder with entries and no formal octave */
 #define TELBIJAN_KEY_OUT_OF_RANGE 16 /* the key is outside the range */
 #define TELBIJAN_UNMAPPED_KEY 17 /* the key is unmapped */
-#define TELBIJAN_BEYOND_REACH 18 /* a computed pitch or ratio is outside 2^-900..2^900 */
+#define TELBIJAN_BEYOND_REACH 18 /* beyond reach: a period of 1.0, 0 divisions, or a computed pitch or ratio outside its range */
 
 /* A scale is seven columns, each lent with its length, and `count` beside them. Four columns hold the items, place for place: `kind`,
  * `cents`, `numer`, `denom`. Place 0 holds the implicit 0.0 cents, item j stands at place j, and the last item is the period. The
@@ -354,7 +354,7 @@ static inline const char *telbijan_reason(uint32_t number) {
     case TELBIJAN_FORMAL_OCTAVE_MISSING: return "a builder with entries and no formal octave";
     case TELBIJAN_KEY_OUT_OF_RANGE: return "the key is outside the range";
     case TELBIJAN_UNMAPPED_KEY: return "the key is unmapped";
-    case TELBIJAN_BEYOND_REACH: return "a computed pitch or ratio is outside 2^-900..2^900";
+    case TELBIJAN_BEYOND_REACH: return "beyond reach: a period of 1.0, 0 divisions, or a computed pitch or ratio outside its range";
     default: return "no number of this library";
     }
 }
@@ -379,7 +379,7 @@ typedef struct telbijan_root {
     int32_t offset;
 } telbijan_root;
 
-/* A mapping: a lent table of `room` places, and its numbers. */
+/* A mapping: a lent table of `room` places, and its numbers. One without entries needs no place, yet its pointer is not null. */
 typedef struct telbijan_mapping {
     int32_t *map;
     size_t room;

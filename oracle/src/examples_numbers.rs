@@ -94,12 +94,13 @@ fn ratios(tally: &mut Tally) {
         let cents = one(t, "as_cents", ratio);
         close(t, cents, said);
     }
-    for (name, x, y, said) in [("repeated", 200.0, 3.0, 600.0), ("divided_into_equal_steps", 1200.0, 15.0, 80.0)] {
-        let x = one(t, "from_cents", x);
-        let ratio = two(t, name, x, y);
-        let cents = one(t, "as_cents", ratio);
-        close(t, cents, said);
-    }
+    let tone = one(t, "from_semitones", 2.0);
+    let tones = two(t, "repeated", tone, 3.0);
+    let semitones = one(t, "as_semitones", tones);
+    close(t, semitones, 6.0);
+    let part = two(t, "divided_into_equal_steps", 2.0, 15.0);
+    let cents = one(t, "as_cents", part);
+    close(t, cents, 80.0);
     let step = one(t, "from_cents", 80.0);
     let count = two(t, "num_equal_steps_of_size", 2.0, step);
     close(t, count, 15.0);

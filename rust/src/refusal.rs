@@ -55,7 +55,7 @@ impl Refusal {
             15 => "a builder with entries and no formal octave",
             16 => "the key is outside the range",
             17 => "the key is unmapped",
-            18 => "a computed pitch or ratio is outside 2^-900..2^900",
+            18 => "beyond reach: a period of 1.0, 0 divisions, or a computed pitch or ratio outside its range",
             _ => "no number of this library",
         }
     }
