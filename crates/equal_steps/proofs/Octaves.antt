@@ -26,10 +26,10 @@ use Rattle.rounding.proofs.Power.{ratio-finite}
 use Rattle.explog.specs.Exp.{tOf}
 use Rattle.explog.specs.Log.{bOf, yOf, squared, halved}
 use Rattle.explog.specs.Rules.{L}
-use Rattle.explog.specs.Inner.{topBit}
+use Rattle.powers.specs.Inner.{topBit}
 use Rattle.explog.proofs.Reach.{log-sized}
 use Rattle.explog.proofs.Sides.{Sided, upward, downward, side-of}
-use Rattle.explog.proofs.Turns.{bit-set, bit-clear, bit-small}
+use Rattle.powers.proofs.Turns.{bit-set, bit-clear, bit-small}
 use Rattle.explog.proofs.Values.{Logged, answered, logged}
 use Rattle.equal_steps.proofs.Small.{Small, Powered, round-small}
 

@@ -20,8 +20,8 @@ use Rattle.floats.proofs.Compare.{le-pos}
 use Rattle.floats.proofs.Sized.{Sized, sized, round-sized}
 use Rattle.explog.specs.Exp.{tOf, pOf, stepE}
 use Rattle.explog.specs.Rules.{E, L, inPowers, floorOf, powerOf}
-use Rattle.explog.proofs.Bound.{powers}
-use Rattle.explog.proofs.Entries.{t-above}
+use Rattle.powers.proofs.Bound.{powers}
+use Rattle.powers.proofs.Entries.{t-above}
 use Rattle.explog.proofs.Floor.{plus}
 use Rattle.explog.proofs.LiteralE.{e-literal}
 use Rattle.explog.proofs.Plain.{plainFloor, plainPower}

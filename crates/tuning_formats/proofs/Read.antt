@@ -15,7 +15,7 @@ use Rattle.base.specs.Numbers.{overflow, no-room, beyond-reach}
 use Rattle.base.specs.Said.{Said, gives, refuses, pick, andThen}
 use Rattle.floats.proofs.Between.{within-more, within-reach}
 use Rattle.floats.proofs.Ranges.{pitch-says}
-use Rattle.key.specs.Keys.{key}
+use Rattle.key.specs.Keys.{key, stepsBetween}
 use Rattle.key.specs.declared.PianoKey.{PianoKey}
 use Rattle.sorting.specs.Entries.{Entry}
 use Rattle.sorted.specs.Lent.{ListTable}
@@ -44,7 +44,7 @@ use Rattle.relative.specs.Scales.{tested}
 use Rattle.relative.proofs.Theorems.{place-le}
 use Rattle.rooted.specs.Pitches.{pitchOf}
 use Rattle.rooted.proofs.Theorems.{offset-turned, pitch-refusals}
-use Rattle.tuning.specs.Keys.{maybePitchOf, maybeDegreePitchOf}
+use Rattle.tuning.specs.Keys.{keyPitchOf, maybePitchOf, maybeDegreePitchOf}
 use Rattle.tuning.specs.Refusals.{KeySounds}
 use Rattle.tuning.proofs.Theorems.{key-sounds, maybe-pitch-of-degree-refused, maybe-pitch-of-degree-is}
 use Rattle.key_pitches.specs.Beside.{Beside}
@@ -99,6 +99,14 @@ module _ (text : List ℕ) (t : ItemTable) (l : ListTable) {d : List ℕ} {items
   read-pitch-far z =
       let is : tested (isItems (length items) left && isRoot (k .root)) (pitchOf (itemsIn (length items) left) (k .root) z) ≡ pitchOf (implicit ∷ items) (k .root) z = rw (its, root) (ap (λ (x : List Item). pitchOf x (k .root) z) (leaves-items text t l s room .1)) in
       (λ e. far z .0 (sym is ∙ e), λ x. is ∙ far z .1 x)
+
+  -- of `pitch_of_key`, where the key lies z steps from the reference key
+  pub read-key-far : (at : PianoKey) (z : ℤ) → stepsBetween (k .root .reference) at ≡ gives z →
+      (tested (isItems (length items) left && isRoot (k .root)) (keyPitchOf (itemsIn (length items) left) (k .root) at) ≡ refuses beyond-reach 0) ↔ FarPitch (implicit ∷ items) (k .root) z
+  read-key-far at z e =
+      let is : tested (isItems (length items) left && isRoot (k .root)) (keyPitchOf (itemsIn (length items) left) (k .root) at) ≡ pitchOf (implicit ∷ items) (k .root) z =
+      rw (its, root) (ap (λ (d : Said ℤ). andThen d (pitchOf (itemsIn (length items) left) (k .root))) e ∙ ap (λ (x : List Item). pitchOf x (k .root) z) (leaves-items text t l s room .1)) in
+      (λ q. far z .0 (sym is ∙ q), λ x. is ∙ far z .1 x)
 
   -- and of `maybe_pitch_of`, where the key has the degree z
   pub read-maybe-far : (at : PianoKey) (z : ℤ) → degreeOf k (tableOf (k .count) (afterRead mapping map)) at ≡ gives z →
