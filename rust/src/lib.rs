@@ -34,6 +34,7 @@ extern crate alloc;
 mod mapping;
 #[cfg(feature = "alloc")]
 mod owned;
+pub mod ratio;
 mod raw;
 mod refusal;
 mod scale;
