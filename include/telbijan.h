@@ -44,7 +44,7 @@ extern "C" {
 #define TELBIJAN_FORMAL_OCTAVE_MISSING 15 /* a builder with entries and no formal octave */
 #define TELBIJAN_KEY_OUT_OF_RANGE 16 /* the key is outside the range */
 #define TELBIJAN_UNMAPPED_KEY 17 /* the key is unmapped */
-#define TELBIJAN_BEYOND_REACH 18 /* a computed pitch or ratio is outside 2^-900..2^900 */
+#define TELBIJAN_BEYOND_REACH 18 /* beyond reach: a period of 1.0, 0 divisions, or a computed pitch or ratio outside its range */
 
 /* A scale is seven columns, each lent with its length, and `count` beside them. Four columns hold the items, place for place: `kind`,
  * `cents`, `numer`, `denom`. Place 0 holds the implicit 0.0 cents, item j stands at place j, and the last item is the period. The
@@ -276,16 +276,17 @@ uint64_t telbijan_pitches_of(const uint8_t *kind, size_t kind_length, const doub
 /* ---- Searches for C: the degree or key that comes nearest to a ratio or a pitch, over a scale's lent columns. */
 
 /* The degree whose relative pitch comes nearest to a ratio, and how far the ratio lies above it, a ratio, both stored: 10 for items or a
-   list that cannot be used and for a ratio outside 2^-64..2^64, 18 in a scale of one item with period 1.0, 11 where the degree passes 32
-   bits. Of two that come equally near, within 0.999999, it is the lower one. */
+   list that cannot be used and for a ratio outside 2^-64..2^64; 18 in a scale of one item with period 1.0, and where a step leaves
+   2^-900..2^900, which in a list that was built or read none does; 11 where the degree passes 32 bits. Of two that come equally near,
+   within 0.999999, it is the lower one. A scale without items answers degree 0 with the ratio itself. */
 uint64_t telbijan_find_by_relative_pitch(const uint8_t *kind, size_t kind_length, const double *cents, size_t cents_length, const uint32_t *numer, size_t numer_length, const uint32_t *denom, size_t denom_length, const uint32_t *place, size_t place_length, const double *ratio, size_t ratio_length, const int32_t *wraps, size_t wraps_length, uint16_t count, double target, int32_t *degree, double *deviation);
 
 /* The same, the degree counted in ascending order. */
 uint64_t telbijan_find_by_relative_pitch_sorted(const uint8_t *kind, size_t kind_length, const double *cents, size_t cents_length, const uint32_t *numer, size_t numer_length, const uint32_t *denom, size_t denom_length, const uint32_t *place, size_t place_length, const double *ratio, size_t ratio_length, const int32_t *wraps, size_t wraps_length, uint16_t count, double target, int32_t *degree, double *deviation);
 
 /* The degree whose pitch comes nearest to a pitch in Hz, and the deviation from it, both stored: 10 for tables, a root's pitch or a pitch
-   outside 2^-10..2^20 that cannot be used, 11 for the root offset -2147483648, 18 where a ratio leaves its range, 11 where the degree
-   passes 32 bits. */
+   outside 2^-10..2^20 that cannot be used, 11 for the root offset -2147483648, 18 where the root's pitch lies outside 2^-900..2^900 or the
+   ratio from it up to the pitch outside 2^-64..2^64, and as for a ratio, 11 where the degree passes 32 bits. */
 uint64_t telbijan_find_by_pitch(const uint8_t *kind, size_t kind_length, const double *cents, size_t cents_length, const uint32_t *numer, size_t numer_length, const uint32_t *denom, size_t denom_length, const uint32_t *place, size_t place_length, const double *ratio, size_t ratio_length, const int32_t *wraps, size_t wraps_length, uint16_t count, int32_t reference, double hz, int32_t offset, double pitch, int32_t *degree, double *deviation);
 
 /* The same, the degree counted in ascending order. */
@@ -307,6 +308,287 @@ uint64_t telbijan_create_harmonics_scale(bool otonal, uint16_t start, uint16_t s
    items, 10 for a generator or a period outside 2^-32..2^32 or a period of 1.0, 12 where a column has no place for all items and place
    0, 18 where two or more items have the period 1.0. */
 uint64_t telbijan_create_rank2_temperament_scale(double generator, uint16_t positive, uint16_t negative, double period, uint8_t *kind, size_t kind_length, double *cents, size_t cents_length, uint32_t *numer, size_t numer_length, uint32_t *denom, size_t denom_length, uint32_t *place, size_t place_length, double *ratio, size_t ratio_length, int32_t *wraps, size_t wraps_length, uint16_t *count);
+
+/* ==== The same calls on structs ====================================================================================================
+ *
+ * The calls above, for people: a scale, a mapping and a refusal as plain structs. Each function here hands its struct to the call of the
+ * same name and does nothing else, so all that is said there holds here. A refusal leaves the structs as they were too. Copies of a
+ * struct lend the same memory: one of them writes, or many read.
+ */
+
+/* What a call answers: number 0 where it was accepted; else why, and where (TELBIJAN_NUMBER, TELBIJAN_DETAIL). */
+typedef struct telbijan_refusal {
+    uint32_t number;
+    uint64_t detail;
+} telbijan_refusal;
+
+static inline telbijan_refusal telbijan_refusal_of(uint64_t result) {
+    telbijan_refusal said;
+    said.number = TELBIJAN_NUMBER(result);
+    said.detail = TELBIJAN_DETAIL(result);
+    return said;
+}
+
+static inline bool telbijan_is_accepted(telbijan_refusal said) {
+    return said.number == TELBIJAN_ACCEPTED;
+}
+
+/* A sentence for each number; a string that is never freed. */
+static inline const char *telbijan_reason(uint32_t number) {
+    switch (number) {
+    case TELBIJAN_ACCEPTED: return "accepted";
+    case TELBIJAN_NOT_UTF8: return "a line is not UTF-8";
+    case TELBIJAN_LINE_MISSING: return "a required line is missing";
+    case TELBIJAN_INT_VALUE: return "not an integer of its type";
+    case TELBIJAN_CENTS_VALUE: return "not a cents value";
+    case TELBIJAN_NUMER: return "not a numerator";
+    case TELBIJAN_DENOM: return "not a denominator";
+    case TELBIJAN_FLOAT_VALUE: return "not a decimal";
+    case TELBIJAN_KEYBOARD_MAPPING: return "not a mapping entry";
+    case TELBIJAN_UNSUPPORTED_NUMERAL: return "a numeral with an exponent, a word, or over 18 digits";
+    case TELBIJAN_UNUSABLE: return "a value, a state or a lent table that cannot be used";
+    case TELBIJAN_OVERFLOW: return "a number leaves its type";
+    case TELBIJAN_NO_ROOM: return "what was lent is too small";
+    case TELBIJAN_TOO_LARGE: return "over 65,535 entries";
+    case TELBIJAN_INCONSISTENT_COUNT: return "the text has another count of notes or entries than it says";
+    case TELBIJAN_FORMAL_OCTAVE_MISSING: return "a builder with entries and no formal octave";
+    case TELBIJAN_KEY_OUT_OF_RANGE: return "the key is outside the range";
+    case TELBIJAN_UNMAPPED_KEY: return "the key is unmapped";
+    case TELBIJAN_BEYOND_REACH: return "beyond reach: a period of 1.0, 0 divisions, or a computed pitch or ratio outside its range";
+    default: return "no number of this library";
+    }
+}
+
+/* A scale: seven lent columns of `room` places each, and how many items it has. For n items the room is n + 1. */
+typedef struct telbijan_scale {
+    uint8_t *kind;
+    double *cents;
+    uint32_t *numer;
+    uint32_t *denom;
+    uint32_t *place;
+    double *ratio;
+    int32_t *wraps;
+    size_t room;
+    uint16_t count;
+} telbijan_scale;
+
+/* The root of a mapping: a key, its pitch, and the root's distance from the key. */
+typedef struct telbijan_root {
+    int32_t reference;
+    double hz;
+    int32_t offset;
+} telbijan_root;
+
+/* A mapping: a lent table of `room` places, and its numbers. One without entries needs no place, yet its pointer is not null. */
+typedef struct telbijan_mapping {
+    int32_t *map;
+    size_t room;
+    uint16_t count;
+    int32_t start;
+    int32_t end;
+    telbijan_root root;
+    int16_t octave;
+} telbijan_mapping;
+
+/* Where a part of a text starts, and where it ends. */
+typedef struct telbijan_span {
+    size_t start;
+    size_t end;
+} telbijan_span;
+
+/* The nearest degree or key, and how far the target lies above it, a ratio. */
+typedef struct telbijan_found {
+    int32_t number;
+    double deviation;
+} telbijan_found;
+
+/* Builders: what was pushed so far, into the columns or the table that are lent. A scale or a mapping in use is not pushed to: build into
+ * spare memory, and put it in its place once it is built. */
+typedef struct telbijan_scale_builder {
+    telbijan_scale scale;
+    size_t count;
+} telbijan_scale_builder;
+
+typedef struct telbijan_mapping_builder {
+    telbijan_mapping mapping;
+    size_t count;
+} telbijan_mapping_builder;
+
+/* The columns of a scale as the calls above take them. */
+#define TELBIJAN_ITEMS(s) (s)->kind, (s)->room, (s)->cents, (s)->room, (s)->numer, (s)->room, (s)->denom, (s)->room
+#define TELBIJAN_COLUMNS(s) TELBIJAN_ITEMS(s), (s)->place, (s)->room, (s)->ratio, (s)->room, (s)->wraps, (s)->room
+#define TELBIJAN_ROOT(r) (r).reference, (r).hz, (r).offset
+#define TELBIJAN_MAPPING(m) (m)->map, (m)->room, (m)->count, (m)->start, (m)->end, TELBIJAN_ROOT((m)->root), (m)->octave
+
+/* ---- Scales. */
+
+static inline telbijan_refusal telbijan_scale_read(telbijan_scale *scale, const char *text, size_t length, telbijan_span *description) {
+    return telbijan_refusal_of(telbijan_read_scl((const uint8_t *)text, length, TELBIJAN_COLUMNS(scale), &scale->count, &description->start, &description->end));
+}
+
+static inline telbijan_refusal telbijan_scale_export(const telbijan_scale *scale, const char *description, size_t length, char *out, size_t room, size_t *written) {
+    return telbijan_refusal_of(telbijan_export_scl((const uint8_t *)description, length, TELBIJAN_ITEMS(scale), scale->count, (uint8_t *)out, room, written));
+}
+
+static inline telbijan_refusal telbijan_scale_harmonics(telbijan_scale *scale, bool otonal, uint16_t start, uint16_t size) {
+    return telbijan_refusal_of(telbijan_create_harmonics_scale(otonal, start, size, false, 0, TELBIJAN_COLUMNS(scale), &scale->count));
+}
+
+static inline telbijan_refusal telbijan_scale_divided_harmonics(telbijan_scale *scale, bool otonal, uint16_t start, uint16_t size, uint16_t divisions) {
+    return telbijan_refusal_of(telbijan_create_harmonics_scale(otonal, start, size, true, divisions, TELBIJAN_COLUMNS(scale), &scale->count));
+}
+
+static inline telbijan_refusal telbijan_scale_rank2(telbijan_scale *scale, double generator, uint16_t positive, uint16_t negative, double period) {
+    return telbijan_refusal_of(telbijan_create_rank2_temperament_scale(generator, positive, negative, period, TELBIJAN_COLUMNS(scale), &scale->count));
+}
+
+static inline telbijan_refusal telbijan_scale_period(const telbijan_scale *scale, double *period) {
+    return telbijan_refusal_of(telbijan_period(TELBIJAN_ITEMS(scale), scale->count, period));
+}
+
+static inline telbijan_refusal telbijan_scale_relative_pitch_of(const telbijan_scale *scale, int32_t degree, double *relative) {
+    return telbijan_refusal_of(telbijan_relative_pitch_of(TELBIJAN_ITEMS(scale), scale->count, degree, relative));
+}
+
+static inline telbijan_refusal telbijan_scale_sorted_relative_pitch_of(const telbijan_scale *scale, int32_t degree, double *relative) {
+    return telbijan_refusal_of(telbijan_sorted_relative_pitch_of(TELBIJAN_COLUMNS(scale), scale->count, degree, relative));
+}
+
+static inline telbijan_refusal telbijan_scale_find(const telbijan_scale *scale, double target, telbijan_found *found) {
+    return telbijan_refusal_of(telbijan_find_by_relative_pitch(TELBIJAN_COLUMNS(scale), scale->count, target, &found->number, &found->deviation));
+}
+
+static inline telbijan_refusal telbijan_scale_find_sorted(const telbijan_scale *scale, double target, telbijan_found *found) {
+    return telbijan_refusal_of(telbijan_find_by_relative_pitch_sorted(TELBIJAN_COLUMNS(scale), scale->count, target, &found->number, &found->deviation));
+}
+
+/* ---- A scale, built: begin, push, build. `scale` lends the columns; what it holds is lost. */
+
+static inline telbijan_refusal telbijan_scale_begin(telbijan_scale_builder *builder, const telbijan_scale *scale) {
+    size_t room = 0;
+    uint64_t result = telbijan_new_scl(TELBIJAN_COLUMNS(scale), &room);
+    if (result == TELBIJAN_ACCEPTED) {
+        builder->scale = *scale;
+        builder->count = 0;
+    }
+    return telbijan_refusal_of(result);
+}
+
+static inline telbijan_refusal telbijan_scale_push_cents(telbijan_scale_builder *builder, double cents) {
+    return telbijan_refusal_of(telbijan_push_cents(TELBIJAN_ITEMS(&builder->scale), builder->scale.room, builder->count, cents, &builder->count));
+}
+
+static inline telbijan_refusal telbijan_scale_push_ratio(telbijan_scale_builder *builder, double ratio) {
+    return telbijan_refusal_of(telbijan_push_ratio(TELBIJAN_ITEMS(&builder->scale), builder->scale.room, builder->count, ratio, &builder->count));
+}
+
+static inline telbijan_refusal telbijan_scale_push_int(telbijan_scale_builder *builder, uint32_t number) {
+    return telbijan_refusal_of(telbijan_push_int(TELBIJAN_ITEMS(&builder->scale), builder->scale.room, builder->count, number, &builder->count));
+}
+
+static inline telbijan_refusal telbijan_scale_push_fraction(telbijan_scale_builder *builder, uint32_t numer, uint32_t denom) {
+    return telbijan_refusal_of(telbijan_push_fraction(TELBIJAN_ITEMS(&builder->scale), builder->scale.room, builder->count, numer, denom, &builder->count));
+}
+
+static inline telbijan_refusal telbijan_scale_build(const telbijan_scale_builder *builder, telbijan_scale *scale) {
+    uint16_t count = 0;
+    uint64_t result = telbijan_build_scl(TELBIJAN_COLUMNS(&builder->scale), builder->scale.room, builder->count, &count);
+    if (result == TELBIJAN_ACCEPTED) {
+        *scale = builder->scale;
+        scale->count = count;
+    }
+    return telbijan_refusal_of(result);
+}
+
+/* ---- Mappings. */
+
+static inline telbijan_refusal telbijan_mapping_read(telbijan_mapping *mapping, const char *text, size_t length) {
+    return telbijan_refusal_of(telbijan_read_kbm((const uint8_t *)text, length, mapping->map, mapping->room, &mapping->count, &mapping->start, &mapping->end,
+        &mapping->root.reference, &mapping->root.hz, &mapping->root.offset, &mapping->octave));
+}
+
+static inline telbijan_refusal telbijan_mapping_export(const telbijan_mapping *mapping, char *out, size_t room, size_t *written) {
+    return telbijan_refusal_of(telbijan_export_kbm(TELBIJAN_MAPPING(mapping), (uint8_t *)out, room, written));
+}
+
+static inline telbijan_refusal telbijan_mapping_degree_of(const telbijan_mapping *mapping, int32_t key, int32_t *degree) {
+    return telbijan_refusal_of(telbijan_scale_degree_of(TELBIJAN_MAPPING(mapping), key, degree));
+}
+
+/* ---- A mapping, built: `mapping` lends the table, and has root and range; its count and octave do not matter. */
+
+static inline telbijan_refusal telbijan_mapping_begin(telbijan_mapping_builder *builder, const telbijan_mapping *mapping) {
+    uint64_t result = telbijan_kbm_root(TELBIJAN_ROOT(mapping->root));
+    if (result == TELBIJAN_ACCEPTED) {
+        builder->mapping = *mapping;
+        builder->count = 0;
+    }
+    return telbijan_refusal_of(result);
+}
+
+static inline telbijan_refusal telbijan_mapping_push(telbijan_mapping_builder *builder, int16_t degree) {
+    return telbijan_refusal_of(telbijan_push_mapped_key(builder->mapping.map, builder->mapping.room, builder->mapping.room, builder->count, degree, &builder->count));
+}
+
+static inline telbijan_refusal telbijan_mapping_push_unmapped(telbijan_mapping_builder *builder) {
+    return telbijan_refusal_of(telbijan_push_unmapped_key(builder->mapping.map, builder->mapping.room, builder->mapping.room, builder->count, &builder->count));
+}
+
+/* With a formal octave; the other is for a mapping without entries, which needs none. */
+static inline telbijan_refusal telbijan_mapping_build(const telbijan_mapping_builder *builder, int16_t octave, telbijan_mapping *mapping) {
+    telbijan_mapping built = builder->mapping;
+    uint64_t result = telbijan_build_kbm(built.map, built.room, built.room, builder->count, built.start, built.end, TELBIJAN_ROOT(built.root), true, octave, &built.count, &built.octave);
+    if (result == TELBIJAN_ACCEPTED)
+        *mapping = built;
+    return telbijan_refusal_of(result);
+}
+
+static inline telbijan_refusal telbijan_mapping_build_linear(const telbijan_mapping_builder *builder, telbijan_mapping *mapping) {
+    telbijan_mapping built = builder->mapping;
+    uint64_t result = telbijan_build_kbm(built.map, built.room, built.room, builder->count, built.start, built.end, TELBIJAN_ROOT(built.root), false, 0, &built.count, &built.octave);
+    if (result == TELBIJAN_ACCEPTED)
+        *mapping = built;
+    return telbijan_refusal_of(result);
+}
+
+/* ---- Pitches and searches: a scale above a root, or through a mapping. */
+
+static inline telbijan_refusal telbijan_tuning_pitch_of(const telbijan_scale *scale, telbijan_root root, int32_t degree, double *hz) {
+    return telbijan_refusal_of(telbijan_pitch_of(TELBIJAN_ITEMS(scale), scale->count, TELBIJAN_ROOT(root), degree, hz));
+}
+
+static inline telbijan_refusal telbijan_tuning_pitch_of_key(const telbijan_scale *scale, telbijan_root root, int32_t key, double *hz) {
+    return telbijan_refusal_of(telbijan_pitch_of_key(TELBIJAN_ITEMS(scale), scale->count, TELBIJAN_ROOT(root), key, hz));
+}
+
+static inline telbijan_refusal telbijan_tuning_sorted_pitch_of(const telbijan_scale *scale, telbijan_root root, int32_t degree, double *hz) {
+    return telbijan_refusal_of(telbijan_sorted_pitch_of(TELBIJAN_COLUMNS(scale), scale->count, TELBIJAN_ROOT(root), degree, hz));
+}
+
+static inline telbijan_refusal telbijan_tuning_maybe_pitch_of(const telbijan_scale *scale, const telbijan_mapping *mapping, int32_t key, double *hz) {
+    return telbijan_refusal_of(telbijan_maybe_pitch_of(TELBIJAN_ITEMS(scale), scale->count, TELBIJAN_MAPPING(mapping), key, hz));
+}
+
+static inline telbijan_refusal telbijan_tuning_maybe_pitch_of_degree(const telbijan_scale *scale, const telbijan_mapping *mapping, int32_t degree, double *hz) {
+    return telbijan_refusal_of(telbijan_maybe_pitch_of_degree(TELBIJAN_ITEMS(scale), scale->count, TELBIJAN_MAPPING(mapping), degree, hz));
+}
+
+/* `hz` and `numbers` have `keys` places each. */
+static inline telbijan_refusal telbijan_tuning_pitches_of(const telbijan_scale *scale, const telbijan_mapping *mapping, int32_t first, uint32_t keys, double *hz, uint32_t *numbers) {
+    return telbijan_refusal_of(telbijan_pitches_of(TELBIJAN_ITEMS(scale), scale->count, TELBIJAN_MAPPING(mapping), first, keys, hz, keys, numbers, keys));
+}
+
+static inline telbijan_refusal telbijan_tuning_find_by_pitch(const telbijan_scale *scale, telbijan_root root, double hz, telbijan_found *found) {
+    return telbijan_refusal_of(telbijan_find_by_pitch(TELBIJAN_COLUMNS(scale), scale->count, TELBIJAN_ROOT(root), hz, &found->number, &found->deviation));
+}
+
+static inline telbijan_refusal telbijan_tuning_find_by_pitch_sorted(const telbijan_scale *scale, telbijan_root root, double hz, telbijan_found *found) {
+    return telbijan_refusal_of(telbijan_find_by_pitch_sorted(TELBIJAN_COLUMNS(scale), scale->count, TELBIJAN_ROOT(root), hz, &found->number, &found->deviation));
+}
+
+static inline telbijan_refusal telbijan_tuning_find_key_by_pitch(const telbijan_scale *scale, telbijan_root root, double hz, telbijan_found *found) {
+    return telbijan_refusal_of(telbijan_find_key_by_pitch(TELBIJAN_COLUMNS(scale), scale->count, TELBIJAN_ROOT(root), hz, &found->number, &found->deviation));
+}
 
 #ifdef __cplusplus
 }

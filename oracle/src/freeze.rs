@@ -4,7 +4,7 @@
 
 use crate::lent::Float;
 use crate::tally::{Code, Said, Who};
-use crate::{freeze_kbm, freeze_numbers, freeze_scl, freeze_text};
+use crate::{freeze_entries, freeze_kbm, freeze_numbers, freeze_scl, freeze_text, freeze_tuning};
 use std::fs;
 use std::io::{Error, Result};
 
@@ -72,7 +72,9 @@ pub fn freeze(crates: &str) -> Result<()> {
         ("replay_pitch", freeze_numbers::pitches),
         ("replay_text", freeze_text::texts),
         ("replay_scl", freeze_scl::scales),
+        ("replay_entries", freeze_entries::entry_lists),
         ("replay_kbm", freeze_kbm::mappings),
+        ("replay_tuning", freeze_tuning::tunings),
     ] {
         let mut list = List { lines: Vec::new() };
         fill(&mut list);

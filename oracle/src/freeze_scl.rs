@@ -1,19 +1,18 @@
-//! Frozen answers on scales: files, items, pushes, builds and exports. Each call but an export is lent seven columns of 16 places, that
-//! of the kinds cut to a room; a line ends with all places that the call may write, and the program sees that those behind them are
-//! as before.
+//! Frozen answers on scales: files, items, pushes, builds and exports. Each call is lent seven columns of 16 places; a line ends with all
+//! places that the call may write, and the program sees that those behind them are as before.
 
 use crate::ffi_scl::{Columns, Item, Push};
-use crate::freeze::{List, float, refusal, hex, written};
+use crate::freeze::{List, float, hex, refusal, written};
 use crate::inputs::Random;
 use crate::tally::{Code, Said, Who};
 use crate::{rules_scl, scl_build, scl_export, scl_read};
 
-const PLACES: usize = 16;
+pub const PLACES: usize = 16;
 
 /// What the program lends.
-fn lent(room: usize) -> Columns {
+pub fn lent() -> Columns {
     Columns {
-        kind: vec![9; room],
+        kind: vec![9; PLACES],
         cents: vec![2f64.to_bits(); PLACES],
         numer: vec![7; PLACES],
         denom: vec![7; PLACES],
@@ -23,42 +22,45 @@ fn lent(room: usize) -> Columns {
     }
 }
 
-fn lengths(room: usize) -> [usize; 7] {
-    [room, PLACES, PLACES, PLACES, PLACES, PLACES, PLACES]
+/// The seven fields of a place.
+fn row(c: &Columns, k: usize) -> String {
+    let (cents, ratio) = (f64::from_bits(c.cents[k]), f64::from_bits(c.ratio[k]));
+    format!(" {} {} {} {} {} {} {}", c.kind[k], float(cents), c.numer[k], c.denom[k], c.place[k], float(ratio), c.wraps[k])
 }
 
-/// All places up to the last that is not as the program made it; behind the room a kind is so.
-fn places(c: &Columns) -> String {
-    let row = |c: &Columns, k: usize| {
-        let kind = c.kind.get(k).copied().unwrap_or(9);
-        format!(" {kind} {:016x} {} {} {} {:016x} {}", c.cents[k], c.numer[k], c.denom[k], c.place[k], c.ratio[k], c.wraps[k])
-    };
-    let old = row(&lent(PLACES), 0);
+/// All places up to the last that is not as the program made it.
+pub fn places(c: &Columns) -> String {
+    let old = row(&lent(), 0);
     let rows: Vec<String> = (0..PLACES).map(|k| row(c, k)).collect();
     let shown = rows.iter().rposition(|row| *row != old).map_or(0, |last| last + 1);
     format!("{shown}{}", rows[..shown].concat())
 }
 
 fn reads(list: &mut List) {
-    let one = |list: &mut List, text: &[u8], room: usize| {
-        let said = scl_read::said(text, &lent(room), lengths(room));
+    let one = |list: &mut List, text: &[u8]| {
+        let said = scl_read::said(text, &lent(), [PLACES; 7]);
         let after = places(&said.value.1);
-        list.push_with(&format!("read {} {room}", hex(text)), said, |((count, start, end), _)| format!("{count} {start} {end}"), &after);
+        list.push_with(&format!("read {}", hex(text)), said, |((count, start, end), _)| format!("{count} {start} {end}"), &after);
     };
     for file in scl_read::FILES {
-        one(list, file.as_bytes(), 14);
+        one(list, file.as_bytes());
     }
-    for (text, entries) in scl_read::FIXED {
-        one(list, text.as_bytes(), entries.len());
+    for (text, _) in scl_read::FIXED {
+        one(list, text.as_bytes());
+    }
+    // as many items as there is room for; one too many, and faults before and behind the first that has no place
+    let items = |count: usize| (1..=count).map(|k| format!("{}\n", k + 1)).collect::<String>();
+    for text in [format!("d\n15\n{}", items(15)), format!("d\n16\n{}", items(16)), format!("d\n16\n{}x\n", items(15)), format!("d\n16\n{}0\n", items(3)), format!("d\n16\n{}", items(15)), format!("d\n65535\n{}", items(2)), format!("d\n15\n{}", items(16))] {
+        one(list, text.as_bytes());
     }
     let texts = scl_read::texts();
     // the telling tokens in each place, then short texts and damaged copies, few of each kind
-    for (k, text) in texts.iter().skip(9).take(860).step_by(4).enumerate() {
-        one(list, text, [4, 2, 3, 5][k % 4]);
+    for text in texts.iter().skip(9).take(860).step_by(4) {
+        one(list, text);
     }
     let short: Vec<&Vec<u8>> = texts.iter().skip(900).filter(|t| t.len() <= 50).collect();
-    for (k, text) in short.iter().step_by(short.len() / 60).enumerate() {
-        one(list, text, [2, 0, 5, 1][k % 4]);
+    for text in short.iter().step_by(short.len() / 60) {
+        one(list, text);
     }
 }
 
@@ -86,22 +88,16 @@ fn fields(push: Push) -> String {
 
 /// A run: a new builder, each push, and the build. What the columns hold at the end is the Rust's where it builds (`built`), else the
 /// rules'.
-fn build(list: &mut List, room: usize, pushes: &[Push]) {
-    let call = format!("build {room} {} n - -{}", pushes.len() + 1, pushes.iter().map(|&push| format!(" {}", fields(push))).collect::<String>());
-    let mut columns = lent(room);
-    if room == 0 {
-        // no builder starts: no push and no build fits a state of no room
-        let refused = vec!["!10 0"; pushes.len()].join(" ");
-        list.push_with(format!("{call} !12 0 {refused}").trim_end(), Said::refused(Who::Rules, 10, 0, ()), |()| String::new(), &places(&columns));
-        return;
-    }
+fn build(list: &mut List, pushes: &[Push]) {
+    let call = format!("build {} n - -{}", pushes.len() + 1, pushes.iter().map(|&push| format!(" {}", fields(push))).collect::<String>());
+    let mut columns = lent();
     columns.put_items(0, &[Item::cents(0.0)]);
     let mut taken = Vec::new();
     let mut answers = "0".to_string();
     for &push in pushes {
         let answer = match rules_scl::pushed(push) {
             None => refusal(Code::refusal(10, 0)),
-            Some(_) if taken.len() + 1 == room => refusal(Code::refusal(12, 0)),
+            Some(_) if taken.len() + 1 == PLACES => refusal(Code::refusal(12, 0)),
             Some(item) => {
                 taken.push(push);
                 columns.put_items(taken.len(), &[item]);
@@ -118,35 +114,35 @@ fn build(list: &mut List, room: usize, pushes: &[Push]) {
 fn builds(list: &mut List) {
     let mut random = Random::new(109);
     for pushes in scl_build::shapes(2).iter().step_by(11).chain(scl_build::shapes(4).iter().step_by(13)) {
-        build(list, pushes.len() + 1, pushes);
+        build(list, pushes);
     }
     for k in 0..40 {
         let run = scl_build::random_run(&mut random, k % 5);
-        build(list, k % 5, &run.pushes[..run.pushes.len().min(5)]);
+        build(list, &run.pushes[..run.pushes.len().min(5)]);
     }
+    // more pushes than places: the last two are refused, and the scale is built without them
+    build(list, &(2..19).map(Push::Int).collect::<Vec<_>>());
     // states that are not the columns'
     for (room, count, push) in [(17, 0, Push::Int(2)), (4, 4, Push::Int(2)), (0, 0, Push::Cents(1.0)), (4, 3, Push::Int(0)), (16, 15, Push::Cents(f64::INFINITY))] {
-        list.push_with(&format!("push {room} {count} {}", fields(push)), Said::refused(Who::Rules, 10, 0, ()), |()| String::new(), &places(&lent(PLACES)));
+        list.push_with(&format!("push {room} {count} {}", fields(push)), Said::refused(Who::Rules, 10, 0, ()), |()| String::new(), &places(&lent()));
     }
-    list.push_with("push 16 15 f 2 -", Said::refused(Who::Rules, 12, 0, ()), |()| String::new(), &places(&lent(PLACES)));
+    list.push_with("push 16 15 f 2 -", Said::refused(Who::Rules, 12, 0, ()), |()| String::new(), &places(&lent()));
     for (room, count) in [(17, 1), (16, 16), (0, 0), (16, 0)] {
-        list.push_with(&format!("finish {room} {count}"), Said::refused(Who::Rules, 10, 0, ()), |()| String::new(), &places(&lent(PLACES)));
+        list.push_with(&format!("finish {room} {count}"), Said::refused(Who::Rules, 10, 0, ()), |()| String::new(), &places(&lent()));
     }
 }
 
-/// An export of the first `count` items of these places; the column of the kinds is cut to them.
+/// An export of the first `count` items of these places; those behind them are as lent.
 fn export(list: &mut List, description: &[u8], items: &[Item], count: u16, room: usize) {
-    let mut columns = lent(items.len());
+    let mut columns = lent();
     columns.put_items(0, items);
     one_export(list, description, &columns, count, room);
 }
 
 fn one_export(list: &mut List, description: &[u8], columns: &Columns, count: u16, room: usize) {
-    let row = |k: usize| format!(" {} {} {} {}", columns.kind[k], float(f64::from_bits(columns.cents[k])), columns.numer[k], columns.denom[k]);
-    let table: String = (0..columns.kind.len()).map(row).collect();
     let said = scl_export::export(description, columns, count, room);
     let after = hex(&said.value.1);
-    list.push_with(&format!("export {} {count} {room} {}{table}", hex(description), columns.kind.len()), said, |(length, _)| length.to_string(), &after);
+    list.push_with(&format!("export {} {count} {room} {}", hex(description), places(columns)), said, |(length, _)| length.to_string(), &after);
 }
 
 fn exports(list: &mut List) {
@@ -184,11 +180,11 @@ fn exports(list: &mut List) {
         items[k] = item;
         export(list, b"d", &items, 2, [0, 30][k % 2]);
     }
-    let mut unknown = lent(3);
+    let mut unknown = lent();
     unknown.put_items(0, &good);
     unknown.kind[2] = 3;
     one_export(list, b"d", &unknown, 2, 30);
-    one_export(list, b"d", &lent(0), 0, 30);
+    one_export(list, b"d", &lent(), 0, 30);
 }
 
 pub fn scales(list: &mut List) {

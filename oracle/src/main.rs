@@ -3,6 +3,7 @@
 //! - `oracle` compares and prints a line for each function: cases tried, refusals met, differences. Any difference, and any
 //!   function with no case, makes it fail.
 //! - `oracle bench` times the two sides in one run.
+//! - `oracle powers COUNT SEED` compares COUNT numbers each for E and L, COUNT - say 100000000 - in about a minute.
 //! - `oracle differences` prints the rows of docs/DIFFERENCES.md, which the comparison runs.
 //! - `oracle freeze CRATES` writes a sample of the answers for the programs that replay them.
 
@@ -13,6 +14,7 @@ mod differences_kbm;
 mod differences_scl;
 mod differences_tuning;
 mod examples;
+mod examples_numbers;
 mod ffi;
 mod ffi_generators;
 mod ffi_kbm;
@@ -20,10 +22,12 @@ mod ffi_scl;
 mod ffi_tuning;
 mod floats;
 mod freeze;
+mod freeze_entries;
 mod freeze_kbm;
 mod freeze_numbers;
 mod freeze_scl;
 mod freeze_text;
+mod freeze_tuning;
 mod generators;
 mod inputs;
 mod kbm_build;
@@ -60,6 +64,10 @@ fn main() -> ExitCode {
             bench::bench();
             ExitCode::SUCCESS
         }
+        ["powers", count, seed] => match (count.parse(), seed.parse()) {
+            (Ok(count), Ok(seed)) if powers::many(count, seed) => ExitCode::SUCCESS,
+            _ => ExitCode::FAILURE,
+        },
         ["differences"] => {
             differences::print();
             ExitCode::SUCCESS
@@ -72,7 +80,7 @@ fn main() -> ExitCode {
             }
         },
         _ => {
-            eprintln!("usage: oracle [bench | differences | freeze CRATES]");
+            eprintln!("usage: oracle [bench | powers COUNT SEED | differences | freeze CRATES]");
             ExitCode::FAILURE
         }
     }
@@ -96,6 +104,7 @@ fn compare() -> ExitCode {
     tuning::compare(&mut all);
     generators::compare(&mut all);
     examples::compare(&mut all);
+    examples_numbers::compare(&mut all);
     differences::compare(&mut all);
     untouched::report();
     all.verdict()

@@ -1,9 +1,12 @@
 //! E and L: bit for bit beside the second implementation.
+//!
+//! The library computes both from tables over a few bits, and falls back to the steps of document 01 where that does not decide; so, beside
+//! random numbers, the inputs have every few bits at every place with what makes their borders: zeros or ones below them, and neighbours.
 
 use crate::ffi;
 use crate::inputs::{Random, f64_limits};
 use crate::lent::Float;
-use crate::tally::{Report, Said, Who};
+use crate::tally::{Code, Report, Said, Who};
 use tune::powers;
 
 const RANDOM: usize = 1_000_000;
@@ -33,6 +36,34 @@ pub fn values() -> impl Iterator<Item = f64> {
     }))
 }
 
+/// Fractions of 52 bits: each pattern of seven bits at each place, below it zeros, ones or random bits, with the numbers up to `near` beside it.
+fn fractions(near: i64) -> impl Iterator<Item = u64> {
+    let mut random = Random::new(8);
+    let all = (0..52).flat_map(|place| (0..128u64).map(move |bits| (place, bits)));
+    all.flat_map(move |(place, bits)| {
+        let (below, high) = ((1u64 << place) - 1, bits << place);
+        let other = random.next() & !((below << 7) | 0x7f);
+        [high, high | below, other | high, other | high | (random.next() & below)]
+    })
+    .flat_map(move |f| (-near..=near).map(move |d| f.wrapping_add_signed(d) & ((1 << 52) - 1)))
+}
+
+/// Exponents whose fractions are those, in 1..2, 0..1, -2..-1 and far out.
+fn border_exponents(near: i64) -> impl Iterator<Item = f64> {
+    fractions(near).flat_map(|f| {
+        let x = 1.0 + f as f64 * 2f64.powi(-52);
+        [x, x - 1.0, x - 3.0, x + 40.0]
+    })
+}
+
+/// Numbers whose digits are those, and numbers whose logarithms are, with their neighbours; and numbers next to 1.
+fn border_values(near: i64) -> impl Iterator<Item = f64> {
+    let digits = fractions(near).map(|f| f64::from_bits(0x3ff << 52 | f));
+    let logarithms = fractions(0).filter_map(|f| powers::e(f as f64 * 2f64.powi(-52))).flat_map(move |x| (-near..=near).map(move |d| f64::from_bits(x.to_bits().wrapping_add_signed(d))));
+    let ones = (-2048 * near..=2048 * near).map(|d| f64::from_bits(1f64.to_bits().wrapping_add_signed(d)));
+    digits.chain(logarithms).chain(ones)
+}
+
 /// 18 outside the domain of E or L.
 pub fn said(answer: Option<f64>) -> Said<Float> {
     match answer {
@@ -43,13 +74,62 @@ pub fn said(answer: Option<f64>) -> Said<Float> {
 
 pub fn compare(all: &mut Report) {
     all.function("exp2", &[18], |tally| {
-        for x in exponents() {
+        for x in exponents().chain(border_exponents(1)) {
             tally.same(x, ffi::one(ffi::telbijan_exp2, x), said(powers::e(x)));
         }
     });
     all.function("log2", &[18], |tally| {
-        for x in values() {
+        for x in values().chain(border_values(1)) {
             tally.same(x, ffi::one(ffi::telbijan_log2, x), said(powers::l(x)));
         }
     });
+}
+
+/// Many more numbers than the comparison has: the borders with more neighbours, then random numbers up to `count`, for each of E and L.
+/// Tells whether all bits are equal.
+pub fn many(count: usize, seed: u64) -> bool {
+    let mut random = Random::new(seed);
+    let exponents = (0..).map(|k| match k % 4 {
+        0 => random.unit() * 20.0 - 10.0,
+        1 => random.unit() * 1800.0 - 900.0,
+        2 => 1.0 + random.unit(),
+        // every exponent from that of 2^-1074 up to that of 2^9, both signs
+        _ => f64::from_bits(random.next() & 0x800f_ffff_ffff_ffff | (random.next() % 1033) << 52),
+    });
+    let all = border_exponents(8).chain(exponents).take(count);
+    let powers = differences("E", all, |x| ffi::one(ffi::telbijan_exp2, x), powers::e);
+    let mut random = Random::new(seed.wrapping_add(1));
+    let values = (0..).map(|k| match k % 4 {
+        0 => random.ratio(10),
+        1 => 1.0 + random.unit(),
+        // every exponent from that of 2^-900 up to that of 2^899
+        2 => f64::from_bits(random.next() & 0x000f_ffff_ffff_ffff | (123 + random.next() % 1800) << 52),
+        // next to 1, at every scale
+        _ => {
+            let size = 2f64.powi(-((random.next() % 52) as i32)) * random.unit();
+            if random.next() % 2 == 0 { 1.0 + size } else { 1.0 - size / 2.0 }
+        }
+    });
+    let all = border_values(8).chain(values).take(count);
+    let logarithms = differences("L", all, |x| ffi::one(ffi::telbijan_log2, x), powers::l);
+    println!("seeds {seed} and {}", seed.wrapping_add(1));
+    powers + logarithms == 0
+}
+
+/// How many answers differ; the first ten are printed.
+fn differences(name: &str, inputs: impl Iterator<Item = f64>, ours: impl Fn(f64) -> (Code, Float), theirs: impl Fn(f64) -> Option<f64>) -> usize {
+    let (mut compared, mut refused, mut differ) = (0usize, 0usize, 0usize);
+    for x in inputs {
+        let (ours, theirs) = (ours(x), said(theirs(x)));
+        compared += 1;
+        refused += usize::from(theirs.code != Code::ACCEPTED);
+        if ours != (theirs.code, theirs.value) {
+            differ += 1;
+            if differ <= 10 {
+                println!("{name}({x:e}) = {ours:?}, should be {theirs:?}");
+            }
+        }
+    }
+    println!("{name}: {compared} compared, {refused} of them refused, {differ} differ");
+    differ
 }

@@ -185,7 +185,7 @@ pub fn find_key(b: &Built, root: Root, hz: f64) -> Said<Found> {
 }
 
 /// A root: usual, far off, or at the ends of its numbers.
-fn random_root(random: &mut Random) -> Root {
+pub fn random_root(random: &mut Random) -> Root {
     let reference = if random.next() % 2 == 0 { 60 + random.next() as i32 % 12 } else { random.i32() };
     let hz = match random.next() % 4 {
         0 => 440.0,
@@ -202,7 +202,7 @@ fn random_root(random: &mut Random) -> Root {
     Root { reference, hz, offset }
 }
 
-fn random_degree(random: &mut Random, count: u16) -> i32 {
+pub fn random_degree(random: &mut Random, count: u16) -> i32 {
     match random.next() % 4 {
         0 => random.next() as i32 % 64 - 32,
         1 => random.i32(),
@@ -212,7 +212,7 @@ fn random_degree(random: &mut Random, count: u16) -> i32 {
 }
 
 /// A target: near a degree of the scale, between two of them, anything in the range, or outside it.
-fn random_target(random: &mut Random, b: &Built) -> f64 {
+pub fn random_target(random: &mut Random, b: &Built) -> f64 {
     let at = random.next() as usize % (usize::from(b.count) + 1);
     let near = f64::from_bits(b.columns.ratio[at]);
     match random.next() % 9 {
@@ -500,7 +500,7 @@ fn runs(all: &mut Report) {
 }
 
 /// A mapping with its root in the range of 01, over all keys or some.
-fn random_mapping(random: &mut Random) -> (Mapping, Vec<i32>, Kbm) {
+pub fn random_mapping(random: &mut Random) -> (Mapping, Vec<i32>, Kbm) {
     let size = [0, 1, 3, 7, 12, 16][random.next() as usize % 6];
     let (mut m, mut map) = rust_kbm::random(random, size);
     let root = random_root(random);

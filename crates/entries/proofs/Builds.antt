@@ -100,7 +100,7 @@ module _ (b : SclBuilder) (t : ItemTable) (l : ListTable) (n : ℕ) where
     abbrev Called : Said ℕ → ListTable → Type 0
     Called said left = (said ≡ counted b (builtIn b t l n)) × (left ≡ afterList (builtIn b t l n) l) × Holds said left n (builtIn b t l n)
 
-    holds-too : {said : Said ℕ} {left : ListTable} → Answered said left → Called said left
+    pub holds-too : {said : Said ℕ} {left : ListTable} → Answered said left → Called said left
     holds-too a = (a .0, a .1, rw (a .0, a .1) (holds-of (builtIn b t l n) refl))
 
     pub short-holds : n < b .room → Called (refuses unusable 0) l

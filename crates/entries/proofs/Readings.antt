@@ -74,7 +74,7 @@ module _ (text : List ℕ) (t : ItemTable) (l : ListTable) (n : ℕ) where
   abbrev Called : Said SclRead → ItemTable → ListTable → Type 0
   Called s u m = (s ≡ said) × (u ≡ itemsAfter said text t) × (m ≡ sortedAfter said text l) × Holds (countRead s) m n (sortedRead text said)
 
-  called : {s : Said SclRead} {u : ItemTable} {m : ListTable} → s ≡ said → u ≡ itemsAfter said text t → m ≡ sortedAfter said text l → Called s u m
+  pub called : {s : Said SclRead} {u : ItemTable} {m : ListTable} → s ≡ said → u ≡ itemsAfter said text t → m ≡ sortedAfter said text l → Called s u m
   called e i j = (e, i, j, rw (e, j) (holds-of said refl))
 
   -- what is read in a room that is the same

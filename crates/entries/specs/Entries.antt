@@ -6,7 +6,7 @@ use lib.IntN.{ℤ, pos}
 use lib.ListN.{getD, take, set}
 use lib.Ieee.{Float, nan}
 use Rattle.sorting.specs.Entries.{Entry, zip}
-use Rattle.sorted.specs.Lent.{ListTable}
+use Rattle.sorted.specs.Lent.{ListTable, listTable, placesOf, ratiosOf, wrapsOf}
 use Rattle.entries.specs.declared.SortedEntry.{SortedEntry}
 
 -- a struct is the entry with its three fields
@@ -16,6 +16,10 @@ entryIn e = record { place = e .place; ratio = e .ratio; wraps = e .wraps }
 -- a slice of structs is the list of their entries
 abbrev pub entriesIn : List SortedEntry → List Entry
 entriesIn = map entryIn
+
+-- the columns of a slice of structs
+abbrev pub columnsIn : List SortedEntry → ListTable
+columnsIn l = listTable (placesOf (entriesIn l)) (ratiosOf (entriesIn l)) (wrapsOf (entriesIn l))
 
 -- the first n entries of the columns
 abbrev pub firstOf : ℕ → ListTable → List Entry

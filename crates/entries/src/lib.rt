@@ -16,8 +16,9 @@ ghost use Rattle.scl_tables.specs.Build.{afterList};
 ghost use Rattle.scl_build.specs.Builder.{counted};
 ghost use Rattle.scl_read.specs.Reader.{saysRead, itemsAfter, sortedAfter};
 ghost use Rattle.entries.specs.Entries.{entryOf, entriesIn, firstOf};
-ghost use Rattle.entries.specs.Builds.{builtIn, storedOf, afterEntries, Holds};
+ghost use Rattle.entries.specs.Builds.{builtIn, storedOf, Holds};
 ghost use Rattle.entries.specs.Readings.{readIn, countRead, sortedRead};
+ghost use Rattle.entries.specs.Same.{BuildEntries, ReadEntries};
 
 pub struct SortedEntry {
     pub place: u32,
@@ -101,11 +102,7 @@ pub fn build_entries<'i>(
     wraps: &mut [i32],
     list: &mut [SortedEntry],
 ) -> SclAnswer
-    ensures { λ r. ⌜ (saysScl r ≡ counted state (builtIn state (itemTable (now (kind .entry)) (now (cents .entry)) (now (numer .entry)) (now (denom .entry))) (listTable (now (place .entry)) (now (ratio .entry)) (now (wraps .entry))) (length (now (list .entry)))))
-        × (listTable (now (place .exit)) (now (ratio .exit)) (now (wraps .exit))
-        ≡ afterList (builtIn state (itemTable (now (kind .entry)) (now (cents .entry)) (now (numer .entry)) (now (denom .entry))) (listTable (now (place .entry)) (now (ratio .entry)) (now (wraps .entry))) (length (now (list .entry)))) (listTable (now (place .entry)) (now (ratio .entry)) (now (wraps .entry))))
-        × (entriesIn (now (list .exit))
-        ≡ afterEntries (builtIn state (itemTable (now (kind .entry)) (now (cents .entry)) (now (numer .entry)) (now (denom .entry))) (listTable (now (place .entry)) (now (ratio .entry)) (now (wraps .entry))) (length (now (list .entry)))) (entriesIn (now (list .entry)))) ⌝ }
+    ensures { λ r. ⌜ BuildEntries state (itemTable (now (kind .entry)) (now (cents .entry)) (now (numer .entry)) (now (denom .entry))) (listTable (now (place .entry)) (now (ratio .entry)) (now (wraps .entry))) (now (list .entry)) r (listTable (now (place .exit)) (now (ratio .exit)) (now (wraps .exit))) (now (list .exit)) ⌝ }
 {
     let answer = build_columns(
         state,
@@ -180,13 +177,7 @@ pub fn read_entries<'i>(
     wraps: &mut [i32],
     list: &mut [SortedEntry],
 ) -> SclReadAnswer
-    ensures { λ r. ⌜ (saysRead r ≡ readIn (now (text .entry)) (itemTable (now (kind .entry)) (now (cents .entry)) (now (numer .entry)) (now (denom .entry))) (listTable (now (place .entry)) (now (ratio .entry)) (now (wraps .entry))) (length (now (list .entry))))
-        × (itemTable (now (kind .exit)) (now (cents .exit)) (now (numer .exit)) (now (denom .exit))
-        ≡ itemsAfter (readIn (now (text .entry)) (itemTable (now (kind .entry)) (now (cents .entry)) (now (numer .entry)) (now (denom .entry))) (listTable (now (place .entry)) (now (ratio .entry)) (now (wraps .entry))) (length (now (list .entry)))) (now (text .entry)) (itemTable (now (kind .entry)) (now (cents .entry)) (now (numer .entry)) (now (denom .entry))))
-        × (listTable (now (place .exit)) (now (ratio .exit)) (now (wraps .exit))
-        ≡ sortedAfter (readIn (now (text .entry)) (itemTable (now (kind .entry)) (now (cents .entry)) (now (numer .entry)) (now (denom .entry))) (listTable (now (place .entry)) (now (ratio .entry)) (now (wraps .entry))) (length (now (list .entry)))) (now (text .entry)) (listTable (now (place .entry)) (now (ratio .entry)) (now (wraps .entry))))
-        × (entriesIn (now (list .exit))
-        ≡ afterEntries (sortedRead (now (text .entry)) (readIn (now (text .entry)) (itemTable (now (kind .entry)) (now (cents .entry)) (now (numer .entry)) (now (denom .entry))) (listTable (now (place .entry)) (now (ratio .entry)) (now (wraps .entry))) (length (now (list .entry))))) (entriesIn (now (list .entry)))) ⌝ }
+    ensures { λ r. ⌜ ReadEntries (now (text .entry)) (itemTable (now (kind .entry)) (now (cents .entry)) (now (numer .entry)) (now (denom .entry))) (listTable (now (place .entry)) (now (ratio .entry)) (now (wraps .entry))) (now (list .entry)) r (itemTable (now (kind .exit)) (now (cents .exit)) (now (numer .exit)) (now (denom .exit))) (listTable (now (place .exit)) (now (ratio .exit)) (now (wraps .exit))) (now (list .exit)) ⌝ }
 {
     let answer = read_columns(
         text,

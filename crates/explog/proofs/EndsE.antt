@@ -52,11 +52,9 @@ module _ (x : Float) (s : Bool) (d k : ℕ) (p : Unpacked x s d k) (t : inPowers
     unfolding plainFloor
     floor-is = e ∙ (λ i. pick (p .sign i) (2 ^ 1084 - sym (p .is) i) (2 ^ 1084 + sym (p .is) i) / 2 ^ 1022)
 
-    pub power-is : (r : Float) (P : ℕ) → fits binary64 x ≡ true → P ≡ pOf (F % 2 ^ 52) 52 → r ≡ round binary64 false (P * 2 ^ (F / 2 ^ 52)) (2 ^ 1086) → gives r ≡ E x
+    pub power-is : (r : Float) → fits binary64 x ≡ true → r ≡ round binary64 false (pOf (F % 2 ^ 52) 52 * 2 ^ (F / 2 ^ 52)) (2 ^ 1086) → gives r ≡ E x
     unfolding plainPower E
-    power-is r P f h q =
-        rw t (ap gives (q ∙ ap (λ (z : ℕ). round binary64 false (z * 2 ^ (F / 2 ^ 52)) (2 ^ 1086)) h ∙ ap plainPower floor-is
-        ∙ e-literal x (subst T (sym f) tt) (e-range x t .0) (e-range x t .1)))
+    power-is r f q = rw t (ap gives (q ∙ ap plainPower floor-is ∙ e-literal x (subst T (sym f) tt) (e-range x t .0) (e-range x t .1)))
 
 pub power-refused : (x : Float) → inPowers x ≡ false → refuses 18 0 ≡ E x
 unfolding E

@@ -10,8 +10,8 @@ use mathlib.Core.Logic.{_⊎_, inl, inr}
 use lib.Dec.{T, leb, leb→le, nleb→lt, lit<}
 use lib.Pow.{pow-pos}
 use Rattle.explog.specs.Log.{squared, halved, yOf, bOf}
-use Rattle.explog.specs.Inner.{topBit}
-use Rattle.explog.proofs.Turns.{halved-below, bit-small}
+use Rattle.powers.specs.Inner.{topBit}
+use Rattle.powers.proofs.Turns.{halved-below, bit-small, b-size}
 
 -- ---- one turn
 square-low : (z : ℕ) → 2 ^ 62 ≤ z → 2 ^ 62 + (z - 2 ^ 62) * 2 ≤ squared z
@@ -76,11 +76,6 @@ module _ (y : ℕ) (low : 2 ^ 62 ≤ y) (high : y < 2 ^ 63) where
   y-low (suc k) = low-next (yOf y k) (y-low k) (kind (squared (yOf y k)))
 
   -- ---- the bits of the first turns, and those of more turns
-  pub b-size : (k : ℕ) → bOf y k < 2 ^ k
-  unfolding bOf
-  b-size zero = lit< tt
-  b-size (suc k) = omega (arith, b-size k, bit-small (squared (yOf y k)), pow-suc 2 k)
-
   b-more : (j i : ℕ) → bOf y j * 2 ^ i ≤ bOf y (i + j)
   unfolding bOf
   b-more j zero = le-of-eq (mul-one (bOf y j) ∙ ap (bOf y) (let e : j ≡ 0 + j = omega arith in e))
@@ -111,7 +106,7 @@ module _ (y : ℕ) (low : 2 ^ 62 ≤ y) (high : y < 2 ^ 63) where
   ones w g (suc k) h =
       let f = rw (pow-suc 2 k) at h in
       rw (pow-suc 2 k)
-      (ones-next w (2 ^ k) (yOf y k) (bOf y k) (b-size k) (ones w g k (omega (arith, b-size k, bit-small (squared (yOf y k))))) (kind (squared (yOf y k))) f)
+      (ones-next w (2 ^ k) (yOf y k) (bOf y k) (b-size y k) (ones w g k (omega (arith, b-size y k, bit-small (squared (yOf y k))))) (kind (squared (yOf y k))) f)
 
   -- ---- what it takes to have one of the first j bits set, and one of the first 20 clear
   pub bits-above : (j i c : ℕ) → 2 ^ 62 + c ≤ y → 2 ^ 62 ≤ c * 2 ^ j → 2 ^ i ≤ bOf y (i + j)
@@ -133,4 +128,4 @@ module _ (y : ℕ) (low : 2 ^ 62 ≤ y) (high : y < 2 ^ 63) where
 
       go : Dec (bOf y 20 + 2 ≤ 2 ^ 20) → bOf y 52 + 2 ^ 32 ≤ 2 ^ 52
       go (yes l) = omega (arith, b-less 20 32, mul-le-mul-right (2 ^ 32) l, add-mul (bOf y 20) 1 (2 ^ 32), add-mul (bOf y 20) 2 (2 ^ 32))
-      go (no n) = absurd (full (let l = lt-of-not-le n in omega (arith, b-size 20)))
+      go (no n) = absurd (full (let l = lt-of-not-le n in omega (arith, b-size y 20)))

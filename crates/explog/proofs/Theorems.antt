@@ -25,8 +25,8 @@ use Rattle.explog.specs.Exp.{tOf, pOf}
 use Rattle.explog.specs.Rules.{E, L, inPowers, floorOf, powerOf}
 use Rattle.explog.specs.Samples.{log-of-one}
 use Rattle.explog.proofs.Meaning.{root-is}
-use Rattle.explog.proofs.Entries.{t-below}
-use Rattle.explog.proofs.Bound.{powers, power-below, tops}
+use Rattle.powers.proofs.Entries.{t-below}
+use Rattle.powers.proofs.Bound.{powers, power-below, tops}
 use Rattle.explog.proofs.Plain.{plainFloor, plainPower}
 use Rattle.explog.proofs.Range.{e-range}
 use Rattle.explog.proofs.LiteralE.{e-literal}

@@ -21,7 +21,8 @@ use Rattle.explog.specs.Rules.{L, logOf}
 use Rattle.explog.proofs.Plain.{plainLog}
 use Rattle.explog.proofs.Range.{l-range, some}
 use Rattle.explog.proofs.LiteralL.{l-literal}
-use Rattle.explog.proofs.Far.{b-size, bits-above, bits-below}
+use Rattle.powers.proofs.Turns.{b-size}
+use Rattle.explog.proofs.Far.{bits-above, bits-below}
 
 -- ---- a value that is given
 pub given : {A : Type 0} (b : Bool) (a r : A) (n d : ℕ) → pick b (gives a) (refuses n d) ≡ gives r → (b ≡ true) × (a ≡ r)
@@ -73,7 +74,7 @@ module _ (d k : ℕ) (low : 2 ^ 52 ≤ d) (high : d < 2 ^ 53) where
   y-under = omega arith
 
   pub b-under : B < 2 ^ 52
-  b-under = b-size (d * 2 ^ 10) y-from y-under 52
+  b-under = b-size (d * 2 ^ 10) 52
 
   -- from 1.000001 on V is 2 ^ 32 at least
   pub v-above : 4503604130970123 * 2 ^ 1022 ≤ d * 2 ^ k → 1022 * 2 ^ 52 + 2 ^ 32 ≤ k * 2 ^ 52 + B

@@ -2,5 +2,4 @@ pub mod Root
 pub mod Exp
 pub mod Log
 pub mod Rules
-pub mod Inner
 pub mod Samples

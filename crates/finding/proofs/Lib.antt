@@ -1,2 +1,4 @@
 pub mod Theorems
+pub mod None
 pub mod Refusals
+pub mod Numbers

@@ -20,7 +20,7 @@ use Rattle.scl.specs.Table.{ItemTable, itemsIn, isItems}
 use Rattle.scl.specs.declared.Item.{Item}
 use Rattle.kbm.specs.Root.{isRoot}
 use Rattle.kbm.specs.declared.KbmRoot.{KbmRoot}
-use Rattle.relative.specs.Refusals.{Reached}
+use Rattle.relative.specs.Refusals.{ReachedOrBeyond}
 use Rattle.relative.specs.Scales.{tested, isScale}
 use Rattle.rooted.specs.Pitches.{rootPitch}
 use Rattle.rooted.proofs.Theorems.{root-reached}
@@ -94,9 +94,9 @@ module _ (count : ℕ) (t : ItemTable) (l : ListTable) (it : isItems count t ≡
     unfolding pitchSearchFrom
     from-or at = go (root-reached items (root .pitch .0) (hz-reach (root .pitch .0) o) at)
       where
-        go : Reached (rootPitch items (root .pitch .0) at) → OrBeyond (andThen (rootPitch items (root .pitch .0) at) (λ hz. andThen (betweenPitches hz pitch) (computedSearch items es)))
-        go (Reached.reached hz r e) = move (ap (λ (s : Said Float). andThen s (λ hz. andThen (betweenPitches hz pitch) (computedSearch items es))) e) (computed-search hz r)
-        go (Reached.beyond e) = OrBeyond.beyond (ap (λ (s : Said Float). andThen s (λ hz. andThen (betweenPitches hz pitch) (computedSearch items es))) e)
+        go : ReachedOrBeyond (rootPitch items (root .pitch .0) at) → OrBeyond (andThen (rootPitch items (root .pitch .0) at) (λ hz. andThen (betweenPitches hz pitch) (computedSearch items es)))
+        go (ReachedOrBeyond.reached hz r e) = move (ap (λ (s : Said Float). andThen s (λ hz. andThen (betweenPitches hz pitch) (computedSearch items es))) e) (computed-search hz r)
+        go (ReachedOrBeyond.beyond e) = OrBeyond.beyond (ap (λ (s : Said Float). andThen s (λ hz. andThen (betweenPitches hz pitch) (computedSearch items es))) e)
 
     -- of a pitch in 2^-10..2^20: 11 for the root offset or the degree, or 18
     pub pitch-answers : Answers (tested (isScale count t l && (isRoot root && inPitch pitch)) (andThen (pitchSearchOf items es root pitch) degree))

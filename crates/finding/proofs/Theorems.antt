@@ -1,12 +1,14 @@
 -- What the searches say, and that each call has one result. Document 01, "Scales and searches". Assumes nothing.
-use mathlib.Core.Path.{_≡_, subst}
+use mathlib.Core.Path.{_≡_, sym, _∙_, ap, subst}
 use mathlib.Core.Bool.{true, _&&_}
 use mathlib.Core.List.{List}
 use Prim.Native.Nat.{ℕ, _<_}
+use lib.IntN.{_+ℤ_}
 use lib.Ieee.{Float, binary64, fits, div}
 use lib.Ieee.Bits.{is-true}
 use lib.Ieee.Fits.{div-fits}
-use Rattle.base.specs.Numbers.{unusable, beyond-reach}
+use Rattle.base.specs.Integers.{inI32, held}
+use Rattle.base.specs.Numbers.{unusable, overflow, beyond-reach}
 use Rattle.base.specs.Said.{Said, gives, andThen}
 use Rattle.base.proofs.Said.{One, same-value}
 use Rattle.floats.specs.Ranges.{inReach, inSearch, inPitch}
@@ -27,11 +29,11 @@ use Rattle.searching.specs.declared.Found.{Found}
 use Rattle.searching.proofs.Theorems.{search-says}
 use Rattle.searching.proofs.Within.{search-reach}
 use Rattle.approximation.specs.Answers.{saysDegreeSearch, saysKeySearch}
-use Rattle.approximation.specs.Degrees.{declaredOf, ascendingOf, keyOf}
+use Rattle.approximation.specs.Degrees.{approximation, declaredOf, ascendingOf, keyOf}
 use Rattle.approximation.specs.declared.Approximation.{Approximation}
 use Rattle.approximation.proofs.Theorems.{degree-search-one, key-search-one}
 use Rattle.finding.specs.Find.{computedSearch, pitchSearchFrom, pitchSearchOf}
-use Rattle.finding.specs.Says.{Finds, FindsPitch}
+use Rattle.finding.specs.Says.{Finds, FindsPitch, FindsKey}
 
 -- the ratio of two pitches is an f64
 pub quotient-held : (first second x : Float) → betweenPitches first second ≡ gives x → fits binary64 x ≡ true
@@ -41,7 +43,16 @@ quotient-held first second x e =
     let v = pick-given (inReach q) (gives q) beyond-reach (p .1) in
     subst (λ (y : Float). fits binary64 y ≡ true) (same-value q x (v .1)) (is-true (fits binary64 q) (div-fits binary64 second first))
 
--- ---- what an answer says: of a scale with items (one without is `search-says-none`)
+-- a key that is given is the degree above the reference key
+pub key-of : (root : KbmRoot) (d a : Approximation) → keyOf root d ≡ gives a → a ≡ approximation (d .deviation) (root .reference .0 +ℤ d .«approx_value»)
+unfolding held
+key-of root d a e =
+    let z = root .reference .0 +ℤ d .«approx_value» in
+    let h = then-given (held z) (λ v. gives (approximation (d .deviation) v)) e in
+    let v = pick-given (inI32 z) (gives z) overflow (h .1 .0) in
+    sym (same-value (approximation (d .deviation) (h .0)) a (h .1 .1)) ∙ ap (approximation (d .deviation)) (sym (same-value z (h .0) (v .1)))
+
+-- ---- what an answer says: of a scale with items (one without is proofs/None.antt)
 module _ (count : ℕ) (t : ItemTable) (l : ListTable) (some : 0 < count) (degree : Found → Said Approximation) (a : Approximation) where
   abbrev items : List Item
   items = itemsIn count t
@@ -86,6 +97,16 @@ module _ (count : ℕ) (t : ItemTable) (l : ListTable) (some : 0 < count) (degre
         in-search = c .0;
         finds = record { found = f .0; searched = search-says count t l (usable u .0) (usable u .1) (x .0) some held (search-reach (x .0) (c .0)) (f .0) (c .1); degree-is = f .1 .1 };
       }
+
+-- of a key
+module _ (count : ℕ) (t : ItemTable) (l : ListTable) (some : 0 < count) (a : Approximation) (root : KbmRoot) (pitch : Float) where
+  abbrev found : Said Approximation
+  found = tested (isScale count t l && (isRoot root && inPitch pitch)) (andThen (pitchSearchOf (itemsIn count t) (listIn count l) root pitch) (declaredOf count))
+
+  pub key-finds : andThen found (keyOf root) ≡ gives a → FindsKey count (itemsIn count t) (listIn count l) root pitch a
+  key-finds e =
+      let d = then-given found (keyOf root) e in
+      record { degree = d .0; finds = pitch-finds count t l some (declaredOf count) (d .0) root pitch (d .1 .0); key-is = key-of root (d .0) a (d .1 .1) }
 
 -- ---- two results of one input are equal
 module _ (count : ℕ) (t : ItemTable) (l : ListTable) where

@@ -3,7 +3,8 @@
 use mathlib.Core.Path.{_≡_}
 use mathlib.Core.Bool.{true}
 use mathlib.Core.List.{List}
-use lib.IntN.{ℤ}
+use Prim.Native.Nat.{ℕ}
+use lib.IntN.{ℤ, pos, _+ℤ_}
 use lib.Ieee.{Float}
 use Rattle.base.specs.Numbers.{overflow, beyond-reach}
 use Rattle.base.specs.Said.{Said, gives, refuses}
@@ -15,6 +16,7 @@ use Rattle.kbm.specs.declared.KbmRoot.{KbmRoot}
 use Rattle.rooted.specs.Pitches.{rootDegree, rootPitch}
 use Rattle.searching.specs.Nearest.{Searched}
 use Rattle.searching.specs.declared.Found.{Found}
+use Rattle.approximation.specs.Degrees.{approximation, declaredOf}
 use Rattle.approximation.specs.declared.Approximation.{Approximation}
 
 -- of a ratio x: the entry is nearest to x reduced by the period, and a is its degree with its deviation
@@ -33,6 +35,23 @@ pub record FindsPitch (items : List Item) (es : List Entry) (root : KbmRoot) (pi
   pub is-ratio : betweenPitches root-pitch pitch ≡ gives ratio
   pub in-search : inSearch ratio ≡ true
   pub finds : Finds items es ratio degree a
+
+-- of a key: so many steps above the reference key as the found degree says, with its deviation
+pub record FindsKey (count : ℕ) (items : List Item) (es : List Entry) (root : KbmRoot) (pitch : Float) (a : Approximation) : Type 0 where
+  pub degree : Approximation
+  pub finds : FindsPitch items es root pitch (declaredOf count) degree
+  pub key-is : a ≡ approximation (degree .deviation) (root .reference .0 +ℤ degree .«approx_value»)
+
+-- ---- "A scale without items answers degree 0 with the ratio itself"
+-- of a pitch: the ratio from the root's pitch up to it
+pub record FindsNone (items : List Item) (root : KbmRoot) (pitch : Float) (a : Approximation) : Type 0 where
+  pub root-at : ℤ
+  pub root-pitch : Float
+  pub ratio : Float
+  pub is-root : rootDegree root ≡ gives root-at
+  pub is-pitch : rootPitch items (root .pitch .0) root-at ≡ gives root-pitch
+  pub is-ratio : betweenPitches root-pitch pitch ≡ gives ratio
+  pub answer : a ≡ approximation ratio (pos 0)
 
 -- ---- which refusals are left, once tables, root and target are usable: a degree or key, 11 or 18
 pub data Answers (s : Said Approximation) : Type 0 where

@@ -23,6 +23,12 @@ pub enum Size {
     IsNot,
 }
 
+// An answer that no line has, for a line that cannot be asked.
+pub const NO_SUCH: Refusal = Refusal {
+    number: 255,
+    detail: 0,
+};
+
 pub struct Counts {
     pub same: u64,
     pub differ: u64,
@@ -234,6 +240,30 @@ pub fn is_refused(refusal: Refusal, line: &[u8], at: usize) -> bool {
         return is_end(line, next(line, next(line, at)));
     }
     false
+}
+
+// Where the field after this refusal starts; the line's end where another stands there.
+pub fn after_refusal(refusal: Refusal, line: &[u8], at: usize) -> usize {
+    if is_refusal(refusal, line, at) {
+        return later(line, at, 2);
+    }
+    line.len()
+}
+
+// Where the field after this size starts; the line's end where another stands there.
+pub fn after_size(size: usize, line: &[u8], at: usize) -> usize {
+    if is_size(size, line, at) {
+        return next(line, at);
+    }
+    line.len()
+}
+
+// The first bytes, so many; all where there are fewer.
+pub fn first(bytes: &[u8], length: usize) -> &[u8] {
+    if length <= bytes.len() {
+        return &bytes[..length];
+    }
+    bytes
 }
 
 // The byte of two hex digits at a place of a field, or 256.

@@ -8,7 +8,7 @@ use native.Mathlib.Omega.{arith}
 use lib.ListN.{length}
 use Rattle.base.specs.Numbers.{beyond-reach}
 use Rattle.base.specs.Said.{Said, gives, refuses, pick}
-use Rattle.base.proofs.Said.{no-value, no-refusal, same-value}
+use Rattle.base.proofs.Said.{One, one-result, no-value, no-refusal, same-value}
 use Rattle.floats.specs.Floats.{oneF}
 use Rattle.sorting.specs.Entries.{Entry}
 use Rattle.sorted.specs.Lent.{ListTable, isList}
@@ -100,3 +100,7 @@ module _ (t : ItemTable) (l : ListTable) (is : List Item) (few : length is ≤ 6
       go : (x : Bool) → isBeyond (length is) (lastOf (implicit ∷ is)) ≡ x → Leaves t l is
       go true q = no-refusal (sym e ∙ made-beyond t l is few room usable held q)
       go false q = leaves q
+
+-- ---- two results of one input are equal
+pub begin-one : (t : ItemTable) (l : ListTable) → One (λ r. r) (Built.state (roomOf t l) 0) × One (λ r. r) (Built.afterNew t l)
+begin-one t l = (one-result (Built.state (roomOf t l) 0), one-result (Built.afterNew t l))

@@ -3,3 +3,4 @@ pub mod Sizes
 pub mod Reaches
 pub mod Plans
 pub mod Theorems
+pub mod Numbers

@@ -23,7 +23,7 @@ use Rattle.scl_tables.specs.Build.{lastOf, isBeyond, afterList}
 use Rattle.scl_tables.specs.Room.{roomOf}
 use Rattle.scl_tables.proofs.Beyond.{too-few}
 use Rattle.scl_build.specs.Builder.{counted}
-use Rattle.segment.specs.Segment.{float, intervalOf, fractionAt, stepsOf, countOf}
+use Rattle.segment.specs.Segment.{float, intervalOf, fractionAt, stepsOf, segmentCount}
 use Rattle.segment.specs.declared.Divisions.{Divisions}
 use Rattle.segment.specs.declared.Divisions.the-variants.{Into, Lacking}
 use Rattle.segment.specs.declared.Fraction.{Fraction}
@@ -48,7 +48,7 @@ part-held (gives ratio) number step e = go (asOctaves ratio) e
     go (refuses a d) q = no-value q
     go (gives octaves) q = power-held (div binary64 octaves (float number)) step (is-true (fits binary64 (div binary64 octaves (float number))) (div-fits binary64 octaves (float number))) q
 
-pub steps-reach : (start size : ℕ) (divisions : Divisions) (steps : Steps) → stepsOf start size divisions ≡ gives steps → Reaches size (countOf size divisions) steps
+pub steps-reach : (start size : ℕ) (divisions : Divisions) (steps : Steps) → stepsOf start size divisions ≡ gives steps → Reaches size (segmentCount size divisions) steps
 steps-reach start size Lacking steps e = subst (Reaches size size) (same-value Whole steps e) (omega arith)
 steps-reach start size (Into number) steps e = go (andThen (fromFloat (intervalOf start size)) (λ ratio. dividedInto ratio (float number))) refl e
   where
@@ -154,23 +154,23 @@ module _ (t : ItemTable) (l : ListTable) (type : SegmentType) (start size : ℕ)
   none-start h = rw (le-ltb 0 start (omega (arith, h)))
 
   module _ (some : 0 < start) where
-    pub no-place : roomOf t l ≤ countOf size divisions → made ≡ refuses no-room 0
+    pub no-place : roomOf t l ≤ segmentCount size divisions → made ≡ refuses no-room 0
     unfolding madeHarmonics
-    no-place h = rw (lt-ltb 0 start some) (made-no-room t l (countOf size divisions) (harmonicsOf type start size divisions) h)
+    no-place h = rw (lt-ltb 0 start some) (made-no-room t l (segmentCount size divisions) (harmonicsOf type start size divisions) h)
 
-    module _ (s-small : start < 2 ^ 16) (z-small : size < 2 ^ 16) (small : countOf size divisions < 2 ^ 16) (room : countOf size divisions < roomOf t l) where
+    module _ (s-small : start < 2 ^ 16) (z-small : size < 2 ^ 16) (small : segmentCount size divisions < 2 ^ 16) (room : segmentCount size divisions < roomOf t l) where
       -- where all items are said
-      made-by : {x : Said (List Item)} → harmonicsOf type start size divisions ≡ x → made ≡ madeOf t l (countOf size divisions) x
+      made-by : {x : Said (List Item)} → harmonicsOf type start size divisions ≡ x → made ≡ madeOf t l (segmentCount size divisions) x
       unfolding madeHarmonics
       made-by e = rw (lt-ltb 0 start some, e)
 
-      at : {a d : ℕ} (steps : Steps) → Reaches size (countOf size divisions) steps → looked type start size (countOf size divisions) steps ≡ refuses a d
-          → madeOf t l (countOf size divisions) (itemsFrom (itemAt type start size steps) 1 (countOf size divisions)) ≡ refuses a d
+      at : {a d : ℕ} (steps : Steps) → Reaches size (segmentCount size divisions) steps → looked type start size (segmentCount size divisions) steps ≡ refuses a d
+          → madeOf t l (segmentCount size divisions) (itemsFrom (itemAt type start size steps) 1 (segmentCount size divisions)) ≡ refuses a d
       unfolding looked
-      at {a} {d} steps r e = go (ways start size some s-small z-small type (countOf size divisions) small steps r)
+      at {a} {d} steps r e = go (ways start size some s-small z-small type (segmentCount size divisions) small steps r)
         where
           n : ℕ
-          n = countOf size divisions
+          n = segmentCount size divisions
 
           f : ℕ → Said Item
           f = itemAt type start size steps
@@ -206,22 +206,22 @@ module _ (t : ItemTable) (l : ListTable) (type : SegmentType) (start size : ℕ)
       pub plan-refused : {a d : ℕ} → refuses a d ≡ planned type start size divisions → made ≡ refuses a d
       plan-refused {a} {d} e = go (stepsOf start size divisions) refl e
         where
-          go : (s : Said Steps) → stepsOf start size divisions ≡ s → refuses a d ≡ andThen s (λ steps. looked type start size (countOf size divisions) steps) → made ≡ refuses a d
-          go (gives steps) h q = made-by (ap (λ (s : Said Steps). andThen s (λ steps. itemsFrom (itemAt type start size steps) 1 (countOf size divisions))) h) ∙ at steps (steps-reach start size divisions steps h) (sym q)
+          go : (s : Said Steps) → stepsOf start size divisions ≡ s → refuses a d ≡ andThen s (λ steps. looked type start size (segmentCount size divisions) steps) → made ≡ refuses a d
+          go (gives steps) h q = made-by (ap (λ (s : Said Steps). andThen s (λ steps. itemsFrom (itemAt type start size steps) 1 (segmentCount size divisions))) h) ∙ at steps (steps-reach start size divisions steps h) (sym q)
           go (refuses x y) h q =
               let z = same-refuses q in
-              made-by (ap (λ (s : Said Steps). andThen s (λ steps. itemsFrom (itemAt type start size steps) 1 (countOf size divisions))) h) ∙ made-refused t l (countOf size divisions) room ∙ rw (z .0, z .1)
+              made-by (ap (λ (s : Said Steps). andThen s (λ steps. itemsFrom (itemAt type start size steps) 1 (segmentCount size divisions))) h) ∙ made-refused t l (segmentCount size divisions) room ∙ rw (z .0, z .1)
 
       -- what is written is what the definition leaves
       pub plan-given : {steps : Steps} → gives steps ≡ planned type start size divisions → {x : Said ℕ} {t′ : ItemTable} {l′ : ListTable}
-          → x ≡ counted (runOf t l (saidFrom (itemAt type start size steps) 1 (countOf size divisions)) .builder) (listOf t l (saidFrom (itemAt type start size steps) 1 (countOf size divisions)))
-          → t′ ≡ runOf t l (saidFrom (itemAt type start size steps) 1 (countOf size divisions)) .table
-          → l′ ≡ afterList (listOf t l (saidFrom (itemAt type start size steps) 1 (countOf size divisions))) l
+          → x ≡ counted (runOf t l (saidFrom (itemAt type start size steps) 1 (segmentCount size divisions)) .builder) (listOf t l (saidFrom (itemAt type start size steps) 1 (segmentCount size divisions)))
+          → t′ ≡ runOf t l (saidFrom (itemAt type start size steps) 1 (segmentCount size divisions)) .table
+          → l′ ≡ afterList (listOf t l (saidFrom (itemAt type start size steps) 1 (segmentCount size divisions))) l
           → (x ≡ countedOf made) × (t′ ≡ itemsLeft made t l) × (l′ ≡ listLeft made t l)
       plan-given {steps} e {x} {t′} {l′} ex et el = go (stepsOf start size divisions) refl e
         where
           n : ℕ
-          n = countOf size divisions
+          n = segmentCount size divisions
 
           all : Reaches size n steps → stepsOf start size divisions ≡ gives steps → looked type start size n steps ≡ gives steps → (x ≡ countedOf made) × (t′ ≡ itemsLeft made t l) × (l′ ≡ listLeft made t l)
           all r h q =

@@ -29,7 +29,7 @@ use Rattle.scl.specs.Table.{ItemTable}
 use Rattle.scl.specs.declared.Item.{Item}
 use Rattle.scl.proofs.Theorems.{scl-one}
 use Rattle.scl_tables.specs.Room.{roomOf}
-use Rattle.segment.specs.Segment.{float, intervalOf, stepsOf, countOf}
+use Rattle.segment.specs.Segment.{float, intervalOf, stepsOf, segmentCount}
 use Rattle.segment.specs.declared.Divisions.the-variants.{Into}
 use Rattle.segment.specs.declared.Divisions.{Divisions}
 use Rattle.segment.specs.declared.SegmentType.{SegmentType}
@@ -62,7 +62,7 @@ unfolding ofInt round size
 zero-divisions octaves = none-over octaves
 
 -- a sum of whole numbers is exact
-sum-of : (s z : ℕ) (x y : Float) → HasValue x false s 1 → HasValue y false z 1 → add binary64 x y ≡ round binary64 false (s + z) 1
+pub sum-of : (s z : ℕ) (x y : Float) → HasValue x false s 1 → HasValue y false z 1 → add binary64 x y ≡ round binary64 false (s + z) 1
 unfolding add sum
 sum-of s z (fin true i d) y v w = absurd (mathlib.Core.Bool.true≢false (v .0))
 sum-of s z (fin false i d) (fin true j e) v w = absurd (mathlib.Core.Bool.true≢false (w .0))
@@ -97,9 +97,9 @@ unfolding madeHarmonics
 no-divisions t l type start size some a b room =
     rw (lt-ltb 0 start some, no-steps start size some a b) (made-refused t l 0 room)
 
-module _ (t : ItemTable) (l : ListTable) (type : SegmentType) (start size : ℕ) (divisions : Divisions) (s-small : start < 2 ^ 16) (z-small : size < 2 ^ 16) (small : countOf size divisions < 2 ^ 16) where
+module _ (t : ItemTable) (l : ListTable) (type : SegmentType) (start size : ℕ) (divisions : Divisions) (s-small : start < 2 ^ 16) (z-small : size < 2 ^ 16) (small : segmentCount size divisions < 2 ^ 16) where
   abbrev n : ℕ
-  n = countOf size divisions
+  n = segmentCount size divisions
 
   said-leaves : 0 < start → n < roomOf t l → (steps : Steps) → Reaches size n steps → {is : List Item} → itemsFrom (itemAt type start size steps) 1 n ≡ gives is → madeOf t l n (gives is) ≡ gives is → Leaves t l is
   said-leaves some room steps r {is} e made = go (ways start size some s-small z-small type n small steps r)

@@ -11,7 +11,7 @@ use Rattle.scl.specs.Table.{ItemTable}
 use Rattle.scl.specs.declared.Denom.the-variants.{Given}
 use Rattle.scl.specs.declared.Item.{Item}
 use Rattle.scl.specs.declared.Item.the-variants as item
-use Rattle.segment.specs.Segment.{fractionAt, stepsOf, countOf}
+use Rattle.segment.specs.Segment.{fractionAt, stepsOf, segmentCount}
 use Rattle.segment.specs.declared.Divisions.{Divisions}
 use Rattle.segment.specs.declared.Fraction.{Fraction}
 use Rattle.segment.specs.declared.SegmentType.{SegmentType}
@@ -28,8 +28,8 @@ itemAt type start size steps j = andThen (fractionAt type start size steps j) (�
 
 -- THE ITEMS: as many as the segment is long, or as it has divisions
 abbrev pub harmonicsOf : SegmentType → ℕ → ℕ → Divisions → Said (List Item)
-harmonicsOf type start size divisions = andThen (stepsOf start size divisions) (λ steps. itemsFrom (itemAt type start size steps) 1 (countOf size divisions))
+harmonicsOf type start size divisions = andThen (stepsOf start size divisions) (λ steps. itemsFrom (itemAt type start size steps) 1 (segmentCount size divisions))
 
 -- the items of an accepted call: 10, then 12, then 18
 unfoldable pub madeHarmonics : ItemTable → ListTable → SegmentType → ℕ → ℕ → Divisions → Said (List Item)
-madeHarmonics t l type start size divisions = pick (ltb 0 start) (madeOf t l (countOf size divisions) (harmonicsOf type start size divisions)) (refuses unusable 0)
+madeHarmonics t l type start size divisions = pick (ltb 0 start) (madeOf t l (segmentCount size divisions) (harmonicsOf type start size divisions)) (refuses unusable 0)

@@ -11,7 +11,7 @@ use Rattle.scl.specs.Table.{implicit}
 use Rattle.scl.specs.declared.Item.{Item}
 use Rattle.scl_tables.specs.Build.{lastOf, isBeyond}
 use Rattle.scl_build.specs.Builder.{Built, afterOne}
-use Rattle.segment.specs.Segment.{stepsOf, countOf}
+use Rattle.segment.specs.Segment.{stepsOf, segmentCount}
 use Rattle.segment.specs.declared.Divisions.{Divisions}
 use Rattle.segment.specs.declared.SegmentType.{SegmentType}
 use Rattle.segment.specs.declared.Steps.{Steps}
@@ -44,4 +44,4 @@ looked type start size n steps =
     andThen (itemsFrom (itemAt type start size steps) 1 n) (λ is. pick (isBeyond n (lastOf (implicit ∷ is))) (refuses beyond-reach 0) (gives steps))
 
 abbrev pub planned : SegmentType → ℕ → ℕ → Divisions → Said Steps
-planned type start size divisions = andThen (stepsOf start size divisions) (λ steps. looked type start size (countOf size divisions) steps)
+planned type start size divisions = andThen (stepsOf start size divisions) (λ steps. looked type start size (segmentCount size divisions) steps)

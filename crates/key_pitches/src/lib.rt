@@ -29,7 +29,7 @@ pub enum RunAnswer {
 }
 
 // 12: a lent slice is shorter than the run.
-const NO_ROOM: Refusal = Refusal {
+const NO_PLACE: Refusal = Refusal {
     number: base::NO_ROOM,
     detail: 0,
 };
@@ -233,7 +233,7 @@ pub fn pitches_of(
                 return RunAnswer::Done;
             }
         }
-        return RunAnswer::Refused(NO_ROOM);
+        return RunAnswer::Refused(NO_PLACE);
     }
     RunAnswer::Refused(scl::NOT_USABLE)
 }

@@ -33,7 +33,7 @@ use Rattle.notes.specs.Notes.{pitchAt, highestFrom, ascending}
 use Rattle.notes.proofs.Ascends.{lastAfter}
 use Rattle.notes.proofs.Given.{log-said, reach}
 use Rattle.notes.proofs.Some.{period-some}
-use Rattle.rank2.specs.Rank2.{countOf, isTemperament, ascendingOf, pushedAs, itemsOf, temperamentOf, madeRank2}
+use Rattle.rank2.specs.Rank2.{noteCount, isTemperament, ascendingOf, pushedAs, itemsOf, temperamentOf, madeRank2}
 use Rattle.rank2.specs.Steps.{beyondOf, afterRatios, ranOf, Behind}
 use Rattle.rank2.proofs.Behind.{same-room, same-new, same-built, same-list}
 use Rattle.rank2.proofs.Pushes.{Pushed, Cented, cented, all-items, last-item, ratios-run}
@@ -182,7 +182,7 @@ period-cents period held g none e =
 -- ---- THE CALL
 module _ (t : ItemTable) (l : ListTable) (generator : Float) (positive negative : ℕ) (period : Float) where
   abbrev n : ℕ
-  n = countOf positive negative
+  n = noteCount positive negative
 
   abbrev call : Said (List Item)
   call = madeRank2 t l generator positive negative period

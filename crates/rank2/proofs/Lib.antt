@@ -3,3 +3,4 @@ pub mod Pushes
 pub mod Behind
 pub mod Calls
 pub mod Theorems
+pub mod Numbers

@@ -24,7 +24,7 @@ use Rattle.scl_tables.specs.Room.{roomOf}
 use Rattle.generate.specs.Generated.{madeOf, countedOf, itemsLeft, listLeft, Leaves}
 use Rattle.generate.proofs.Theorems.{beyond-when, accepted-or, made-leaves}
 use Rattle.notes.specs.Notes.{pitchAt}
-use Rattle.rank2.specs.Rank2.{countOf, isTemperament, itemsOf, temperamentOf, madeRank2, Tested, PeriodOne}
+use Rattle.rank2.specs.Rank2.{noteCount, isTemperament, itemsOf, temperamentOf, madeRank2, Tested, PeriodOne}
 use Rattle.rank2.proofs.Calls.{temperament-says, period-cents, too-many, not-usable, no-place, pushed-of, items-said, items-count}
 use Rattle.rank2.proofs.Pushes.{cented}
 use Rattle.rank2.proofs.Values.{values-of}
@@ -37,13 +37,13 @@ apart e h = absurd (h (same-refuses e .0))
 pub record Items (generator : Float) (positive negative : ℕ) (period : Float) : Type 0 where
   pub items : List Item
   pub are : temperamentOf generator positive negative period ≡ gives items
-  pub size : length items ≡ countOf positive negative
+  pub size : length items ≡ noteCount positive negative
   pub usable : areUsable items ≡ true
   pub held : AllHeld items
 
 module _ (generator : Float) (positive negative : ℕ) (period : Float) (by-held : fits binary64 generator ≡ true) (held : fits binary64 period ≡ true) where
   abbrev n : ℕ
-  n = countOf positive negative
+  n = noteCount positive negative
 
   -- NO NOTE IS REFUSED
   pub items-of : n ≤ 65535 → isTemperament generator period ≡ true → Items generator positive negative period

@@ -24,8 +24,8 @@ use Rattle.generate.specs.Generated.{madeOf}
 use Rattle.notes.specs.Notes.{pitchAt, ratiosFrom, ascending}
 
 -- the period, and a note for each generation
-abbrev pub countOf : ℕ → ℕ → ℕ
-countOf positive negative = positive + negative + 1
+abbrev pub noteCount : ℕ → ℕ → ℕ
+noteCount positive negative = positive + negative + 1
 
 -- "generator or period is outside 2^-32..2^32, or L(period) = 0": else it can be used
 abbrev pub isTemperament : Float → Float → Bool
@@ -47,23 +47,23 @@ itemsOf f n = andThen (ascendingOf f n) pushedAs
 -- those of a generator and a period
 abbrev pub temperamentOf : Float → ℕ → ℕ → Float → Said (List Item)
 temperamentOf generator positive negative period =
-    andThen (asCents generator) (λ g. andThen (asCents period) (λ p. itemsOf (pitchAt period g p positive) (countOf positive negative)))
+    andThen (asCents generator) (λ g. andThen (asCents period) (λ p. itemsOf (pitchAt period g p positive) (noteCount positive negative)))
 
 -- the items of an accepted call: 13, then 10, then 12, then 18
 unfoldable pub madeRank2 : ItemTable → ListTable → Float → ℕ → ℕ → Float → Said (List Item)
 madeRank2 t l generator positive negative period =
-    pick (leb (countOf positive negative) 65535)
-    (pick (isTemperament generator period) (madeOf t l (countOf positive negative) (temperamentOf generator positive negative period)) (refuses unusable 0))
+    pick (leb (noteCount positive negative) 65535)
+    (pick (isTemperament generator period) (madeOf t l (noteCount positive negative) (temperamentOf generator positive negative period)) (refuses unusable 0))
     (refuses too-large 0)
 
 -- ---- in whose words the theorems speak
 -- the tests before 18 pass
 pub record Tested (t : ItemTable) (l : ListTable) (generator : Float) (positive negative : ℕ) (period : Float) : Type 0 where
-  pub few : countOf positive negative ≤ 65535
+  pub few : noteCount positive negative ≤ 65535
   pub usable : isTemperament generator period ≡ true
-  pub room : countOf positive negative < roomOf t l
+  pub room : noteCount positive negative < roomOf t l
 
 -- two or more items, and the period of the scale, the ratio of its last item, is 1.0
 abbrev pub PeriodOne : Float → ℕ → ℕ → Float → Type 0
 PeriodOne generator positive negative period =
-    (2 ≤ countOf positive negative) × (andThen (temperamentOf generator positive negative period) (λ is. ratioOf (lastOf (implicit ∷ is))) ≡ gives oneF)
+    (2 ≤ noteCount positive negative) × (andThen (temperamentOf generator positive negative period) (λ is. ratioOf (lastOf (implicit ∷ is))) ≡ gives oneF)

@@ -5,3 +5,4 @@ pub mod Ratios
 pub mod Refusals
 pub mod Theorems
 pub mod Rising
+pub mod Numbers

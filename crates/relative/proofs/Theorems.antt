@@ -21,7 +21,7 @@ use Rattle.scl.specs.Items.{ratioOf}
 use Rattle.scl.specs.Table.{ItemTable, noItem, itemsIn, isItems}
 use Rattle.scl.specs.declared.Item.{Item}
 use Rattle.scl_tables.specs.Build.{lastOf, countOf}
-use Rattle.relative.specs.Refusals.{Reached}
+use Rattle.relative.specs.Refusals.{ReachedOrBeyond}
 use Rattle.relative.specs.Relative.{periodsOf, placeOf, stretched, relativePitchOf, sortedRelativePitchOf}
 use Rattle.relative.specs.Scales.{noEntry, tested, isScale}
 use Rattle.relative.proofs.Opened.{place-none, place-some}
@@ -37,7 +37,7 @@ place-le count d = go (eqb count 0) refl
     go false e = let t = place-some count d (eqb-false count 0 e) in omega (arith, t .0, t .1)
 
 -- ---- refusals: 10 for the tables, then 18 alone
-pub relative-refusals : (items : List Item) (d : ℤ) → Reached (relativePitchOf items d)
+pub relative-refusals : (items : List Item) (d : ℤ) → ReachedOrBeyond (relativePitchOf items d)
 unfolding relativePitchOf
 relative-refusals items d =
     let q = periodsOf (countOf items) d in
@@ -53,14 +53,14 @@ module _ (count : ℕ) (t : ItemTable) where
   pub items-refused : (s : Said Float) → isItems count t ≡ false → tested (isItems count t) s ≡ refuses unusable 0
   items-refused s h = rw h
 
-  pub period-refusals : isItems count t ≡ true → Reached (tested (isItems count t) (ratioOf (lastOf (itemsIn count t))))
+  pub period-refusals : isItems count t ≡ true → ReachedOrBeyond (tested (isItems count t) (ratioOf (lastOf (itemsIn count t))))
   period-refusals h = rw h (item-reached (lastOf (itemsIn count t)))
 
-  pub relative-pitch-refusals : (d : ℤ) → isItems count t ≡ true → Reached (tested (isItems count t) (relativePitchOf (itemsIn count t) d))
+  pub relative-pitch-refusals : (d : ℤ) → isItems count t ≡ true → ReachedOrBeyond (tested (isItems count t) (relativePitchOf (itemsIn count t) d))
   relative-pitch-refusals d h = rw h (relative-refusals (itemsIn count t) d)
 
   module _ (l : ListTable) (h : isItems count t ≡ true) (k : isList count l ≡ true) where
-    pub sorted-refusals : (d : ℤ) → Reached (sortedRelativePitchOf (itemsIn count t) (listIn count l) d)
+    pub sorted-refusals : (d : ℤ) → ReachedOrBeyond (sortedRelativePitchOf (itemsIn count t) (listIn count l) d)
     unfolding sortedRelativePitchOf
     sorted-refusals d =
         let q = periodsOf (countOf (itemsIn count t)) d in
@@ -69,7 +69,7 @@ module _ (count : ℕ) (t : ItemTable) where
         let in-list : at ≤ count = omega (arith, place-le (countOf (itemsIn count t)) d, items-count count t h) in
         and-reached (λ p. stretched p q r) (item-reached (lastOf (itemsIn count t))) (λ p hp. stretched-reached p q r hp (entry-reach count l k at in-list))
 
-    pub sorted-relative-pitch-refusals : (d : ℤ) → Reached (tested (isScale count t l) (sortedRelativePitchOf (itemsIn count t) (listIn count l) d))
+    pub sorted-relative-pitch-refusals : (d : ℤ) → ReachedOrBeyond (tested (isScale count t l) (sortedRelativePitchOf (itemsIn count t) (listIn count l) d))
     sorted-relative-pitch-refusals d = rw (h, k) (sorted-refusals d)
 
 -- ---- two results of one input are equal

@@ -8,6 +8,6 @@ use Rattle.base.specs.Said.{Said, gives, refuses}
 use Rattle.floats.specs.Ranges.{inReach}
 
 -- a number in 2^-900..2^900, or 18
-pub data Reached (s : Said Float) : Type 0 where
-  reached : (x : Float) → inReach x ≡ true → s ≡ gives x → Reached s
-  beyond : s ≡ refuses beyond-reach 0 → Reached s
+pub data ReachedOrBeyond (s : Said Float) : Type 0 where
+  reached : (x : Float) → inReach x ≡ true → s ≡ gives x → ReachedOrBeyond s
+  beyond : s ≡ refuses beyond-reach 0 → ReachedOrBeyond s

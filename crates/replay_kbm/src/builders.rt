@@ -17,7 +17,7 @@ pub fn pushed(builder: KbmBuilder, map: &mut [i32], field: &[u8]) -> BuilderAnsw
             if check::same(field, b"x") {
                 return builder.push_unmapped_key(map);
             }
-            BuilderAnswer::Refused(crate::first::NO_SUCH)
+            BuilderAnswer::Refused(frozen::NO_SUCH)
         }
     }
 }
@@ -25,8 +25,8 @@ pub fn pushed(builder: KbmBuilder, map: &mut [i32], field: &[u8]) -> BuilderAnsw
 // Where the answers of a push go on: the new count, or a refusal.
 pub fn after_push(answer: BuilderAnswer, line: &[u8], at: usize) -> usize {
     match answer {
-        BuilderAnswer::Is(builder) => crate::fields::after_size(builder.count, line, at),
-        BuilderAnswer::Refused(refusal) => crate::fields::after_refusal(refusal, line, at),
+        BuilderAnswer::Is(builder) => frozen::after_size(builder.count, line, at),
+        BuilderAnswer::Refused(refusal) => frozen::after_refusal(refusal, line, at),
     }
 }
 
@@ -74,7 +74,7 @@ fn with_octave(builder: KbmBuilder, field: &[u8]) -> BuilderAnswer {
             if check::same(field, b"-") {
                 return BuilderAnswer::Is(builder);
             }
-            BuilderAnswer::Refused(crate::first::NO_SUCH)
+            BuilderAnswer::Refused(frozen::NO_SUCH)
         }
     }
 }
@@ -121,6 +121,6 @@ pub fn after_build(builder: KbmBuilder, map: &mut [i32], line: &[u8], at: usize)
     let last = done.builder;
     match last.build(map) {
         KbmAnswer::Is(kbm) => crate::fields::after_mapping(kbm, line, done.answer),
-        KbmAnswer::Refused(refusal) => crate::fields::after_refusal(refusal, line, done.answer),
+        KbmAnswer::Refused(refusal) => frozen::after_refusal(refusal, line, done.answer),
     }
 }

@@ -1,6 +1,5 @@
 // Mappings, tables and roots as fields of a line. Where a part of an answer differs, what is left of the line is nothing, and a
 // table after it differs.
-use base::Refusal;
 use frozen::Float;
 use frozen::Size;
 use integers::I16;
@@ -151,22 +150,6 @@ fn is_mapping(kbm: Kbm, line: &[u8], at: usize) -> bool {
 pub fn after_mapping(kbm: Kbm, line: &[u8], at: usize) -> usize {
     if is_mapping(kbm, line, at) {
         return frozen::later(line, at, 7);
-    }
-    line.len()
-}
-
-// Where the field after this refusal starts; the line's end where another stands there.
-pub fn after_refusal(refusal: Refusal, line: &[u8], at: usize) -> usize {
-    if frozen::is_refusal(refusal, line, at) {
-        return frozen::later(line, at, 2);
-    }
-    line.len()
-}
-
-// Where the field after this size starts; the line's end where another stands there.
-pub fn after_size(size: usize, line: &[u8], at: usize) -> usize {
-    if frozen::is_size(size, line, at) {
-        return frozen::next(line, at);
     }
     line.len()
 }

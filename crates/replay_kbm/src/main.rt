@@ -67,7 +67,7 @@ fn is_same_read(map: &mut [i32], text: &mut [u8], line: &[u8], at: usize) -> boo
     let answer = frozen::next(line, size);
     let after = match first::read(text, length, map, room) {
         KbmAnswer::Is(kbm) => fields::after_mapping(kbm, line, answer),
-        KbmAnswer::Refused(refusal) => fields::after_refusal(refusal, line, answer),
+        KbmAnswer::Refused(refusal) => frozen::after_refusal(refusal, line, answer),
     };
     fields::is_table(map, room, line, after)
 }
@@ -90,8 +90,8 @@ fn is_export(map: &[i32], places: usize, out: &mut [u8], line: &[u8], after: usi
     };
     let answer = frozen::next(line, size);
     let last = match first::export(kbm, map, places, out, room) {
-        SizeAnswer::Is(written) => fields::after_size(written, line, answer),
-        SizeAnswer::Refused(refusal) => fields::after_refusal(refusal, line, answer),
+        SizeAnswer::Is(written) => frozen::after_size(written, line, answer),
+        SizeAnswer::Refused(refusal) => frozen::after_refusal(refusal, line, answer),
     };
     frozen::is_last(frozen::is_hex(out, room, line, last), line, last)
 }
@@ -135,7 +135,7 @@ fn is_same_build(map: &mut [i32], line: &[u8], at: usize) -> bool {
     match builders::started(new, PianoKey(start), PianoKey(end), octave) {
         BuilderAnswer::Is(builder) => is_build(builder, map, room, line, answer),
         BuilderAnswer::Refused(refusal) => {
-            let after = fields::after_refusal(refusal, line, answer);
+            let after = frozen::after_refusal(refusal, line, answer);
             fields::is_table(map, room, line, after)
         }
     }
@@ -187,7 +187,7 @@ fn is_finish(map: &[i32], places: usize, line: &[u8], after: usize) -> bool {
     let answer = frozen::later(line, after, 2);
     let last = match first::build(state.formal_octave(1), map, places) {
         KbmAnswer::Is(kbm) => fields::after_mapping(kbm, line, answer),
-        KbmAnswer::Refused(refusal) => fields::after_refusal(refusal, line, answer),
+        KbmAnswer::Refused(refusal) => frozen::after_refusal(refusal, line, answer),
     };
     fields::is_table(map, places, line, last)
 }

@@ -1,87 +1,157 @@
-// Runs of a builder, each push beside its answer.
+// Runs of a builder, each step beside its answer.
+use crate::Done;
 use frozen::Float;
 use frozen::Size;
+use frozen_scales::Items;
+use frozen_scales::List;
 use integers::U32;
 use pitch::Ratio;
 use scl::SclAnswer;
 use scl_build::SclBuilder;
 use scl_build::SclBuilderAnswer;
 
-// A push of a float, as a ratio or as cents.
-fn pushed_float(
-    builder: SclBuilder,
-    kind: &mut [u8],
-    cents: &mut [f64],
-    numer: &mut [u32],
-    denom: &mut [u32],
-    is_ratio: bool,
-    field: &[u8],
-) -> SclBuilderAnswer {
-    let Float::Is(x) = frozen::float_of(field) else {
-        return SclBuilderAnswer::Refused(crate::first::NO_SUCH);
-    };
-    if is_ratio {
-        return builder.push_ratio(kind, cents, numer, denom, Ratio(x));
-    }
-    builder.push_cents(kind, cents, numer, denom, x)
+// What a step of three fields asks for.
+enum Step {
+    New,
+    Cents(f64),
+    Ratio(f64),
+    Int(u32),
+    Fraction { above: u32, below: u32 },
+    Unknown,
 }
 
-// A push of an integer, or of a fraction.
-fn pushed_fraction(
-    builder: SclBuilder,
-    kind: &mut [u8],
-    cents: &mut [f64],
-    numer: &mut [u32],
-    denom: &mut [u32],
-    above: &[u8],
-    below: &[u8],
-) -> SclBuilderAnswer {
-    let U32::Is(n) = integers::read_u32(above) else {
-        return SclBuilderAnswer::Refused(crate::first::NO_SUCH);
+// The columns after a step, and its answer.
+struct Stepped {
+    items: Items,
+    list: List,
+    said: SclBuilderAnswer,
+}
+
+// `f NUMERATOR DENOMINATOR`, or `f INTEGER -`.
+fn read_fraction(line: &[u8], at: usize) -> Step {
+    let U32::Is(above) = integers::read_u32(frozen::field(line, frozen::later(line, at, 1))) else {
+        return Step::Unknown;
     };
-    match integers::read_u32(below) {
-        U32::Is(d) => builder.push_fraction(kind, cents, numer, denom, n, d),
-        U32::IsNot => builder.push_int(kind, cents, numer, denom, n),
+    match integers::read_u32(frozen::field(line, frozen::later(line, at, 2))) {
+        U32::Is(below) => Step::Fraction { above, below },
+        U32::IsNot => Step::Int(above),
     }
 }
 
-// One step of three fields: `n - -` for a new builder, `c CENTS -`, `r RATIO -`, `f NUMERATOR DENOMINATOR`, or `f INTEGER -`. For other
-// fields the answer is one that no line has.
-pub fn pushed(
-    builder: SclBuilder,
-    kind: &mut [u8],
-    cents: &mut [f64],
-    numer: &mut [u32],
-    denom: &mut [u32],
-    place: &[u32],
-    ratio: &[f64],
-    wraps: &[i32],
-    line: &[u8],
-    at: usize,
-) -> SclBuilderAnswer {
+// `n - -` for a new builder, `c CENTS -`, `r RATIO -`, or a fraction.
+fn read_step(line: &[u8], at: usize) -> Step {
     let name = frozen::field(line, at);
-    let value = frozen::field(line, frozen::later(line, at, 1));
-    let below = frozen::field(line, frozen::later(line, at, 2));
     if check::same(name, b"n") {
-        return SclBuilder::new(kind, cents, numer, denom, place, ratio, wraps);
+        return Step::New;
     }
     if check::same(name, b"f") {
-        return pushed_fraction(builder, kind, cents, numer, denom, value, below);
+        return read_fraction(line, at);
+    }
+    let Float::Is(x) = frozen::float_of(frozen::field(line, frozen::later(line, at, 1))) else {
+        return Step::Unknown;
+    };
+    if check::same(name, b"c") {
+        return Step::Cents(x);
     }
     if check::same(name, b"r") {
-        return pushed_float(builder, kind, cents, numer, denom, true, value);
+        return Step::Ratio(x);
     }
-    if check::same(name, b"c") {
-        return pushed_float(builder, kind, cents, numer, denom, false, value);
-    }
-    SclBuilderAnswer::Refused(crate::first::NO_SUCH)
+    Step::Unknown
 }
 
-// Where the answers of a push go on: the new count, or a refusal.
-pub fn after_push(answer: SclBuilderAnswer, line: &[u8], at: usize) -> usize {
+// One step on these columns.
+fn step_on(items: Items, list: List, builder: SclBuilder, step: Step) -> Stepped {
+    let mut kind = items.kind;
+    let mut cents = items.cents;
+    let mut numer = items.numer;
+    let mut denom = items.denom;
+    let place = list.place;
+    let ratio = list.ratio;
+    let wraps = list.wraps;
+    let said = match step {
+        Step::New => SclBuilder::new(
+            &mut kind,
+            &mut cents,
+            &mut numer,
+            &mut denom,
+            &place,
+            &ratio,
+            &wraps,
+        ),
+        Step::Cents(x) => builder.push_cents(&mut kind, &mut cents, &mut numer, &mut denom, x),
+        Step::Ratio(x) => builder.push_ratio(
+            &mut kind,
+            &mut cents,
+            &mut numer,
+            &mut denom,
+            Ratio(x),
+        ),
+        Step::Int(x) => builder.push_int(&mut kind, &mut cents, &mut numer, &mut denom, x),
+        Step::Fraction { above, below } => builder.push_fraction(
+            &mut kind,
+            &mut cents,
+            &mut numer,
+            &mut denom,
+            above,
+            below,
+        ),
+        Step::Unknown => SclBuilderAnswer::Refused(frozen::NO_SUCH),
+    };
+    let items = Items {
+        kind,
+        cents,
+        numer,
+        denom,
+    };
+    let list = List {
+        place,
+        ratio,
+        wraps,
+    };
+    Stepped { items, list, said }
+}
+
+// The build of these columns, beside its answer.
+fn built(items: Items, list: List, builder: SclBuilder, line: &[u8], answer: usize) -> Done {
+    let kind = items.kind;
+    let cents = items.cents;
+    let numer = items.numer;
+    let denom = items.denom;
+    let mut place = list.place;
+    let mut ratio = list.ratio;
+    let mut wraps = list.wraps;
+    let said = builder.build(
+        &kind,
+        &cents,
+        &numer,
+        &denom,
+        &mut place,
+        &mut ratio,
+        &mut wraps,
+    );
+    let after = match said {
+        SclAnswer::Is(scl) => frozen::after_size(scl.count as usize, line, answer),
+        SclAnswer::Refused(refusal) => frozen::after_refusal(refusal, line, answer),
+    };
+    let items = Items {
+        kind,
+        cents,
+        numer,
+        denom,
+    };
+    let list = List {
+        place,
+        ratio,
+        wraps,
+    };
+    Done { items, list, after }
+}
+
+// Where the answers of a step go on: the new count, or a refusal.
+fn after_push(answer: SclBuilderAnswer, line: &[u8], at: usize) -> usize {
     match answer {
-        SclBuilderAnswer::Is(builder) => crate::shown::after_size(builder.count, line, at),
-        SclBuilderAnswer::Refused(refusal) => crate::shown::after_refusal(refusal, line, at),
+        SclBuilderAnswer::Is(builder) => frozen::after_size(builder.count, line, at),
+        SclBuilderAnswer::Refused(refusal) => frozen::after_refusal(refusal, line, at),
     }
 }
 
@@ -93,84 +163,81 @@ fn kept(answer: SclBuilderAnswer, old: SclBuilder) -> SclBuilder {
     }
 }
 
-struct Done {
-    builder: SclBuilder,
-    answer: usize,
-}
-
-// All steps of a line, each beside its answer: the builder after them, and where the next answer stands.
-fn run(
-    kind: &mut [u8],
-    cents: &mut [f64],
-    numer: &mut [u32],
-    denom: &mut [u32],
-    place: &[u32],
-    ratio: &[f64],
-    wraps: &[i32],
-    pushes: usize,
-    line: &[u8],
-    from: usize,
-    answers: usize,
-) -> Done {
+// All steps of a line, each beside its answer, and the build.
+fn run(steps: usize, line: &[u8], from: usize, answers: usize) -> Done {
+    let mut items = frozen_scales::lent_items();
+    let mut list = frozen_scales::lent_list();
     let mut builder = SclBuilder { room: 0, count: 0 };
     let mut at = from;
     let mut answer = answers;
-    let mut k = 0;
-    while k < pushes {
-        let said = pushed(
-            builder,
-            kind,
-            cents,
-            numer,
-            denom,
-            place,
-            ratio,
-            wraps,
-            line,
-            at,
-        );
+    let mut k: usize = 0;
+    while k < steps {
+        let one = step_on(items, list, builder, read_step(line, at));
+        items = one.items;
+        list = one.list;
+        let said = one.said;
         answer = after_push(said, line, answer);
         builder = kept(said, builder);
         at = frozen::later(line, at, 3);
         k += 1;
     }
-    Done { builder, answer }
+    built(items, list, builder, line, answer)
 }
 
-// Where the answers go on after the steps and the build.
-pub fn after_run(
-    kind: &mut [u8],
-    cents: &mut [f64],
-    numer: &mut [u32],
-    denom: &mut [u32],
-    place: &mut [u32],
-    ratio: &mut [f64],
-    wraps: &mut [i32],
-    line: &[u8],
-    at: usize,
-) -> usize {
-    let Size::Is(pushes) = frozen::size_of(line, at) else {
-        return line.len();
+// `build STEPS ..`, each step of three fields, a new builder first: the count after each step, and that of the scale, each of
+// them or a refusal; then the places.
+pub fn is_same_build(line: &[u8], at: usize) -> bool {
+    let Size::Is(n) = frozen::size_of(line, at) else {
+        return false;
     };
     let from = frozen::next(line, at);
-    let once = frozen::later(line, from, pushes);
-    let twice = frozen::later(line, once, pushes);
-    let done = run(
-        kind,
-        cents,
-        numer,
-        denom,
-        place,
-        ratio,
-        wraps,
-        pushes,
-        line,
-        from,
-        frozen::later(line, twice, pushes),
+    let once = frozen::later(line, from, n);
+    let twice = frozen::later(line, once, n);
+    let done = run(n, line, from, frozen::later(line, twice, n));
+    let items = done.items;
+    let list = done.list;
+    frozen_scales::are_places(items, list, line, done.after)
+}
+
+// A builder's state that need not be the columns'; for fields that are no numbers one that no line has.
+fn read_state(line: &[u8], at: usize) -> SclBuilder {
+    let Size::Is(room) = frozen::size_of(line, at) else {
+        return SclBuilder { room: 0, count: 0 };
+    };
+    let Size::Is(count) = frozen::size_of(line, frozen::next(line, at)) else {
+        return SclBuilder { room: 0, count: 0 };
+    };
+    SclBuilder { room, count }
+}
+
+// `push ROOM COUNT ..` on a state that need not be the columns', and three fields of a push: the new count or a refusal, then the
+// places.
+pub fn is_same_push(line: &[u8], at: usize) -> bool {
+    let step = read_step(line, frozen::later(line, at, 2));
+    let one = step_on(
+        frozen_scales::lent_items(),
+        frozen_scales::lent_list(),
+        read_state(line, at),
+        step,
     );
-    let last = done.builder;
-    match last.build(kind, cents, numer, denom, place, ratio, wraps) {
-        SclAnswer::Is(scl) => crate::shown::after_size(scl.count as usize, line, done.answer),
-        SclAnswer::Refused(refusal) => crate::shown::after_refusal(refusal, line, done.answer),
-    }
+    let said = one.said;
+    let after = after_push(said, line, frozen::later(line, at, 5));
+    let items = one.items;
+    let list = one.list;
+    frozen_scales::are_places(items, list, line, after)
+}
+
+// `finish ROOM COUNT`, the build of a state that need not be the columns': the count or a refusal, then the places.
+pub fn is_same_finish(line: &[u8], at: usize) -> bool {
+    let answer = frozen::later(line, at, 2);
+    let done = built(
+        frozen_scales::lent_items(),
+        frozen_scales::lent_list(),
+        read_state(line, at),
+        line,
+        answer,
+    );
+    let items = done.items;
+    let list = done.list;
+    frozen_scales::are_places(items, list, line, done.after)
 }

@@ -1,24 +1,29 @@
 // Replays frozen answers on scales (the crate `frozen` says how a line is written): writes how many are the same and how many differ.
 // The list is made by `oracle freeze`.
 //
-// Each call but an export is lent seven columns of 16 places, that of the kinds cut to a room where the line says one. An answer ends
-// with a number of places, and what stands in each of them after the call: kind, cents, numerator, denominator, place, ratio,
-// wraparounds. All places behind them must be as before.
+// Each call is lent seven columns of 16 places (the crate `frozen_scales`). An answer of a read or a build ends with a number of places, and
+// what stands in each of them after the call. All places behind them must be as before.
 use frozen::Counts;
 use frozen::Float;
 use frozen::Size;
+use frozen_scales::Items;
+use frozen_scales::List;
 use integers::U32;
 use libc::STDIN_FILENO;
 use libc::STDOUT_FILENO;
 use pitch::RatioAnswer;
-use scl::SclAnswer;
-use scl_build::SclBuilder;
+use scl_read::SclRead;
 use scl_read::SclReadAnswer;
 
 mod builders;
 mod exports;
-mod first;
-mod shown;
+
+// The columns after a call, and where the line goes on after its answer.
+pub struct Done {
+    pub items: Items,
+    pub list: List,
+    pub after: usize,
+}
 
 // `ratio KIND CENTS NUMERATOR DENOMINATOR`: the ratio of the item, or a refusal.
 fn is_same_ratio(line: &[u8], at: usize) -> bool {
@@ -43,234 +48,91 @@ fn is_same_ratio(line: &[u8], at: usize) -> bool {
     }
 }
 
-// `read TEXT ROOM`: count, start and end of the description, or a refusal; then the places.
-fn is_same_read(
-    kind: &mut [u8],
-    cents: &mut [f64],
-    numer: &mut [u32],
-    denom: &mut [u32],
-    place: &mut [u32],
-    ratio: &mut [f64],
-    wraps: &mut [i32],
-    line: &[u8],
-    at: usize,
-) -> bool {
+// Where the field after a scale that was read starts: its count, and the start and end of its description.
+fn after_read(read: SclRead, line: &[u8], at: usize) -> usize {
+    let scl = read.scl;
+    let description = read.description;
+    let count = frozen::after_size(scl.count as usize, line, at);
+    let start = frozen::after_size(description.start, line, count);
+    frozen::after_size(description.end, line, start)
+}
+
+// The text read into these columns, beside its answer.
+fn read(items: Items, list: List, text: &[u8], line: &[u8], answer: usize) -> Done {
+    let mut kind = items.kind;
+    let mut cents = items.cents;
+    let mut numer = items.numer;
+    let mut denom = items.denom;
+    let mut place = list.place;
+    let mut ratio = list.ratio;
+    let mut wraps = list.wraps;
+    let said = scl_read::read_scl(
+        text,
+        &mut kind,
+        &mut cents,
+        &mut numer,
+        &mut denom,
+        &mut place,
+        &mut ratio,
+        &mut wraps,
+    );
+    let after = match said {
+        SclReadAnswer::Is(scale) => after_read(scale, line, answer),
+        SclReadAnswer::Refused(refusal) => frozen::after_refusal(refusal, line, answer),
+    };
+    let items = Items {
+        kind,
+        cents,
+        numer,
+        denom,
+    };
+    let list = List {
+        place,
+        ratio,
+        wraps,
+    };
+    Done { items, list, after }
+}
+
+// `read TEXT`: count, start and end of the description, or a refusal; then the places.
+fn is_same_read(line: &[u8], at: usize) -> bool {
     let mut text = [238u8; 512];
     let Size::Is(length) = frozen::unhex(line, at, &mut text) else {
         return false;
     };
-    is_read(
-        kind,
-        cents,
-        numer,
-        denom,
-        place,
-        ratio,
-        wraps,
-        &text,
-        length,
-        line,
-        frozen::next(line, at),
-    )
-}
-
-fn is_read(
-    kind: &mut [u8],
-    cents: &mut [f64],
-    numer: &mut [u32],
-    denom: &mut [u32],
-    place: &mut [u32],
-    ratio: &mut [f64],
-    wraps: &mut [i32],
-    text: &[u8],
-    length: usize,
-    line: &[u8],
-    at: usize,
-) -> bool {
-    let Size::Is(room) = frozen::size_of(line, at) else {
-        return false;
-    };
-    let answer = frozen::next(line, at);
-    let after = match first::read(
-        text,
-        length,
-        kind,
-        room,
-        cents,
-        numer,
-        denom,
-        place,
-        ratio,
-        wraps,
-    ) {
-        SclReadAnswer::Is(read) => shown::after_read(read, line, answer),
-        SclReadAnswer::Refused(refusal) => shown::after_refusal(refusal, line, answer),
-    };
-    shown::are_places(kind, cents, numer, denom, place, ratio, wraps, line, after)
-}
-
-// `build ROOM STEPS ..`, each step of three fields, a new builder first: the count after each step, and that of the scale, each of them
-// or a refusal; then the places.
-fn is_same_build(
-    kind: &mut [u8],
-    cents: &mut [f64],
-    numer: &mut [u32],
-    denom: &mut [u32],
-    place: &mut [u32],
-    ratio: &mut [f64],
-    wraps: &mut [i32],
-    line: &[u8],
-    at: usize,
-) -> bool {
-    let Size::Is(room) = frozen::size_of(line, at) else {
-        return false;
-    };
-    let after = first::after_run(
-        kind,
-        room,
-        cents,
-        numer,
-        denom,
-        place,
-        ratio,
-        wraps,
+    let done = read(
+        frozen_scales::lent_items(),
+        frozen_scales::lent_list(),
+        frozen::first(&text, length),
         line,
         frozen::next(line, at),
     );
-    shown::are_places(kind, cents, numer, denom, place, ratio, wraps, line, after)
-}
-
-// `push ROOM COUNT ..` on a state that need not be the columns', and three fields of a push: the new count or a refusal, then the
-// places.
-fn is_same_push(
-    kind: &mut [u8],
-    cents: &mut [f64],
-    numer: &mut [u32],
-    denom: &mut [u32],
-    place: &[u32],
-    ratio: &[f64],
-    wraps: &[i32],
-    line: &[u8],
-    at: usize,
-) -> bool {
-    let Size::Is(room) = frozen::size_of(line, at) else {
-        return false;
-    };
-    let Size::Is(count) = frozen::size_of(line, frozen::later(line, at, 1)) else {
-        return false;
-    };
-    let state = SclBuilder { room, count };
-    let said = builders::pushed(
-        state,
-        kind,
-        cents,
-        numer,
-        denom,
-        place,
-        ratio,
-        wraps,
-        line,
-        frozen::later(line, at, 2),
-    );
-    let after = builders::after_push(said, line, frozen::later(line, at, 5));
-    shown::are_places(kind, cents, numer, denom, place, ratio, wraps, line, after)
-}
-
-// `finish ROOM COUNT`, the build of a state that need not be the columns': the count or a refusal, then the places.
-fn is_same_finish(
-    kind: &[u8],
-    cents: &[f64],
-    numer: &[u32],
-    denom: &[u32],
-    place: &mut [u32],
-    ratio: &mut [f64],
-    wraps: &mut [i32],
-    line: &[u8],
-    at: usize,
-) -> bool {
-    let Size::Is(room) = frozen::size_of(line, at) else {
-        return false;
-    };
-    let Size::Is(count) = frozen::size_of(line, frozen::later(line, at, 1)) else {
-        return false;
-    };
-    let state = SclBuilder { room, count };
-    let answer = frozen::later(line, at, 2);
-    let after = match state.build(kind, cents, numer, denom, place, ratio, wraps) {
-        SclAnswer::Is(scl) => shown::after_size(scl.count as usize, line, answer),
-        SclAnswer::Refused(refusal) => shown::after_refusal(refusal, line, answer),
-    };
-    shown::are_places(kind, cents, numer, denom, place, ratio, wraps, line, after)
+    let items = done.items;
+    let list = done.list;
+    frozen_scales::are_places(items, list, line, done.after)
 }
 
 // Whether a call gives the answer of its line.
 fn is_same(line: &[u8]) -> bool {
     let name = frozen::field(line, frozen::next(line, 0));
     let at = frozen::later(line, 0, 2);
-    let mut kind = [9u8; 16];
-    let mut cents = [2.0; 16];
-    let mut numer = [7u32; 16];
-    let mut denom = [7u32; 16];
-    let mut place = [8u32; 16];
-    let mut ratio = [0.5; 16];
-    let mut wraps = [8; 16];
     if check::same(name, b"ratio") {
         return is_same_ratio(line, at);
     }
-    if check::same(name, b"export") {
-        return exports::is_same_export(&mut kind, &mut cents, &mut numer, &mut denom, line, at);
-    }
     if check::same(name, b"read") {
-        return is_same_read(
-            &mut kind,
-            &mut cents,
-            &mut numer,
-            &mut denom,
-            &mut place,
-            &mut ratio,
-            &mut wraps,
-            line,
-            at,
-        );
+        return is_same_read(line, at);
+    }
+    if check::same(name, b"export") {
+        return exports::is_same_export(line, at);
     }
     if check::same(name, b"build") {
-        return is_same_build(
-            &mut kind,
-            &mut cents,
-            &mut numer,
-            &mut denom,
-            &mut place,
-            &mut ratio,
-            &mut wraps,
-            line,
-            at,
-        );
+        return builders::is_same_build(line, at);
     }
     if check::same(name, b"push") {
-        return is_same_push(
-            &mut kind,
-            &mut cents,
-            &mut numer,
-            &mut denom,
-            &place,
-            &ratio,
-            &wraps,
-            line,
-            at,
-        );
+        return builders::is_same_push(line, at);
     }
     if check::same(name, b"finish") {
-        return is_same_finish(
-            &kind,
-            &cents,
-            &numer,
-            &denom,
-            &mut place,
-            &mut ratio,
-            &mut wraps,
-            line,
-            at,
-        );
+        return builders::is_same_finish(line, at);
     }
     false
 }

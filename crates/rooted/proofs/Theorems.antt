@@ -26,7 +26,7 @@ use Rattle.sorting.specs.Entries.{Entry}
 use Rattle.scl.specs.declared.Item.{Item}
 use Rattle.kbm.specs.Root.{isRoot}
 use Rattle.kbm.specs.declared.KbmRoot.{KbmRoot}
-use Rattle.relative.specs.Refusals.{Reached}
+use Rattle.relative.specs.Refusals.{ReachedOrBeyond}
 use Rattle.relative.specs.Relative.{sortedRelativePitchOf}
 use Rattle.relative.proofs.Refusals.{move, and-reached, computed-reached}
 use Rattle.relative.proofs.Theorems.{relative-refusals}
@@ -71,18 +71,18 @@ module _ (root : KbmRoot) where
 
 -- ---- refusals
 module _ (items : List Item) (hz : Float) (h : inReach hz ≡ true) where
-  pub root-reached : (at : ℤ) → Reached (rootPitch items hz at)
+  pub root-reached : (at : ℤ) → ReachedOrBeyond (rootPitch items hz at)
   unfolding rootPitch
   root-reached at = and-reached (pitchOver hz) (relative-refusals items at) (λ x r. move (rw (h, r) refl) (computed-reached (div binary64 hz x)))
 
-  above-reached : {ratio : Said Float} → Reached ratio → (at : ℤ) → Reached (above (rootPitch items hz at) ratio)
+  above-reached : {ratio : Said Float} → ReachedOrBeyond ratio → (at : ℤ) → ReachedOrBeyond (above (rootPitch items hz at) ratio)
   above-reached {ratio} k at = and-reached (λ first. andThen ratio (pitchTimes first)) (root-reached at) (λ first r. and-reached (pitchTimes first) k (λ x q. move (rw (r, q) refl) (computed-reached (mul binary64 first x))))
 
-  pub from-reached : (at d : ℤ) → Reached (pitchFrom items hz at d)
+  pub from-reached : (at d : ℤ) → ReachedOrBeyond (pitchFrom items hz at d)
   unfolding pitchFrom
   from-reached at d = above-reached (relative-refusals items d) at
 
-  pub sorted-from-reached : (es : List Entry) (at d : ℤ) → Reached (sortedRelativePitchOf items es d) → Reached (sortedPitchFrom items es hz at d)
+  pub sorted-from-reached : (es : List Entry) (at d : ℤ) → ReachedOrBeyond (sortedRelativePitchOf items es d) → ReachedOrBeyond (sortedPitchFrom items es hz at d)
   unfolding sortedPitchFrom
   sorted-from-reached es at d k = above-reached k at
 
@@ -91,7 +91,7 @@ module _ (root : KbmRoot) (o : isRoot root ≡ true) (m : mag (root .offset) < 2
   hz-reach = within-reach (within-more (lit≤ tt) (lit≤ tt) (pitch-says (root .pitch .0) o))
 
   -- 11 exactly for the lowest offset, then 18
-  after-offset : (f : ℤ → Said Float) → ((at : ℤ) → Reached (f at)) → Pitched root (andThen (rootDegree root) f)
+  after-offset : (f : ℤ → Said Float) → ((at : ℤ) → ReachedOrBeyond (f at)) → Pitched root (andThen (rootDegree root) f)
   after-offset f r = elim (lowest (root .offset)) [
     | inl e ↦ unturned e (ap (λ (s : Said ℤ). andThen s f) (offset-refused root e))
     | inr n ↦ pitched n (move (ap (λ (s : Said ℤ). andThen s f) (offset-turned root m n)) (r (pos 0 -ℤ root .offset)))
@@ -102,7 +102,7 @@ module _ (root : KbmRoot) (o : isRoot root ≡ true) (m : mag (root .offset) < 2
   unfolding pitchOf
   pitch-refusals items d = after-offset (λ at. pitchFrom items (root .pitch .0) at d) (λ at. from-reached items (root .pitch .0) hz-reach at d)
 
-  pub sorted-pitch-refusals : (items : List Item) (es : List Entry) (d : ℤ) → Reached (sortedRelativePitchOf items es d) → Pitched root (sortedPitchOf items es root d)
+  pub sorted-pitch-refusals : (items : List Item) (es : List Entry) (d : ℤ) → ReachedOrBeyond (sortedRelativePitchOf items es d) → Pitched root (sortedPitchOf items es root d)
   unfolding sortedPitchOf
   sorted-pitch-refusals items es d k = after-offset (λ at. sortedPitchFrom items es (root .pitch .0) at d) (λ at. sorted-from-reached items (root .pitch .0) hz-reach es at d k)
 
@@ -124,3 +124,6 @@ degree-pitch-one items root d = pitch-one (pitchOf items root d)
 
 pub sorted-degree-pitch-one : (items : List Item) (es : List Entry) (root : KbmRoot) (d : ℤ) → One saysPitch (sortedPitchOf items es root d)
 sorted-degree-pitch-one items es root d = pitch-one (sortedPitchOf items es root d)
+
+pub times-answer-one : (hz : Float) (ratio : Said Float) → One saysPitch (andThen ratio (pitchTimes hz))
+times-answer-one hz ratio = pitch-one (andThen ratio (pitchTimes hz))

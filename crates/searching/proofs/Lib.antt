@@ -4,3 +4,4 @@ pub mod Parting
 pub mod Given
 pub mod Refusals
 pub mod Theorems
+pub mod Numbers

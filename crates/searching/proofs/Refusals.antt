@@ -25,7 +25,7 @@ use Rattle.scl.specs.declared.Item.{Item}
 use Rattle.reduction.specs.Reduce.{reducedTo, reducedOctaves, reducedBy}
 use Rattle.reduction.proofs.Reaches.{reduced-reach}
 use Rattle.scl_tables.specs.Build.{lastOf, countOf}
-use Rattle.relative.specs.Refusals.{Reached}
+use Rattle.relative.specs.Refusals.{ReachedOrBeyond}
 use Rattle.relative.specs.Scales.{noEntry}
 use Rattle.relative.proofs.Places.{items-count, list-at, list-count, ratio-reach}
 use Rattle.relative.proofs.Ratios.{item-held}
@@ -76,7 +76,7 @@ octaves-or x = on computed (where-held (inPowers x) (value (powerOf (floorOf x))
 count-or : (q : Float) → OrBeyond (count q)
 count-or q = where-held (le leastI32 q && lt q pastI32) (value (toSigned 31 q))
 
-reduced-or : (period x : Float) → OrBeyond (reducedBy period x)
+pub reduced-or : (period x : Float) → OrBeyond (reducedBy period x)
 reduced-or period x =
     either (negligible period) (value (reducedTo x (pos 0)))
     (on (λ size. andThen (L x) (reducedOctaves size)) (log-or period) (λ size e. on (reducedOctaves size) (log-or x) (λ o e. on (λ r. andThen (count (divEuclid o size)) (λ w. gives (reducedTo r w))) (octaves-or (remEuclid o size)) (λ r e. on (λ w. gives (reducedTo r w)) (count-or (divEuclid o size)) (λ w e. value (reducedTo r w))))))
@@ -135,9 +135,9 @@ module _ (count : ℕ) (t : ItemTable) (l : ListTable) (it : isItems count t ≡
       last : OrBeyond (ratioOf (lastOf items))
       last = from (item-reached (lastOf items))
         where
-          from : {s : Said Float} → Reached s → OrBeyond s
-          from (Reached.reached p r e) = given p e
-          from (Reached.beyond e) = beyond e
+          from : {s : Said Float} → ReachedOrBeyond s → OrBeyond s
+          from (ReachedOrBeyond.reached p r e) = given p e
+          from (ReachedOrBeyond.beyond e) = beyond e
 
       go : (b : Bool) → eqb (countOf items) 0 ≡ b → OrBeyond (pick b (gives (foundAt (getD es 0 noEntry) 0 (pos 0) x)) (andThen (ratioOf (lastOf items)) (λ p. andThen (L p) (λ z. pick (eqb (countOf items) 1 && eq z zeroF) (refuses beyond-reach 0) (andThen (reducedBy p x) (λ y. nearestOf es (y .wraps) (y .ratio)))))))
       go true e = value (foundAt (getD es 0 noEntry) 0 (pos 0) x)

@@ -31,11 +31,12 @@ use Rattle.relative.specs.Scales.{noEntry}
 use Rattle.relative.proofs.Back.{then-given, pick-other}
 use Rattle.relative.proofs.Places.{items-length, list-room, list-length}
 use Rattle.relative.proofs.Ratios.{item-held}
-use Rattle.searching.specs.Answers.{saysFound}
+use Rattle.searching.specs.Answers.{saysChoice, saysFound}
 use Rattle.searching.specs.Nearest.{ratioAt, aboveBy, belowBy, Picked, lower, upper, Searched}
 use Rattle.searching.specs.Search.{tolerance, choice, chosenOf, upperOf, indexOf, foundAt, nearestOf, searchOf}
 use Rattle.searching.specs.declared.Choice.{Choice}
 use Rattle.searching.specs.declared.Found.{Found}
+use Rattle.searching.specs.declared.ChoiceAnswer.the-variants as OfChoice
 use Rattle.searching.specs.declared.FoundAnswer.the-variants as OfFound
 use Rattle.searching.proofs.Opened.{lastly, chosen-is, search-none}
 use Rattle.searching.proofs.Parting.{ratio-at, parts}
@@ -133,3 +134,10 @@ found-one = one-plain found-split saysFound (λ a. refl) (λ r. refl)
 
 pub search-one : (items : List Item) (es : List Entry) (x : Float) → One saysFound (searchOf items es x)
 search-one items es x = found-one (searchOf items es x)
+
+choice-split : Split OfChoice.Is OfChoice.Refused
+choice-split (OfChoice.Is x) = inl (x, refl)
+choice-split (OfChoice.Refused r) = inr (r, refl)
+
+pub choose-one : (a b x : Float) → One saysChoice (chosenOf a b x)
+choose-one a b x = one-plain choice-split saysChoice (λ c. refl) (λ r. refl) (chosenOf a b x)

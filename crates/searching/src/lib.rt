@@ -62,7 +62,7 @@ fn are_in_reach(x: f64, y: f64, z: f64) -> bool
 }
 
 // Which of two neighbours comes nearer to the target, the lower one where both do within the tolerance; 18.
-fn choose(lower: f64, upper: f64, target: f64) -> ChoiceAnswer
+pub fn choose(lower: f64, upper: f64, target: f64) -> ChoiceAnswer
     requires { ⌜ (inReach lower ≡ true) × (inReach upper ≡ true) × (inReach target ≡ true) ⌝ }
     ensures { λ r. ⌜ saysChoice r ≡ chosenOf lower upper target ⌝ }
 {

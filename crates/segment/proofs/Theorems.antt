@@ -5,7 +5,7 @@ use Prim.Native.Nat.{ℕ}
 use Rattle.base.specs.Said.{Said}
 use Rattle.base.proofs.Said.{One, Split, one-result, one-plain}
 use Rattle.segment.specs.Answers.{saysFraction, saysSteps}
-use Rattle.segment.specs.Segment.{fraction, wholeAt, fractionAt, stepsOf, countOf}
+use Rattle.segment.specs.Segment.{fraction, wholeAt, fractionAt, stepsOf, segmentCount}
 use Rattle.segment.specs.declared.Divisions.{Divisions}
 use Rattle.segment.specs.declared.Fraction.{Fraction}
 use Rattle.segment.specs.declared.FractionAnswer.the-variants as OfFraction
@@ -33,5 +33,5 @@ fraction-at-one type start size steps j = one-plain fraction-split saysFraction 
 pub steps-of-one : (start size : ℕ) (divisions : Divisions) → One saysSteps (stepsOf start size divisions)
 steps-of-one start size divisions = one-plain steps-split saysSteps (λ a. refl) (λ r. refl) (stepsOf start size divisions)
 
-pub count-of-one : (size : ℕ) (divisions : Divisions) → One (λ r. r) (countOf size divisions)
-count-of-one size divisions = one-result (countOf size divisions)
+pub count-of-one : (size : ℕ) (divisions : Divisions) → One (λ r. r) (segmentCount size divisions)
+count-of-one size divisions = one-result (segmentCount size divisions)

@@ -59,6 +59,6 @@ stepsOf start size (Into number) =
     andThen (andThen (fromFloat (intervalOf start size)) (λ ratio. dividedInto ratio (float number))) (λ step. gives (Equal step))
 
 -- how many items there are
-abbrev pub countOf : ℕ → Divisions → ℕ
-countOf size Lacking = size
-countOf size (Into number) = number
+abbrev pub segmentCount : ℕ → Divisions → ℕ
+segmentCount size Lacking = size
+segmentCount size (Into number) = number

@@ -9,7 +9,7 @@ use pitch::RatioAnswer;
 ghost use mathlib.Core.Path.{_≡_};
 ghost use lib.Ieee.{toUnsigned};
 ghost use Rattle.segment.specs.Answers.{saysFraction, saysSteps};
-ghost use Rattle.segment.specs.Segment.{harmonicOf, wholeAt, nearAt, fractionAt, stepsOf, countOf};
+ghost use Rattle.segment.specs.Segment.{harmonicOf, wholeAt, nearAt, fractionAt, stepsOf, segmentCount};
 
 // Which segment: `n:n+1:n+2:..`, or `n/(n:n-1:n-2:..)`.
 pub enum SegmentType {
@@ -159,7 +159,7 @@ pub fn steps_of(start: u16, size: u16, divisions: Divisions) -> StepsAnswer
 
 // How many items a segment has: its size, or its divisions.
 pub fn count_of(size: u16, divisions: Divisions) -> u16
-    ensures { λ r. ⌜ r ≡ countOf size divisions ⌝ }
+    ensures { λ r. ⌜ r ≡ segmentCount size divisions ⌝ }
 {
     match divisions {
         Divisions::Lacking => size,

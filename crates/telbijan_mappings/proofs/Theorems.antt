@@ -17,7 +17,13 @@ use Rattle.kbm_read.specs.Reader.{readOf, afterRead}
 use Rattle.writing.specs.Fitted.{textLength}
 use Rattle.kbm_write.specs.Export.{exportOf}
 use Rattle.telbijan_answers.specs.Interface.{result, kept, fieldOf}
-use Rattle.telbijan_mappings.specs.Mappings.{mappingWith, octaveWith, builderWith, pushingWith}
+use Rattle.telbijan_mappings.specs.Mappings.{rootWith, mappingWith, octaveWith, builderWith, pushingWith}
+
+pub root-with-one : (reference : ℤ) (hz : Float) (offset : ℤ) → One (λ r. r) (rootWith reference hz offset)
+root-with-one reference hz offset = one-result (rootWith reference hz offset)
+
+pub mapping-with-one : (count : ℕ) (start : ℤ) (end : ℤ) (reference : ℤ) (hz : Float) (offset : ℤ) (octave : ℤ) → One (λ r. r) (mappingWith count start end reference hz offset octave)
+mapping-with-one count start end reference hz offset octave = one-result (mappingWith count start end reference hz offset octave)
 
 pub scale-degree-of-one : (map : List ℤ) (count : ℕ) (start : ℤ) (end : ℤ) (reference : ℤ) (hz : Float) (offset : ℤ) (octave : ℤ) (number : ℤ) (degree : ℤ) → One (λ r. r) (result (scaleDegreeOf (mappingWith count start end reference hz offset octave) map (key number))) × One (λ r. r) (kept (scaleDegreeOf (mappingWith count start end reference hz offset octave) map (key number)) degree)
 scale-degree-of-one map count start end reference hz offset octave number degree = (one-result (result (scaleDegreeOf (mappingWith count start end reference hz offset octave) map (key number))), one-result (kept (scaleDegreeOf (mappingWith count start end reference hz offset octave) map (key number)) degree))

@@ -24,7 +24,7 @@ ghost use Rattle.telbijan_answers.specs.Interface.{result, kept, fieldOf};
 ghost use Rattle.telbijan_mappings.specs.Mappings.{rootWith, mappingWith, octaveWith, builderWith, pushingWith};
 
 // The root of its numbers.
-pub fn root(reference: i32, hz: f64, offset: i32) -> KbmRoot
+pub fn root_with(reference: i32, hz: f64, offset: i32) -> KbmRoot
     ensures { λ r. ⌜ r ≡ rootWith reference hz offset ⌝ }
 {
     KbmRoot {
@@ -35,7 +35,7 @@ pub fn root(reference: i32, hz: f64, offset: i32) -> KbmRoot
 }
 
 // The mapping of its numbers.
-pub fn mapping(
+pub fn mapping_with(
     count: u16,
     start: i32,
     end: i32,
@@ -77,7 +77,7 @@ pub extern "C" fn telbijan_scale_degree_of(
     ensures { λ r. ⌜ r ≡ result (scaleDegreeOf (mappingWith count start end reference hz offset octave) (now (map .entry)) (key number)) ⌝ }
     ensures { λ _. ⌜ now (degree .exit) ≡ kept (scaleDegreeOf (mappingWith count start end reference hz offset octave) (now (map .entry)) (key number)) (now (degree .entry)) ⌝ }
 {
-    let kbm = mapping(count, start, end, reference, hz, offset, octave);
+    let kbm = mapping_with(count, start, end, reference, hz, offset, octave);
     telbijan_answers::store_degree(kbm::scale_degree_of(kbm, map, PianoKey(number)), degree)
 }
 
@@ -101,7 +101,7 @@ pub extern "C" fn telbijan_export_kbm(
     ensures { λ _. ⌜ now (out .exit) ≡ after (exportOf (mappingWith count start end reference hz offset octave) (now (map .entry)) (length (now (out .entry)))) (λ t. t) (now (out .entry)) ⌝ }
     ensures { λ _. ⌜ now (written .exit) ≡ kept (textLength (exportOf (mappingWith count start end reference hz offset octave) (now (map .entry)) (length (now (out .entry))))) (now (written .entry)) ⌝ }
 {
-    let kbm = mapping(count, start, end, reference, hz, offset, octave);
+    let kbm = mapping_with(count, start, end, reference, hz, offset, octave);
     match kbm_write::export_kbm(kbm, map, out) {
         SizeAnswer::Is(size) => {
             *written = size;

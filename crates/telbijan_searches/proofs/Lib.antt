@@ -1,2 +1,3 @@
 pub mod Handed
 pub mod Theorems
+pub mod Numbers

@@ -49,8 +49,9 @@ fn store_key(answer: KeySearch, number: &mut i32, deviation: &mut f64) -> u64
 }
 
 // The degree whose relative pitch comes nearest to a ratio, and how far the ratio lies above it, a ratio, both stored: 10 for items or a
-// list that cannot be used and for a ratio outside 2^-64..2^64, 18 in a scale of one item with period 1.0, 11 where the degree passes 32
-// bits. Of two that come equally near, within 0.999999, it is the lower one.
+// list that cannot be used and for a ratio outside 2^-64..2^64; 18 in a scale of one item with period 1.0, and where a step leaves
+// 2^-900..2^900, which in a list that was built or read none does; 11 where the degree passes 32 bits. Of two that come equally near,
+// within 0.999999, it is the lower one. A scale without items answers degree 0 with the ratio itself.
 #[no_mangle]
 pub extern "C" fn telbijan_find_by_relative_pitch(
     kind: &[u8],
@@ -125,8 +126,8 @@ pub extern "C" fn telbijan_find_by_relative_pitch_sorted(
 }
 
 // The degree whose pitch comes nearest to a pitch in Hz, and the deviation from it, both stored: 10 for tables, a root's pitch or a pitch
-// outside 2^-10..2^20 that cannot be used, 11 for the root offset -2147483648, 18 where a ratio leaves its range, 11 where the degree
-// passes 32 bits.
+// outside 2^-10..2^20 that cannot be used, 11 for the root offset -2147483648, 18 where the root's pitch lies outside 2^-900..2^900 or the
+// ratio from it up to the pitch outside 2^-64..2^64, and as for a ratio, 11 where the degree passes 32 bits.
 #[no_mangle]
 pub extern "C" fn telbijan_find_by_pitch(
     kind: &[u8],
@@ -149,7 +150,7 @@ pub extern "C" fn telbijan_find_by_pitch(
     ensures { λ _. ⌜ now (deviation .exit) ≡ kept (fieldOf (λ a. a .deviation) (findPitchSaid count (itemTable (now (kind .entry)) (now (cents .entry)) (now (numer .entry)) (now (denom .entry))) (listTable (now (place .entry)) (now (ratio .entry)) (now (wraps .entry))) (rootWith reference hz offset) pitch)) (now (deviation .entry)) ⌝ }
 {
     let scl = Scl { count };
-    let root = telbijan_mappings::root(reference, hz, offset);
+    let root = telbijan_mappings::root_with(reference, hz, offset);
     store_degree(
         finding::find_by_pitch(
             scl,
@@ -191,7 +192,7 @@ pub extern "C" fn telbijan_find_by_pitch_sorted(
     ensures { λ _. ⌜ now (deviation .exit) ≡ kept (fieldOf (λ a. a .deviation) (findPitchSortedSaid count (itemTable (now (kind .entry)) (now (cents .entry)) (now (numer .entry)) (now (denom .entry))) (listTable (now (place .entry)) (now (ratio .entry)) (now (wraps .entry))) (rootWith reference hz offset) pitch)) (now (deviation .entry)) ⌝ }
 {
     let scl = Scl { count };
-    let root = telbijan_mappings::root(reference, hz, offset);
+    let root = telbijan_mappings::root_with(reference, hz, offset);
     store_degree(
         finding::find_by_pitch_sorted(
             scl,
@@ -233,7 +234,7 @@ pub extern "C" fn telbijan_find_key_by_pitch(
     ensures { λ _. ⌜ now (deviation .exit) ≡ kept (fieldOf (λ a. a .deviation) (findKeySaid count (itemTable (now (kind .entry)) (now (cents .entry)) (now (numer .entry)) (now (denom .entry))) (listTable (now (place .entry)) (now (ratio .entry)) (now (wraps .entry))) (rootWith reference hz offset) pitch)) (now (deviation .entry)) ⌝ }
 {
     let scl = Scl { count };
-    let root = telbijan_mappings::root(reference, hz, offset);
+    let root = telbijan_mappings::root_with(reference, hz, offset);
     store_key(
         finding::find_key_by_pitch(
             scl,

@@ -104,7 +104,7 @@ pub extern "C" fn telbijan_pitch_of(
     ensures { λ _. ⌜ now (pitch .exit) ≡ kept (pitchSaid count (itemTable (now (kind .entry)) (now (cents .entry)) (now (numer .entry)) (now (denom .entry))) (rootWith reference hz offset) degree) (now (pitch .entry)) ⌝ }
 {
     let scl = Scl { count };
-    let root = telbijan_mappings::root(reference, hz, offset);
+    let root = telbijan_mappings::root_with(reference, hz, offset);
     telbijan_answers::store_pitch(
         tuning::pitch_of(scl, kind, cents, numer, denom, root, Degree(degree)),
         pitch,
@@ -130,7 +130,7 @@ pub extern "C" fn telbijan_pitch_of_key(
     ensures { λ _. ⌜ now (pitch .exit) ≡ kept (keyPitchSaid count (itemTable (now (kind .entry)) (now (cents .entry)) (now (numer .entry)) (now (denom .entry))) (rootWith reference hz offset) (key number)) (now (pitch .entry)) ⌝ }
 {
     let scl = Scl { count };
-    let root = telbijan_mappings::root(reference, hz, offset);
+    let root = telbijan_mappings::root_with(reference, hz, offset);
     telbijan_answers::store_pitch(
         tuning::pitch_of_key(scl, kind, cents, numer, denom, root, PianoKey(number)),
         pitch,
@@ -158,7 +158,7 @@ pub extern "C" fn telbijan_sorted_pitch_of(
     ensures { λ _. ⌜ now (pitch .exit) ≡ kept (sortedPitchSaid count (itemTable (now (kind .entry)) (now (cents .entry)) (now (numer .entry)) (now (denom .entry))) (listTable (now (place .entry)) (now (ratio .entry)) (now (wraps .entry))) (rootWith reference hz offset) degree) (now (pitch .entry)) ⌝ }
 {
     let scl = Scl { count };
-    let root = telbijan_mappings::root(reference, hz, offset);
+    let root = telbijan_mappings::root_with(reference, hz, offset);
     telbijan_answers::store_pitch(
         tuning::sorted_pitch_of(
             scl,
@@ -200,7 +200,7 @@ pub extern "C" fn telbijan_maybe_pitch_of(
     ensures { λ _. ⌜ now (pitch .exit) ≡ kept (maybePitchSaid count (itemTable (now (kind .entry)) (now (cents .entry)) (now (numer .entry)) (now (denom .entry))) (mappingWith size start end reference hz offset octave) (now (map .entry)) (key number)) (now (pitch .entry)) ⌝ }
 {
     let scl = Scl { count };
-    let kbm = telbijan_mappings::mapping(size, start, end, reference, hz, offset, octave);
+    let kbm = telbijan_mappings::mapping_with(size, start, end, reference, hz, offset, octave);
     telbijan_answers::store_pitch(
         tuning::maybe_pitch_of(scl, kind, cents, numer, denom, kbm, map, PianoKey(number)),
         pitch,
@@ -230,7 +230,7 @@ pub extern "C" fn telbijan_maybe_pitch_of_degree(
     ensures { λ _. ⌜ now (pitch .exit) ≡ kept (maybeDegreePitchSaid count (itemTable (now (kind .entry)) (now (cents .entry)) (now (numer .entry)) (now (denom .entry))) (mappingWith size start end reference hz offset octave) (now (map .entry)) degree) (now (pitch .entry)) ⌝ }
 {
     let scl = Scl { count };
-    let kbm = telbijan_mappings::mapping(size, start, end, reference, hz, offset, octave);
+    let kbm = telbijan_mappings::mapping_with(size, start, end, reference, hz, offset, octave);
     telbijan_answers::store_pitch(
         tuning::maybe_pitch_of_degree(scl, kind, cents, numer, denom, kbm, map, Degree(degree)),
         pitch,
@@ -265,7 +265,7 @@ pub extern "C" fn telbijan_pitches_of(
     ensures { λ _. ⌜ now (numbers .exit) ≡ afterNumbers (runOf count (itemTable (now (kind .entry)) (now (cents .entry)) (now (numer .entry)) (now (denom .entry))) (mappingWith size start end reference hz offset octave) (now (map .entry)) keys (length (now (pitches .entry))) (length (now (numbers .entry)))) (keyPitches (itemsIn count (itemTable (now (kind .entry)) (now (cents .entry)) (now (numer .entry)) (now (denom .entry)))) (mappingWith size start end reference hz offset octave) (now (map .entry)) (key first)) keys (now (numbers .entry)) ⌝ }
 {
     let scl = Scl { count };
-    let kbm = telbijan_mappings::mapping(size, start, end, reference, hz, offset, octave);
+    let kbm = telbijan_mappings::mapping_with(size, start, end, reference, hz, offset, octave);
     match key_pitches::pitches_of(
         scl,
         kind,

@@ -30,36 +30,36 @@ use Rattle.rooted.specs.Pitches.{pitchOf, sortedPitchOf}
 use Rattle.rooted.specs.Refusals.{Pitched}
 use Rattle.rooted.proofs.Theorems.{pitch-refusals, sorted-pitch-refusals}
 use Rattle.tuning.specs.Keys.{keyPitchOf, maybePitchOf, maybeDegreePitchOf}
-use Rattle.tuning.specs.Refusals.{Sounds}
+use Rattle.tuning.specs.Refusals.{KeySounds}
 
 -- ---- by the degree that a key has
 module _ (items : List Item) (root : KbmRoot) (o : isRoot root ≡ true) (m : mag (root .offset) < 2147483648) where
-  from-degree : {d : Said ℤ} (z : ℤ) → d ≡ gives z → Sounds root d (andThen d (pitchOf items root))
-  from-degree {d} z e = Sounds.sounds z e (subst (Pitched root) (sym (ap (λ (s : Said ℤ). andThen s (pitchOf items root)) e)) (pitch-refusals root o m items z))
+  from-degree : {d : Said ℤ} (z : ℤ) → d ≡ gives z → KeySounds root d (andThen d (pitchOf items root))
+  from-degree {d} z e = KeySounds.sounds z e (subst (Pitched root) (sym (ap (λ (s : Said ℤ). andThen s (pitchOf items root)) e)) (pitch-refusals root o m items z))
 
   no-degree : {d : Said ℤ} {n : ℕ} → d ≡ refuses n 0 → andThen d (pitchOf items root) ≡ refuses n 0
   no-degree e = ap (λ (s : Said ℤ). andThen s (pitchOf items root)) e
 
   -- a key of a root: 11 exactly where its distance passes 32 bits
-  held-sounds : (z : ℤ) → Sounds root (held z) (andThen (held z) (pitchOf items root))
+  held-sounds : (z : ℤ) → KeySounds root (held z) (andThen (held z) (pitchOf items root))
   unfolding held
   held-sounds z = go (inI32 z) refl
     where
-      go : (b : Bool) → inI32 z ≡ b → Sounds root (pick (inI32 z) (gives z) (refuses overflow 0)) (andThen (pick (inI32 z) (gives z) (refuses overflow 0)) (pitchOf items root))
+      go : (b : Bool) → inI32 z ≡ b → KeySounds root (pick (inI32 z) (gives z) (refuses overflow 0)) (andThen (pick (inI32 z) (gives z) (refuses overflow 0)) (pitchOf items root))
       go true e = from-degree z (rw e refl)
-      go false e = Sounds.passed (rw e refl) (no-degree {d = pick (inI32 z) (gives z) (refuses overflow 0)} (rw e refl))
+      go false e = KeySounds.passed (rw e refl) (no-degree {d = pick (inI32 z) (gives z) (refuses overflow 0)} (rw e refl))
 
 -- a key of a mapping: "Order: 16, 11 for d, 17, 11"
 module _ (items : List Item) (kbm : Kbm) (map : List ℤ) (o : isRoot (kbm .root) ≡ true) (m : mag (kbm .root .offset) < 2147483648) where
-  pub key-sounds : (k : PianoKey) → Sounds (kbm .root) (degreeOf kbm (tableOf (kbm .count) map) k) (maybePitchOf items kbm map k)
+  pub key-sounds : (k : PianoKey) → KeySounds (kbm .root) (degreeOf kbm (tableOf (kbm .count) map) k) (maybePitchOf items kbm map k)
   key-sounds k = go (degreeOf kbm (tableOf (kbm .count) map) k) refl (has kbm (tableOf (kbm .count) map) k)
     where
-      go : (d : Said ℤ) → degreeOf kbm (tableOf (kbm .count) map) k ≡ d → Has kbm (tableOf (kbm .count) map) k d → Sounds (kbm .root) (degreeOf kbm (tableOf (kbm .count) map) k) (maybePitchOf items kbm map k)
-      go d e (Has.outside a h) = Sounds.outside (e ∙ h) (no-degree items (kbm .root) o m (e ∙ h))
-      go d e (Has.far a b h) = Sounds.passed (e ∙ h) (no-degree items (kbm .root) o m (e ∙ h))
+      go : (d : Said ℤ) → degreeOf kbm (tableOf (kbm .count) map) k ≡ d → Has kbm (tableOf (kbm .count) map) k d → KeySounds (kbm .root) (degreeOf kbm (tableOf (kbm .count) map) k) (maybePitchOf items kbm map k)
+      go d e (Has.outside a h) = KeySounds.outside (e ∙ h) (no-degree items (kbm .root) o m (e ∙ h))
+      go d e (Has.far a b h) = KeySounds.passed (e ∙ h) (no-degree items (kbm .root) o m (e ∙ h))
       go d e (Has.plain a b c h) = from-degree items (kbm .root) o m _ (e ∙ h)
-      go d e (Has.none a b q r h) = Sounds.unmapped (e ∙ h) (no-degree items (kbm .root) o m (e ∙ h))
-      go d e (Has.passed a b q z r c h) = Sounds.passed (e ∙ h) (no-degree items (kbm .root) o m (e ∙ h))
+      go d e (Has.none a b q r h) = KeySounds.unmapped (e ∙ h) (no-degree items (kbm .root) o m (e ∙ h))
+      go d e (Has.passed a b q z r c h) = KeySounds.passed (e ∙ h) (no-degree items (kbm .root) o m (e ∙ h))
       go d e (Has.degree a b q z r c h) = from-degree items (kbm .root) o m _ (e ∙ h)
 
 -- ---- the calls, where tables and root are usable
@@ -69,14 +69,14 @@ module _ (count : ℕ) (t : ItemTable) (it : isItems count t ≡ true) where
     pub pitch-of-refusals : (d : ℤ) → Pitched root (tested (isItems count t && isRoot root) (pitchOf (itemsIn count t) root d))
     pitch-of-refusals d = rw (it, o) (pitch-refusals root o m (itemsIn count t) d)
 
-    pub pitch-of-key-refusals : (k : PianoKey) → Sounds root (stepsBetween (root .reference) k) (tested (isItems count t && isRoot root) (keyPitchOf (itemsIn count t) root k))
+    pub pitch-of-key-refusals : (k : PianoKey) → KeySounds root (stepsBetween (root .reference) k) (tested (isItems count t && isRoot root) (keyPitchOf (itemsIn count t) root k))
     pitch-of-key-refusals k = rw (it, o) (held-sounds (itemsIn count t) root o m (k .0 -ℤ root .reference .0))
 
     pub sorted-pitch-of-refusals : (l : ListTable) → isList count l ≡ true → (d : ℤ) → Pitched root (tested (isScale count t l && isRoot root) (sortedPitchOf (itemsIn count t) (listIn count l) root d))
     sorted-pitch-of-refusals l li d = rw (it, li, o) (sorted-pitch-refusals root o m (itemsIn count t) (listIn count l) d (sorted-refusals count t l it li d))
 
   module _ (kbm : Kbm) (map : List ℤ) (o : isRoot (kbm .root) ≡ true) (m : mag (kbm .root .offset) < 2147483648) (u : isTable (kbm .count) map ≡ true) where
-    pub maybe-pitch-of-refusals : (k : PianoKey) → Sounds (kbm .root) (degreeOf kbm (tableOf (kbm .count) map) k) (tested (isItems count t && isRoot (kbm .root)) (tested (isTable (kbm .count) map) (maybePitchOf (itemsIn count t) kbm map k)))
+    pub maybe-pitch-of-refusals : (k : PianoKey) → KeySounds (kbm .root) (degreeOf kbm (tableOf (kbm .count) map) k) (tested (isItems count t && isRoot (kbm .root)) (tested (isTable (kbm .count) map) (maybePitchOf (itemsIn count t) kbm map k)))
     maybe-pitch-of-refusals k = rw (it, o, u) (key-sounds (itemsIn count t) kbm map o m k)
 
     -- by mapping degree: 11 for the key, then as by key

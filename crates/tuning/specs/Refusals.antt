@@ -9,8 +9,8 @@ use Rattle.kbm.specs.declared.KbmRoot.{KbmRoot}
 use Rattle.rooted.specs.Refusals.{Pitched}
 
 -- by the degree that a key has, or why it has none
-pub data Sounds (root : KbmRoot) (degree : Said ℤ) (s : Said Float) : Type 0 where
-  outside : degree ≡ refuses key-out-of-range 0 → s ≡ refuses key-out-of-range 0 → Sounds root degree s
-  unmapped : degree ≡ refuses unmapped-key 0 → s ≡ refuses unmapped-key 0 → Sounds root degree s
-  passed : degree ≡ refuses overflow 0 → s ≡ refuses overflow 0 → Sounds root degree s
-  sounds : (d : ℤ) → degree ≡ gives d → Pitched root s → Sounds root degree s
+pub data KeySounds (root : KbmRoot) (degree : Said ℤ) (s : Said Float) : Type 0 where
+  outside : degree ≡ refuses key-out-of-range 0 → s ≡ refuses key-out-of-range 0 → KeySounds root degree s
+  unmapped : degree ≡ refuses unmapped-key 0 → s ≡ refuses unmapped-key 0 → KeySounds root degree s
+  passed : degree ≡ refuses overflow 0 → s ≡ refuses overflow 0 → KeySounds root degree s
+  sounds : (d : ℤ) → degree ≡ gives d → Pitched root s → KeySounds root degree s

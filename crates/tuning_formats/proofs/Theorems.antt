@@ -41,14 +41,14 @@ use Rattle.kbm.specs.declared.Kbm.{Kbm}
 use Rattle.kbm_read.specs.Language.{MappingText}
 use Rattle.kbm_read.specs.Reader.{afterRead}
 use Rattle.kbm_read.proofs.Tables.{leaves-meaning}
-use Rattle.relative.specs.Refusals.{Reached}
+use Rattle.relative.specs.Refusals.{ReachedOrBeyond}
 use Rattle.relative.specs.Scales.{tested, isScale}
 use Rattle.relative.proofs.Back.{pick-given, pick-other}
 use Rattle.relative.proofs.Places.{items-length}
 use Rattle.rooted.specs.Pitches.{pitchOf, sortedPitchOf}
 use Rattle.rooted.specs.Refusals.{Pitched, pitched, unturned}
 use Rattle.tuning.specs.Keys.{keyPitchOf, maybePitchOf}
-use Rattle.tuning.specs.Refusals.{Sounds}
+use Rattle.tuning.specs.Refusals.{KeySounds}
 use Rattle.tuning.proofs.Theorems.{pitch-of-refusals, pitch-of-key-refusals, sorted-pitch-of-refusals, maybe-pitch-of-refusals}
 use Rattle.searching.specs.Search.{searchOf}
 use Rattle.tuning_formats.proofs.Mappings.{read-root}
@@ -96,26 +96,26 @@ module _ (text : List ℕ) (t : ItemTable) (l : ListTable) {d : List ℕ} {items
 
   -- ---- and of a mapping beside it
   module _ (mapping : List ℕ) (map : List ℤ) {k : Kbm} {es : List MapEntry} (r : MappingText mapping k es) (fits : length es ≤ length map) where
-    only-reached : {p : Said Float} → Pitched (k .root) p → Reached p
+    only-reached : {p : Said Float} → Pitched (k .root) p → ReachedOrBeyond p
     only-reached (pitched n h) = h
     only-reached (unturned h e) = absurd (read-root r .turns h)
 
     -- the pitch of a degree is refused by 18 alone
-    pub read-pitch-of : (z : ℤ) → Reached (tested (isItems (length items) (afterItems text t l) && isRoot (k .root)) (pitchOf (itemsIn (length items) (afterItems text t l)) (k .root) z))
+    pub read-pitch-of : (z : ℤ) → ReachedOrBeyond (tested (isItems (length items) (afterItems text t l) && isRoot (k .root)) (pitchOf (itemsIn (length items) (afterItems text t l)) (k .root) z))
     read-pitch-of z = only-reached (pitch-of-refusals (length items) (afterItems text t l) (leaves-items text t l s room .0) (k .root) (read-root r .pitch) (read-root r .offset) z)
 
-    pub read-sorted-pitch-of : (z : ℤ) → Reached (tested (isScale (length items) (afterItems text t l) (afterSorted text t l) && isRoot (k .root)) (sortedPitchOf (itemsIn (length items) (afterItems text t l)) (listIn (length items) (afterSorted text t l)) (k .root) z))
+    pub read-sorted-pitch-of : (z : ℤ) → ReachedOrBeyond (tested (isScale (length items) (afterItems text t l) (afterSorted text t l) && isRoot (k .root)) (sortedPitchOf (itemsIn (length items) (afterItems text t l)) (listIn (length items) (afterSorted text t l)) (k .root) z))
     read-sorted-pitch-of z = only-reached (sorted-pitch-of-refusals (length items) (afterItems text t l) (leaves-items text t l s room .0) (k .root) (read-root r .pitch) (read-root r .offset) (afterSorted text t l) (leaves-list text t l s room .0) z)
 
     -- the pitch of a key counted from the reference key: 11 exactly where its distance passes 32 bits, else 18 alone
-    pub read-pitch-of-key : (key : PianoKey) → Sounds (k .root) (stepsBetween (k .root .reference) key) (tested (isItems (length items) (afterItems text t l) && isRoot (k .root)) (keyPitchOf (itemsIn (length items) (afterItems text t l)) (k .root) key))
+    pub read-pitch-of-key : (key : PianoKey) → KeySounds (k .root) (stepsBetween (k .root .reference) key) (tested (isItems (length items) (afterItems text t l) && isRoot (k .root)) (keyPitchOf (itemsIn (length items) (afterItems text t l)) (k .root) key))
     read-pitch-of-key key = pitch-of-key-refusals (length items) (afterItems text t l) (leaves-items text t l s room .0) (k .root) (read-root r .pitch) (read-root r .offset) key
 
     -- whose offset is never refused
-    pub read-turns : {p : Said Float} → Pitched (k .root) p → Reached p
+    pub read-turns : {p : Said Float} → Pitched (k .root) p → ReachedOrBeyond p
     read-turns = only-reached
 
     -- the pitch of a key of the mapping: 16, 17 or 11 exactly where its degree is refused so, else 18 alone
-    pub read-maybe-pitch-of : (key : PianoKey) → Sounds (k .root) (degreeOf k (tableOf (k .count) (afterRead mapping map)) key)
+    pub read-maybe-pitch-of : (key : PianoKey) → KeySounds (k .root) (degreeOf k (tableOf (k .count) (afterRead mapping map)) key)
         (tested (isItems (length items) (afterItems text t l) && isRoot (k .root)) (tested (isTable (k .count) (afterRead mapping map)) (maybePitchOf (itemsIn (length items) (afterItems text t l)) k (afterRead mapping map) key)))
     read-maybe-pitch-of key = maybe-pitch-of-refusals (length items) (afterItems text t l) (leaves-items text t l s room .0) k (afterRead mapping map) (read-root r .pitch) (read-root r .offset) (leaves-meaning mapping map k es r fits .0) key

@@ -1,5 +1,6 @@
--- Two scales of one item and what searches in them answer: "Only item 2/1: ratio 3.0 gives degree 2" (document 01, "Sample lines"), and
--- a degree whose pitch, searched, is answered by another degree, as in the Rust. Assumes nothing.
+-- Four scales and what pitches and searches in them answer: "Only item 2/1: ratio 3.0 gives degree 2" (document 01, "Sample lines"); a
+-- degree whose pitch, searched, is answered by another degree, as in the Rust; the first of equal entries; a degree below place 0.
+-- Assumes nothing.
 use mathlib.Core.Bool.{false}
 use mathlib.Core.List.{List, [], _∷_}
 use Prim.Native.Nat.{ℕ}
@@ -49,11 +50,11 @@ partedAnswer = approximation (fin false 2251799813685245 (negsuc 50)) (pos 18)
 abbrev pub repeated : List Item
 repeated = implicit ∷ Fraction 1 (Given 1) ∷ Fraction 1 (Given 1) ∷ Fraction 1 (Given 1) ∷ Fraction 1 (Given 1) ∷ Fraction 1 (Given 1) ∷ Fraction 2 (Given 1) ∷ []
 
-abbrev pub first : Entry
-first = entry 0 (fin false 1 (pos 0)) (pos 0)
+abbrev pub unison : Entry
+unison = entry 0 (fin false 1 (pos 0)) (pos 0)
 
 abbrev pub repeatedList : List Entry
-repeatedList = first ∷ first ∷ first ∷ first ∷ first ∷ first ∷ entry 6 twoF (pos 0) ∷ []
+repeatedList = unison ∷ unison ∷ unison ∷ unison ∷ unison ∷ unison ∷ entry 6 twoF (pos 0) ∷ []
 
 -- "Its start is the first entry not below the target": the ascending degree is the first of the equal ones
 abbrev pub repeatedAnswer : Approximation

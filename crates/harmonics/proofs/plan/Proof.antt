@@ -6,7 +6,7 @@ use Rattle.base.specs.Said.{gives}
 use Rattle.base.proofs.Said.{and-then}
 use Rattle.reduction.proofs.Answered.{told}
 use Rattle.segment.specs.Answers.{saysSteps}
-use Rattle.segment.specs.Segment.{countOf}
+use Rattle.segment.specs.Segment.{segmentCount}
 use Rattle.harmonics.specs.Steps.{Reaches, looked}
 use Rattle.harmonics.proofs.Plans.{steps-reach}
 use borrow.Author.Needs.{needs}
@@ -31,12 +31,12 @@ look-requires c κs = let a = c .before .before .before .before .before .args in
 
 returns : tie.Need-returns
 returns c = let a = c .before .before .before .before .args in
-    and-then saysSteps (looked (a .segment-type) (a .start) (a .size) (countOf (a .size) (a .divisions))) (c .before .before .before .steps-of .ensures) (c .before .refusal .given .1)
+    and-then saysSteps (looked (a .segment-type) (a .start) (a .size) (segmentCount (a .size) (a .divisions))) (c .before .before .before .steps-of .ensures) (c .before .refusal .given .1)
 
 returns-2 : tie.Need-returns-2
 returns-2 c = let a = c .before .before .before .before .before .before .args in
     c .look .ensures ∙ ap (λ (n : ℕ). looked (a .segment-type) (a .start) (a .size) n (c .before .before .before .steps .given .0 .0)) (c .before .count-of .ensures)
-    ∙ and-then saysSteps (looked (a .segment-type) (a .start) (a .size) (countOf (a .size) (a .divisions))) (c .before .before .before .before .before .steps-of .ensures) (c .before .before .before .steps .given .1)
+    ∙ and-then saysSteps (looked (a .segment-type) (a .start) (a .size) (segmentCount (a .size) (a .divisions))) (c .before .before .before .before .before .steps-of .ensures) (c .before .before .before .steps .given .1)
 
 pub plan-spec : {M : Type 1} → statement M
 plan-spec =

@@ -13,8 +13,8 @@ use Rattle.telbijan_answers.proofs.Interface.{accepted, refused, stays, stored}
 use Rattle.telbijan_mappings.proofs.telbijan_export_kbm.Statement.{statement}
 use Rattle.telbijan_mappings.proofs.telbijan_export_kbm.Tie as tie
 
-mapping-requires : tie.Need-mapping-requires
-mapping-requires c κs = search needs
+mapping-with-requires : tie.Need-mapping-with-requires
+mapping-with-requires c κs = search needs
 
 export-kbm-requires : tie.Need-export-kbm-requires
 export-kbm-requires c κs = search needs
@@ -38,12 +38,12 @@ same-length-2 c = search needs
 told : (c : tie.After-export-kbm) → saysSize (c .export-kbm .result) ≡ textLength (exportOf (mappingWith (c .before .before .before .before .args .count) (c .before .before .before .before .args .start) (c .before .before .before .before .args .end) (c .before .before .before .before .args .reference) (c .before .before .before .before .args .hz) (c .before .before .before .before .args .offset) (c .before .before .before .before .args .octave)) (now (c .before .before .before .before .args .map)) (length (now (c .before .before .before .before .args .out))))
 told c =
     let start = c .before .before .before .before in
-    rw (c .before .before .mapping .ensures, toZ-ofZ (start .fits .start), toZ-ofZ (start .fits .end), toZ-ofZ (start .fits .reference), toZ-ofZ (start .fits .offset), toZ-ofZ (start .fits .octave)) at (c .export-kbm .ensures .0)
+    rw (c .before .before .mapping-with .ensures, toZ-ofZ (start .fits .start), toZ-ofZ (start .fits .end), toZ-ofZ (start .fits .reference), toZ-ofZ (start .fits .offset), toZ-ofZ (start .fits .octave)) at (c .export-kbm .ensures .0)
 
 told-bytes : (c : tie.After-export-kbm) → c .export-kbm .last .1 .1 .0 ≡ after (exportOf (mappingWith (c .before .before .before .before .args .count) (c .before .before .before .before .args .start) (c .before .before .before .before .args .end) (c .before .before .before .before .args .reference) (c .before .before .before .before .args .hz) (c .before .before .before .before .args .offset) (c .before .before .before .before .args .octave)) (now (c .before .before .before .before .args .map)) (length (now (c .before .before .before .before .args .out)))) (λ t. t) (now (c .before .before .before .before .args .out))
 told-bytes c =
     let start = c .before .before .before .before in
-    rw (c .before .before .mapping .ensures, toZ-ofZ (start .fits .start), toZ-ofZ (start .fits .end), toZ-ofZ (start .fits .reference), toZ-ofZ (start .fits .offset), toZ-ofZ (start .fits .octave)) at (c .export-kbm .ensures .1)
+    rw (c .before .before .mapping-with .ensures, toZ-ofZ (start .fits .start), toZ-ofZ (start .fits .end), toZ-ofZ (start .fits .reference), toZ-ofZ (start .fits .offset), toZ-ofZ (start .fits .octave)) at (c .export-kbm .ensures .1)
 
 returns : tie.Need-returns
 returns c =
@@ -61,7 +61,7 @@ pub telbijan-export-kbm-spec : {M : Type 1} → statement M
 telbijan-export-kbm-spec =
     tie.close
     (tie.spec
-    mapping-requires
+    mapping-with-requires
     export-kbm-requires
     enum-known-size
     enum-known-refusal

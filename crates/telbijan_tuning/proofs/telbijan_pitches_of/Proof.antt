@@ -7,8 +7,8 @@ use Rattle.telbijan_answers.proofs.Interface.{accepted, refused}
 use Rattle.telbijan_tuning.proofs.telbijan_pitches_of.Statement.{statement}
 use Rattle.telbijan_tuning.proofs.telbijan_pitches_of.Tie as tie
 
-mapping-requires : tie.Need-mapping-requires
-mapping-requires c κs = search needs
+mapping-with-requires : tie.Need-mapping-with-requires
+mapping-with-requires c κs = search needs
 
 pitches-of-requires : tie.Need-pitches-of-requires
 pitches-of-requires c κs = search needs
@@ -30,7 +30,7 @@ same-length-2 c = search needs
 
 returns : tie.Need-returns
 returns c =
-    let told = (rw (c .before .before .before .before .before .before .before .before .before .mapping .ensures, toZ-ofZ (c .before .before .before .before .before .before .before .before .before .before .before .before .before .before .before .before .fits .start), toZ-ofZ (c .before .before .before .before .before .before .before .before .before .before .before .before .before .before .before .before .fits .end), toZ-ofZ (c .before .before .before .before .before .before .before .before .before .before .before .before .before .before .before .before .fits .reference), toZ-ofZ (c .before .before .before .before .before .before .before .before .before .before .before .before .before .before .before .before .fits .offset), toZ-ofZ (c .before .before .before .before .before .before .before .before .before .before .before .before .before .before .before .before .fits .octave), toZ-ofZ (c .before .before .before .before .before .before .before .before .before .before .before .before .before .before .before .before .fits .first)) at (c .before .before .before .before .before .before .pitches-of .ensures)) in
+    let told = (rw (c .before .before .before .before .before .before .before .before .before .mapping-with .ensures, toZ-ofZ (c .before .before .before .before .before .before .before .before .before .before .before .before .before .before .before .before .fits .start), toZ-ofZ (c .before .before .before .before .before .before .before .before .before .before .before .before .before .before .before .before .fits .end), toZ-ofZ (c .before .before .before .before .before .before .before .before .before .before .before .before .before .before .before .before .fits .reference), toZ-ofZ (c .before .before .before .before .before .before .before .before .before .before .before .before .before .before .before .before .fits .offset), toZ-ofZ (c .before .before .before .before .before .before .before .before .before .before .before .before .before .before .before .before .fits .octave), toZ-ofZ (c .before .before .before .before .before .before .before .before .before .before .before .before .before .before .before .before .fits .first)) at (c .before .before .before .before .before .before .pitches-of .ensures)) in
     let is = c .enum-told .given .1 in
     (accepted saysRun (told .0) is refl, told .1)
 
@@ -42,7 +42,7 @@ same-length-4 c = search needs
 
 returns-2 : tie.Need-returns-2
 returns-2 c =
-    let told = (rw (c .before .before .before .before .before .before .before .before .before .before .before .mapping .ensures, toZ-ofZ (c .before .before .before .before .before .before .before .before .before .before .before .before .before .before .before .before .before .before .fits .start), toZ-ofZ (c .before .before .before .before .before .before .before .before .before .before .before .before .before .before .before .before .before .before .fits .end), toZ-ofZ (c .before .before .before .before .before .before .before .before .before .before .before .before .before .before .before .before .before .before .fits .reference), toZ-ofZ (c .before .before .before .before .before .before .before .before .before .before .before .before .before .before .before .before .before .before .fits .offset), toZ-ofZ (c .before .before .before .before .before .before .before .before .before .before .before .before .before .before .before .before .before .before .fits .octave), toZ-ofZ (c .before .before .before .before .before .before .before .before .before .before .before .before .before .before .before .before .before .before .fits .first)) at (c .before .before .before .before .before .before .before .before .pitches-of .ensures)) in
+    let told = (rw (c .before .before .before .before .before .before .before .before .before .before .before .mapping-with .ensures, toZ-ofZ (c .before .before .before .before .before .before .before .before .before .before .before .before .before .before .before .before .before .before .fits .start), toZ-ofZ (c .before .before .before .before .before .before .before .before .before .before .before .before .before .before .before .before .before .before .fits .end), toZ-ofZ (c .before .before .before .before .before .before .before .before .before .before .before .before .before .before .before .before .before .before .fits .reference), toZ-ofZ (c .before .before .before .before .before .before .before .before .before .before .before .before .before .before .before .before .before .before .fits .offset), toZ-ofZ (c .before .before .before .before .before .before .before .before .before .before .before .before .before .before .before .before .before .before .fits .octave), toZ-ofZ (c .before .before .before .before .before .before .before .before .before .before .before .before .before .before .before .before .before .before .fits .first)) at (c .before .before .before .before .before .before .before .before .pitches-of .ensures)) in
     let is = c .before .before .refusal .given .1 in
     (refused saysRun (told .0) is _ refl (c .code-of .ensures), told .1)
 
@@ -50,7 +50,7 @@ pub telbijan-pitches-of-spec : {M : Type 1} → statement M
 telbijan-pitches-of-spec =
     tie.close
     (tie.spec
-    mapping-requires
+    mapping-with-requires
     pitches-of-requires
     enum-told
     enum-known-refusal

@@ -1,24 +1,29 @@
--- `run` is safe and ends: each turn pushes once. The columns keep their lengths. Assumes nothing.
+-- `run` is safe and ends: each turn takes a step. Assumes nothing.
 use Prim.Native.Nat.{_-_}
-use mathlib.Core.Path.{_≡_}
 use borrow.Author.Needs.{needs}
-use lib.ListN.{length}
 use Rattle.replay_scl.proofs.builders.run.Statement.{statement}
 use Rattle.replay_scl.proofs.builders.run.Tie as tie
 
 abbrev Inv-loop : tie.InvT-loop
-Inv-loop kind₀ cents₀ numer₀ denom₀ place ratio wraps pushes line from answers builder₀ at₀ answer₀ k₀ kind cents numer denom builder at answer k =
-    (length kind ≡ length kind₀) × ((length cents ≡ length cents₀) × ((length numer ≡ length numer₀) × (length denom ≡ length denom₀)))
+Inv-loop steps line from answers items₀ list₀ builder₀ at₀ answer₀ k₀ items list builder at answer k = Unit {0}
 
 abbrev μ-loop : tie.MeasureT-loop
-μ-loop kind₀ cents₀ numer₀ denom₀ place ratio wraps pushes line from answers builder₀ at₀ answer₀ k₀ kind cents numer denom builder at answer k =
-    pushes - k
+μ-loop steps line from answers items₀ list₀ builder₀ at₀ answer₀ k₀ items list builder at answer k = steps - k
+
+lent-items-requires : tie.Need-lent-items-requires Inv-loop μ-loop
+lent-items-requires c κs = search needs
+
+lent-list-requires : tie.Need-lent-list-requires Inv-loop μ-loop
+lent-list-requires c κs = search needs
 
 loop-holds : tie.Need-loop-holds Inv-loop μ-loop
-loop-holds c = (search needs, (search needs, (search needs, search needs)))
+loop-holds c = tt
 
-pushed-requires : tie.Need-pushed-requires Inv-loop μ-loop
-pushed-requires c κs = search needs
+read-step-requires : tie.Need-read-step-requires Inv-loop μ-loop
+read-step-requires c κs = search needs
+
+step-on-requires : tie.Need-step-on-requires Inv-loop μ-loop
+step-on-requires c κs = search needs
 
 after-push-requires : tie.Need-after-push-requires Inv-loop μ-loop
 after-push-requires c κs = search needs
@@ -36,19 +41,10 @@ loop-less : tie.Need-loop-less Inv-loop μ-loop
 loop-less c = search needs
 
 loop-again : tie.Need-loop-again Inv-loop μ-loop
-loop-again c = (search needs, (search needs, (search needs, search needs)))
+loop-again c = tt
 
-same-length : tie.Need-same-length Inv-loop μ-loop
-same-length c = search needs
-
-same-length-2 : tie.Need-same-length-2 Inv-loop μ-loop
-same-length-2 c = search needs
-
-same-length-3 : tie.Need-same-length-3 Inv-loop μ-loop
-same-length-3 c = search needs
-
-same-length-4 : tie.Need-same-length-4 Inv-loop μ-loop
-same-length-4 c = search needs
+built-requires : tie.Need-built-requires Inv-loop μ-loop
+built-requires c κs = search needs
 
 returns : tie.Need-returns Inv-loop μ-loop
 returns c = search needs
@@ -59,16 +55,16 @@ run-spec =
     (tie.spec
     Inv-loop
     μ-loop
+    lent-items-requires
+    lent-list-requires
     loop-holds
-    pushed-requires
+    read-step-requires
+    step-on-requires
     after-push-requires
     kept-requires
     later-requires
     add-k
     loop-less
     loop-again
-    same-length
-    same-length-2
-    same-length-3
-    same-length-4
+    built-requires
     returns)

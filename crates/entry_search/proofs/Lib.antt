@@ -1,0 +1,4 @@
+pub mod Answers
+pub mod Opened
+pub mod Passes
+pub mod Theorems

@@ -1,0 +1,50 @@
+// The program keytable: `keytable SCL KBM` reads a scale and a mapping, and prints for each key of the mapping's range its number, its
+// degree, its pitch in Hz and how many cents that lies above the reference pitch; or why the key has no pitch. Of more than 1,024 keys it
+// prints the first 1,024, and how many are left out. Where a file is refused, or input or output fails, it says so on standard error.
+use libc::STDERR_FILENO;
+use libc::STDOUT_FILENO;
+
+mod files;
+mod keys;
+mod reasons;
+mod tables;
+
+// Says that standard output failed, where it did.
+fn finish(written: bool) {
+    if !written {
+        io::write_all(
+            STDERR_FILENO,
+            b"keytable: standard output cannot be written\n",
+        );
+    }
+}
+
+// Prints the table of two files.
+fn print_files(scl_name: &[u8], kbm_name: &[u8]) {
+    let scale = tables::read_scale(scl_name);
+    if !scale.is_read {
+        return;
+    }
+    let mapping = tables::read_mapping(kbm_name);
+    if !mapping.is_read {
+        return;
+    }
+    let sounds = tables::sounds_of(scale, mapping);
+    if !io::write_all(STDOUT_FILENO, b"key degree Hz cents\n") {
+        finish(false);
+        return;
+    }
+    finish(keys::print_keys(mapping, sounds));
+}
+
+fn main() {
+    if os::arg_count() != 3 {
+        io::write_all(STDERR_FILENO, b"usage: keytable SCL KBM\n");
+        return;
+    }
+    let mut scl_name = io::buffer();
+    let scl_bytes = os::arg(1, &mut scl_name);
+    let mut kbm_name = io::buffer();
+    let kbm_bytes = os::arg(2, &mut kbm_name);
+    print_files(&scl_name[..scl_bytes], &kbm_name[..kbm_bytes]);
+}

@@ -1,0 +1,3 @@
+pub mod Squares
+pub mod Crown
+pub mod Close

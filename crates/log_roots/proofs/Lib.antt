@@ -1,0 +1,3 @@
+pub mod Ratio
+pub mod Roots
+pub mod Rows

@@ -1,0 +1,5 @@
+pub mod Every
+pub mod Factors
+pub mod Entries
+pub mod Bound
+pub mod Turns

@@ -1,0 +1,4 @@
+pub mod Root
+pub mod Exp
+pub mod Log
+pub mod Inner

@@ -1,0 +1,65 @@
+// Replays frozen answers on tunings (the crate `frozen` says how a line is written): writes how many are the same and how many differ. The
+// list is made by `oracle freeze`.
+//
+// A line of a pitch or a search is `WHO CALL COUNT REFERENCE HZ OFFSET NUMBER X PLACES .. ANSWER`: the scale's count, the root, a degree or
+// a key, a ratio or a pitch, and the scale's columns (the crate `frozen_scales`). What a call does not take is 0.
+use frozen::Counts;
+use libc::STDIN_FILENO;
+use libc::STDOUT_FILENO;
+
+mod asked;
+mod computed;
+mod mapped;
+mod scaled;
+
+// Whether a call gives the answer of its line.
+fn is_same(line: &[u8]) -> bool {
+    let name = frozen::field(line, frozen::next(line, 0));
+    let at = frozen::later(line, 0, 2);
+    if check::same(name, b"harmonics") {
+        return computed::is_same_segment(line, at);
+    }
+    if check::same(name, b"rank2") {
+        return computed::is_same_temperament(line, at);
+    }
+    if check::same(name, b"maybe_key") {
+        return mapped::is_same_key(line, at);
+    }
+    if check::same(name, b"maybe_degree") {
+        return mapped::is_same_degree(line, at);
+    }
+    if check::same(name, b"run") {
+        return mapped::is_same_run(line, at);
+    }
+    scaled::is_same_scaled(name, line, at)
+}
+
+// The counts of all lines.
+fn counted_all(list: &[u8]) -> Counts {
+    let mut counts = Counts { same: 0, differ: 0 };
+    let mut at: usize = 0;
+    while at < list.len() {
+        let line = frozen::line(list, at);
+        if frozen::is_who(line) {
+            counts = frozen::counted(counts, is_same(line));
+        } else {
+            counts = frozen::counted(counts, false);
+        }
+        let following = frozen::following(list, at);
+        if following <= at {
+            return frozen::counted(counts, false);
+        }
+        at = following;
+    }
+    counts
+}
+
+fn main() {
+    let mut list = io::large_buffer();
+    let n = io::read_full(STDIN_FILENO, &mut list);
+    let counts = counted_all(&list[..n]);
+    io::print_decimal(STDOUT_FILENO, counts.same);
+    io::write_all(STDOUT_FILENO, b" same, ");
+    io::print_decimal(STDOUT_FILENO, counts.differ);
+    io::write_all(STDOUT_FILENO, b" differ\n");
+}

@@ -1,0 +1,46 @@
+-- What the functions of this crate say is a value or one of document 01's numbers, so a result is 0 exactly where a value is stored
+-- (`zero-accepted` of telbijan_answers). A line for each; of the numbers that a run of keys stores, `stored-number` of key_pitches.
+-- Assumes nothing.
+use mathlib.Core.List.{List}
+use Prim.Native.Nat.{ℕ}
+use lib.IntN.{ℤ}
+use lib.ListN.{length}
+use lib.Ieee.{Float}
+use Rattle.base.specs.Said.{Numbered}
+use Rattle.key.specs.declared.PianoKey.{PianoKey}
+use Rattle.sorted.specs.Lent.{ListTable}
+use Rattle.scl.specs.Table.{ItemTable}
+use Rattle.kbm.specs.declared.Kbm.{Kbm}
+use Rattle.kbm.specs.declared.KbmRoot.{KbmRoot}
+use Rattle.relative.proofs.Numbers as relative
+use Rattle.tuning.proofs.Numbers as tuning
+use Rattle.key_pitches.specs.Run.{runOf}
+use Rattle.key_pitches.proofs.Numbers as run
+use Rattle.telbijan_tuning.specs.Tunings.{periodSaid, relativeSaid, sortedRelativeSaid, pitchSaid, keyPitchSaid, sortedPitchSaid, maybePitchSaid, maybeDegreePitchSaid}
+
+pub period-numbered : (count : ℕ) (t : ItemTable) → Numbered (periodSaid count t)
+period-numbered count t = relative.period-numbered count t
+
+pub relative-pitch-of-numbered : (count : ℕ) (t : ItemTable) (degree : ℤ) → Numbered (relativeSaid count t degree)
+relative-pitch-of-numbered count t degree = relative.relative-pitch-of-numbered count t degree
+
+pub sorted-relative-pitch-of-numbered : (count : ℕ) (t : ItemTable) (l : ListTable) (degree : ℤ) → Numbered (sortedRelativeSaid count t l degree)
+sorted-relative-pitch-of-numbered count t l degree = relative.sorted-relative-pitch-of-numbered count t l degree
+
+pub pitch-of-numbered : (count : ℕ) (t : ItemTable) (root : KbmRoot) (degree : ℤ) → Numbered (pitchSaid count t root degree)
+pitch-of-numbered count t root degree = tuning.pitch-of-numbered count t root degree
+
+pub pitch-of-key-numbered : (count : ℕ) (t : ItemTable) (root : KbmRoot) (key : PianoKey) → Numbered (keyPitchSaid count t root key)
+pitch-of-key-numbered count t root key = tuning.pitch-of-key-numbered count t root key
+
+pub sorted-pitch-of-numbered : (count : ℕ) (t : ItemTable) (l : ListTable) (root : KbmRoot) (degree : ℤ) → Numbered (sortedPitchSaid count t l root degree)
+sorted-pitch-of-numbered count t l root degree = tuning.sorted-pitch-of-numbered count t l root degree
+
+pub maybe-pitch-of-numbered : (count : ℕ) (t : ItemTable) (kbm : Kbm) (map : List ℤ) (key : PianoKey) → Numbered (maybePitchSaid count t kbm map key)
+maybe-pitch-of-numbered count t kbm map key = tuning.maybe-pitch-of-numbered count t kbm map key
+
+pub maybe-pitch-of-degree-numbered : (count : ℕ) (t : ItemTable) (kbm : Kbm) (map : List ℤ) (degree : ℤ) → Numbered (maybeDegreePitchSaid count t kbm map degree)
+maybe-pitch-of-degree-numbered count t kbm map degree = tuning.maybe-pitch-of-degree-numbered count t kbm map degree
+
+pub pitches-of-numbered : (count : ℕ) (t : ItemTable) (kbm : Kbm) (map : List ℤ) (keys : ℕ) (pitches : List Float) (numbers : List ℕ) → Numbered (runOf count t kbm map keys (length pitches) (length numbers))
+pitches-of-numbered count t kbm map keys pitches numbers = run.run-numbered count t kbm map keys (length pitches) (length numbers)

@@ -1,0 +1,25 @@
+//! Finds the archive: in TELBIJAN_LIB_DIR (as `./install PREFIX` leaves it in PREFIX/lib), else in target/native of the repository, where
+//! it is built first if it is not there.
+use std::path::PathBuf;
+use std::process::Command;
+
+fn main() {
+    println!("cargo:rerun-if-env-changed=TELBIJAN_LIB_DIR");
+    let folder = match std::env::var_os("TELBIJAN_LIB_DIR") {
+        Some(folder) => PathBuf::from(folder),
+        None => built(),
+    };
+    println!("cargo:rerun-if-changed={}", folder.join("libtelbijan.a").display());
+    println!("cargo:rustc-link-search=native={}", folder.display());
+    println!("cargo:rustc-link-lib=static=telbijan");
+}
+
+fn built() -> PathBuf {
+    let root = PathBuf::from(std::env::var_os("CARGO_MANIFEST_DIR").unwrap()).join("..");
+    let archive = root.join("target/native/libtelbijan.a");
+    if !archive.exists() {
+        let done = Command::new(root.join("tools/archive")).arg(&archive).status();
+        assert!(done.is_ok_and(|status| status.success()), "the archive could not be built: run tools/archive, or set TELBIJAN_LIB_DIR");
+    }
+    archive.parent().unwrap().to_path_buf()
+}

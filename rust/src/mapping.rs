@@ -1,0 +1,119 @@
+//! Keyboard mappings: a table of entries that a caller lends or owns, and the numbers beside it.
+
+use crate::scale::{ask_items, items};
+use crate::{raw, Refusal, ScaleRef};
+
+/// What stands in a mapping's table for a key that is unmapped.
+pub const UNMAPPED: i32 = i32::MIN;
+
+/// The key that a tuning hangs on, its pitch in Hz, and the root's distance from the key.
+#[derive(Clone, Copy, Debug, PartialEq)]
+pub struct Root {
+    pub reference: i32,
+    pub hz: f64,
+    pub offset: i32,
+}
+
+/// A mapping's numbers: how many entries its table has, the keys from `start` up to, not including, `end`, the root, and how many degrees
+/// make a formal octave.
+#[derive(Clone, Copy, Debug, PartialEq)]
+pub struct Numbers {
+    pub count: u16,
+    pub start: i32,
+    pub end: i32,
+    pub root: Root,
+    pub octave: i16,
+}
+
+/// A mapping in a borrowed table.
+#[derive(Clone, Copy, Debug)]
+pub struct MappingRef<'a> {
+    pub map: &'a [i32],
+    pub numbers: Numbers,
+}
+
+/// The mapping as a call takes it.
+macro_rules! mapping {
+    ($m:expr) => {{
+        let n = $m.numbers;
+        ($m.map.as_ptr(), $m.map.len(), n.count, n.start, n.end, n.root.reference, n.root.hz, n.root.offset, n.octave)
+    }};
+}
+
+/// Reads a mapping file into a table.
+pub fn read_mapping(text: &[u8], map: &mut [i32]) -> Result<Numbers, Refusal> {
+    let mut n = Numbers { count: 0, start: 0, end: 0, root: Root { reference: 0, hz: 0.0, offset: 0 }, octave: 0 };
+    // Safety: each pointer comes with its slice's length; `map` is borrowed for writing, and the numbers stand apart.
+    let result = unsafe {
+        raw::telbijan_read_kbm(
+            text.as_ptr(), text.len(), map.as_mut_ptr(), map.len(), &mut n.count, &mut n.start, &mut n.end, &mut n.root.reference, &mut n.root.hz, &mut n.root.offset, &mut n.octave,
+        )
+    };
+    Refusal::of(result).map(|()| n)
+}
+
+impl MappingRef<'_> {
+    /// The degree of a key.
+    pub fn degree_of(self, key: i32) -> Result<i32, Refusal> {
+        let (mut degree, (a, b, c, d, e, f, g, h, i)) = (0, mapping!(self));
+        // Safety: the pointer comes with its slice's length.
+        Refusal::of(unsafe { raw::telbijan_scale_degree_of(a, b, c, d, e, f, g, h, i, key, &mut degree) }).map(|()| degree)
+    }
+
+    /// The text of the mapping, written into the first bytes of `out`: how many they are. `room_for_export` bytes are always enough.
+    pub fn export(self, out: &mut [u8]) -> Result<usize, Refusal> {
+        let (mut written, (a, b, c, d, e, f, g, h, i)) = (0, mapping!(self));
+        // Safety: each pointer comes with its slice's length; `out` is borrowed for writing.
+        Refusal::of(unsafe { raw::telbijan_export_kbm(a, b, c, d, e, f, g, h, i, out.as_mut_ptr(), out.len(), &mut written) }).map(|()| written)
+    }
+
+    /// So many bytes are enough for an export (proved).
+    pub fn room_for_export(self) -> usize {
+        73 + 7 * usize::from(self.numbers.count)
+    }
+}
+
+/// A scale and a mapping: what a player asks.
+#[derive(Clone, Copy, Debug)]
+pub struct Tuning<'a> {
+    pub scale: ScaleRef<'a>,
+    pub mapping: MappingRef<'a>,
+}
+
+struct Items<'a> {
+    kind: &'a [u8],
+    cents: &'a [f64],
+    numer: &'a [u32],
+    denom: &'a [u32],
+}
+
+impl Tuning<'_> {
+    fn items(&self) -> Items<'_> {
+        let (kind, cents, numer, denom) = self.scale.columns();
+        Items { kind, cents, numer, denom }
+    }
+
+    /// The pitch of a key, in Hz; 16 outside the range, 17 for a key that is unmapped.
+    pub fn pitch_of(self, key: i32) -> Result<f64, Refusal> {
+        let (mut hz, s, (a, b, c, d, e, f, g, h, i)) = (0.0, self.items(), mapping!(self.mapping));
+        ask_mapped(|x| ask_items!(telbijan_maybe_pitch_of, s, self.scale.count(), a, b, c, d, e, f, g, h, i, key, x), &mut hz)
+    }
+
+    /// The same of the key so many steps above the reference key.
+    pub fn pitch_of_degree(self, degree: i32) -> Result<f64, Refusal> {
+        let (mut hz, s, (a, b, c, d, e, f, g, h, i)) = (0.0, self.items(), mapping!(self.mapping));
+        ask_mapped(|x| ask_items!(telbijan_maybe_pitch_of_degree, s, self.scale.count(), a, b, c, d, e, f, g, h, i, degree, x), &mut hz)
+    }
+
+    /// The pitches of a run of keys, as many as `hz` has places, and beside each 0 or the number of its refusal; the pitch of a refused key
+    /// stays as it was. The tables are tested once. 12 where `numbers` has fewer places.
+    pub fn pitches_of(self, first: i32, hz: &mut [f64], numbers: &mut [u32]) -> Result<(), Refusal> {
+        let (s, (a, b, c, d, e, f, g, h, i)) = (self.items(), mapping!(self.mapping));
+        let Ok(keys) = u32::try_from(hz.len()) else { return Refusal::of(12) };
+        ask_items!(telbijan_pitches_of, s, self.scale.count(), a, b, c, d, e, f, g, h, i, first, keys, hz.as_mut_ptr(), hz.len(), numbers.as_mut_ptr(), numbers.len())
+    }
+}
+
+fn ask_mapped(call: impl FnOnce(&mut f64) -> Result<(), Refusal>, hz: &mut f64) -> Result<f64, Refusal> {
+    call(hz).map(|()| *hz)
+}

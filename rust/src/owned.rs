@@ -1,0 +1,191 @@
+//! Scales and mappings that own their tables.
+
+use crate::{read_mapping, Builder, Columns, MappingRef, Numbers, Refusal, ScaleRef, Tuning};
+use alloc::string::String;
+use alloc::vec;
+use alloc::vec::Vec;
+
+/// A scale with its own columns.
+#[derive(Clone, Debug)]
+pub struct Scale {
+    kind: Vec<u8>,
+    cents: Vec<f64>,
+    numer: Vec<u32>,
+    denom: Vec<u32>,
+    place: Vec<u32>,
+    ratio: Vec<f64>,
+    wraps: Vec<i32>,
+    count: u16,
+    description: String,
+}
+
+impl Scale {
+    /// Columns for so many items, all of them empty.
+    fn empty(items: usize) -> Scale {
+        let room = items + 1;
+        Scale {
+            kind: vec![0; room],
+            cents: vec![0.0; room],
+            numer: vec![0; room],
+            denom: vec![0; room],
+            place: vec![0; room],
+            ratio: vec![0.0; room],
+            wraps: vec![0; room],
+            count: 0,
+            description: String::new(),
+        }
+    }
+
+    fn columns(&mut self) -> Columns<'_> {
+        Columns {
+            kind: &mut self.kind,
+            cents: &mut self.cents,
+            numer: &mut self.numer,
+            denom: &mut self.denom,
+            place: &mut self.place,
+            ratio: &mut self.ratio,
+            wraps: &mut self.wraps,
+        }
+    }
+
+    /// Reads a scale file.
+    ///
+    /// ```
+    /// let scale = telbijan::Scale::read(b"fifths\n2\n3/2\n2/1\n")?;
+    /// assert_eq!(scale.description(), "fifths");
+    /// assert_eq!(scale.view().relative_pitch_of(3)?, 3.0);
+    ///
+    /// let refusal = telbijan::Scale::read(b"fifths\n2\n3/\n2/1\n").unwrap_err();
+    /// assert_eq!((refusal.number(), refusal.line()), (6, Some(3)));
+    /// assert_eq!(refusal.to_string(), "line 3: not a denominator");
+    /// # Ok::<(), telbijan::Refusal>(())
+    /// ```
+    pub fn read(text: &[u8]) -> Result<Scale, Refusal> {
+        // every item stands on a line of its own
+        let items = text.iter().filter(|&&b| b == b'\n').count().min(65_535) + 1;
+        let mut scale = Scale::empty(items);
+        let (count, description) = scale.columns().read(text)?;
+        scale.count = count;
+        scale.description = core::str::from_utf8(&text[description]).unwrap_or("").into();
+        Ok(scale)
+    }
+
+    /// Builds a scale of at most so many items from what `push` pushes.
+    ///
+    /// ```
+    /// let scale = telbijan::Scale::build(3, |b| {
+    ///     b.push_cents(100.0)?;
+    ///     b.push_fraction(3, 2)?;
+    ///     b.push_int(2)
+    /// })?;
+    /// assert_eq!(scale.view().count(), 3);
+    /// # Ok::<(), telbijan::Refusal>(())
+    /// ```
+    pub fn build(items: usize, push: impl FnOnce(&mut Builder<'_>) -> Result<(), Refusal>) -> Result<Scale, Refusal> {
+        let mut scale = Scale::empty(items);
+        let mut builder = scale.columns().builder()?;
+        push(&mut builder)?;
+        let (_, count) = builder.build()?;
+        scale.count = count;
+        Ok(scale)
+    }
+
+    /// A segment of the harmonic series, whole or in so many equal divisions.
+    pub fn harmonics(otonal: bool, start: u16, size: u16, divisions: Option<u16>) -> Result<Scale, Refusal> {
+        let mut scale = Scale::empty(divisions.unwrap_or(size).into());
+        scale.count = scale.columns().create_harmonics(otonal, start, size, divisions)?;
+        Ok(scale)
+    }
+
+    /// A rank-2 temperament.
+    ///
+    /// ```
+    /// let scale = telbijan::Scale::rank2(1.5, 5, 1, 2.0)?;
+    /// assert_eq!(scale.view().count(), 7);
+    /// # Ok::<(), telbijan::Refusal>(())
+    /// ```
+    pub fn rank2(generator: f64, positive: u16, negative: u16, period: f64) -> Result<Scale, Refusal> {
+        let mut scale = Scale::empty(usize::from(positive) + usize::from(negative) + 1);
+        scale.count = scale.columns().create_rank2(generator, positive, negative, period)?;
+        Ok(scale)
+    }
+
+    /// What the file said above its notes.
+    pub fn description(&self) -> &str {
+        &self.description
+    }
+
+    /// The scale, to ask of it.
+    pub fn view(&self) -> ScaleRef<'_> {
+        ScaleRef {
+            kind: &self.kind,
+            cents: &self.cents,
+            numer: &self.numer,
+            denom: &self.denom,
+            place: &self.place,
+            ratio: &self.ratio,
+            wraps: &self.wraps,
+            count: self.count,
+        }
+    }
+
+    /// The text of the scale.
+    pub fn export(&self, description: &str) -> Result<String, Refusal> {
+        let mut out = vec![0; self.view().room_for_export(description)];
+        let written = self.view().export(description, &mut out)?;
+        out.truncate(written);
+        Ok(String::from_utf8(out).unwrap_or_default())
+    }
+}
+
+/// A mapping with its own table.
+#[derive(Clone, Debug)]
+pub struct Mapping {
+    map: Vec<i32>,
+    numbers: Numbers,
+}
+
+impl Mapping {
+    /// Reads a mapping file.
+    ///
+    /// ```
+    /// let mapping = telbijan::Mapping::read(b"3\n0\n127\n60\n60\n261.6256\n3\n0\nx\n2\n")?;
+    /// assert_eq!(mapping.view().degree_of(62)?, 2);
+    /// assert_eq!(mapping.view().degree_of(61).unwrap_err().number(), 17);
+    /// # Ok::<(), telbijan::Refusal>(())
+    /// ```
+    pub fn read(text: &[u8]) -> Result<Mapping, Refusal> {
+        // a map may be larger than the entries that the file writes, up to its size, which is at most 65,535
+        let mut map = vec![0; 65_535];
+        let numbers = read_mapping(text, &mut map)?;
+        map.truncate(numbers.count.into());
+        map.shrink_to_fit();
+        Ok(Mapping { map, numbers })
+    }
+
+    /// The mapping, to ask of it.
+    pub fn view(&self) -> MappingRef<'_> {
+        MappingRef { map: &self.map, numbers: self.numbers }
+    }
+
+    /// The text of the mapping.
+    pub fn export(&self) -> Result<String, Refusal> {
+        let mut out = vec![0; self.view().room_for_export()];
+        let written = self.view().export(&mut out)?;
+        out.truncate(written);
+        Ok(String::from_utf8(out).unwrap_or_default())
+    }
+
+    /// The mapping over a scale.
+    ///
+    /// ```
+    /// let scale = telbijan::Scale::read(b"octaves\n1\n2/1\n")?;
+    /// let mapping = telbijan::Mapping::read(b"0\n0\n127\n69\n69\n440.0\n0\n")?;
+    /// let tuning = mapping.over(&scale);
+    /// assert_eq!(tuning.pitch_of(70)?, 880.0);
+    /// # Ok::<(), telbijan::Refusal>(())
+    /// ```
+    pub fn over<'a>(&'a self, scale: &'a Scale) -> Tuning<'a> {
+        Tuning { scale: scale.view(), mapping: self.view() }
+    }
+}

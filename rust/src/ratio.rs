@@ -1,0 +1,98 @@
+//! Ratios and pitches as numbers: E, L, and what the Rust's `Ratio` and `Pitch` compute, the same bits on every machine.
+
+use crate::Refusal;
+
+/// Calls of one or two numbers that answer one.
+macro_rules! numbers {
+    ($($(#[$doc:meta])* $name:ident = $raw:ident ( $($x:ident),+ );)+) => {
+        mod raw {
+            extern "C" {
+                $(pub fn $raw($($x: f64,)+ answer: *mut f64) -> u64;)+
+                pub fn telbijan_ratio_is_negligible(value: f64, negligible: *mut bool) -> u64;
+                pub fn telbijan_ratio_nearest_fraction(value: f64, limit: u16, numer: *mut u16, denom: *mut u16, deviation: *mut f64, octaves: *mut i32) -> u64;
+            }
+        }
+        $(
+            $(#[$doc])*
+            pub fn $name($($x: f64),+) -> Result<f64, Refusal> {
+                let mut answer = 0.0;
+                // Safety: the call stores one f64, where it is accepted.
+                Refusal::of(unsafe { raw::$raw($($x,)+ &mut answer) }).map(|()| answer)
+            }
+        )+
+    };
+}
+
+numbers! {
+    /// 2^x; 18 outside -900..900.
+    exp2 = telbijan_exp2(x);
+    /// The base 2 logarithm; 18 outside 2^-900..2^900.
+    log2 = telbijan_log2(x);
+    /// The ratio of so many octaves.
+    from_octaves = telbijan_ratio_from_octaves(octaves);
+    /// The ratio of so many semitones.
+    from_semitones = telbijan_ratio_from_semitones(semitones);
+    /// The ratio of so many cents.
+    from_cents = telbijan_ratio_from_cents(cents);
+    /// The octaves of a ratio.
+    as_octaves = telbijan_ratio_as_octaves(ratio);
+    /// The semitones of a ratio.
+    as_semitones = telbijan_ratio_as_semitones(ratio);
+    /// The cents of a ratio.
+    ///
+    /// ```
+    /// assert_eq!(telbijan::ratio::as_cents(2.0)?, 1200.0);
+    /// # Ok::<(), telbijan::Refusal>(())
+    /// ```
+    as_cents = telbijan_ratio_as_cents(ratio);
+    /// The ratio from the first pitch to the second.
+    between_pitches = telbijan_ratio_between_pitches(first, second);
+    /// One ratio on top of another.
+    stretched_by = telbijan_ratio_stretched_by(ratio, stretch);
+    /// How far a ratio is from another.
+    deviation_from = telbijan_ratio_deviation_from(ratio, reference);
+    /// So many times the interval.
+    repeated = telbijan_ratio_repeated(ratio, times);
+    /// One of so many equal parts of the interval.
+    divided_into_equal_steps = telbijan_ratio_divided_into_equal_steps(ratio, steps);
+    /// How many steps make the interval; infinite or a NaN for a step of 1.0.
+    num_equal_steps_of_size = telbijan_ratio_num_equal_steps_of_size(ratio, step);
+    /// The ratio turned over.
+    inv = telbijan_ratio_inv(ratio);
+    /// The ratio or its inverse, whichever is at least 1.
+    abs = telbijan_ratio_abs(ratio);
+    /// A pitch raised by a ratio.
+    times_ratio = telbijan_pitch_times_ratio(hz, ratio);
+    /// A pitch lowered by a ratio.
+    over_ratio = telbijan_pitch_over_ratio(hz, ratio);
+}
+
+/// Whether a ratio lies in [0.999999, 1.000001).
+pub fn is_negligible(ratio: f64) -> Result<bool, Refusal> {
+    let mut negligible = false;
+    // Safety: the call stores one bool, where it is accepted.
+    Refusal::of(unsafe { raw::telbijan_ratio_is_negligible(ratio, &mut negligible) }).map(|()| negligible)
+}
+
+/// A fraction near a ratio within an octave, how far the ratio lies above it, and the octaves taken off.
+#[derive(Clone, Copy, Debug, PartialEq)]
+pub struct NearestFraction {
+    pub numer: u16,
+    pub denom: u16,
+    pub deviation: f64,
+    pub octaves: i32,
+}
+
+/// The fraction within an odd limit that the Rust's walk finds.
+///
+/// ```
+/// let f = telbijan::ratio::nearest_fraction(0.75, 11)?;
+/// assert_eq!((f.numer, f.denom, f.octaves), (3, 2, -1));
+/// # Ok::<(), telbijan::Refusal>(())
+/// ```
+pub fn nearest_fraction(ratio: f64, limit: u16) -> Result<NearestFraction, Refusal> {
+    let mut f = NearestFraction { numer: 0, denom: 0, deviation: 0.0, octaves: 0 };
+    // Safety: the call stores the four parts, where it is accepted.
+    let result = unsafe { raw::telbijan_ratio_nearest_fraction(ratio, limit, &mut f.numer, &mut f.denom, &mut f.deviation, &mut f.octaves) };
+    Refusal::of(result).map(|()| f)
+}
