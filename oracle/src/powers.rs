@@ -7,6 +7,8 @@ use crate::ffi;
 use crate::inputs::{Random, f64_limits};
 use crate::lent::Float;
 use crate::tally::{Code, Report, Said, Who};
+use std::hint::black_box;
+use std::time::{Duration, Instant};
 use tune::powers;
 
 const RANDOM: usize = 1_000_000;
@@ -48,11 +50,11 @@ fn fractions(near: i64) -> impl Iterator<Item = u64> {
     .flat_map(move |f| (-near..=near).map(move |d| f.wrapping_add_signed(d) & ((1 << 52) - 1)))
 }
 
-/// Exponents whose fractions are those, in 1..2, 0..1, -2..-1 and far out.
+/// Exponents whose fractions are those, in 1..2, 0..1, -1..0 and -2..-1; and others next to them, in 41..42, where an f64 has fewer bits.
 fn border_exponents(near: i64) -> impl Iterator<Item = f64> {
     fractions(near).flat_map(|f| {
         let x = 1.0 + f as f64 * 2f64.powi(-52);
-        [x, x - 1.0, x - 3.0, x + 40.0]
+        [x, x - 1.0, x - 2.0, x - 3.0, x + 40.0]
     })
 }
 
@@ -77,12 +79,37 @@ pub fn compare(all: &mut Report) {
         for x in exponents().chain(border_exponents(1)) {
             tally.same(x, ffi::one(ffi::telbijan_exp2, x), said(powers::e(x)));
         }
+        let inputs: Vec<f64> = exponents().filter(|x| x.abs() < 10.0).take(20_000).collect();
+        tally.require(is_quick(&inputs, ffi::telbijan_exp2, powers::e), "the tables of E seldom decide");
     });
     all.function("log2", &[18], |tally| {
         for x in values().chain(border_values(1)) {
             tally.same(x, ffi::one(ffi::telbijan_log2, x), said(powers::l(x)));
         }
+        let inputs: Vec<f64> = values().filter(|x| (0.01..100.0).contains(x)).take(20_000).collect();
+        tally.require(is_quick(&inputs, ffi::telbijan_log2, powers::l), "the tables of L seldom decide");
     });
+}
+
+/// Whether a call takes less than a fifth of the second implementation's time, the shortest of some turns each. Where the tables decide nearly
+/// always it takes about a tenth; where they never do, a third or a half. No proof says how often they do.
+fn is_quick(inputs: &[f64], ours: ffi::One, theirs: impl Fn(f64) -> Option<f64>) -> bool {
+    let turn = |call: &dyn Fn(f64) -> f64| {
+        let began = Instant::now();
+        let sum: f64 = inputs.iter().map(|&x| call(x)).sum();
+        (began.elapsed(), black_box(sum)).0
+    };
+    let first = |x: f64| {
+        let mut answer = 0.0;
+        unsafe { ours(x, &mut answer) };
+        answer
+    };
+    let second = |x: f64| theirs(x).unwrap_or(0.0);
+    let (mut quick, mut slow) = (Duration::MAX, Duration::MAX);
+    for _ in 0..7 {
+        (quick, slow) = (quick.min(turn(&first)), slow.min(turn(&second)));
+    }
+    quick * 5 < slow
 }
 
 /// Many more numbers than the comparison has: the borders with more neighbours, then random numbers up to `count`, for each of E and L.

@@ -2,7 +2,7 @@
 -- of the six numbers, by five roundings down, is near P. Assumes nothing.
 use mathlib.Core.Path.{_≡_, sym, ap, _∙_, subst}
 use Prim.Native.Nat.{ℕ, _+_, _*_, _/_, _^_, _≤_, _<_}
-use native.Mathlib.Nat.{le-trans, lt-of-not-le, mul-le-mul-left, mul-le-mul-right, mul-pos, one-le-pow}
+use native.Mathlib.Nat.{le-trans, le-of-lt, lt-of-not-le, mul-le-mul-left, mul-le-mul-right, mul-pos, one-le-pow}
 use native.Mathlib.Omega.{arith}
 use lib.Dec.{lit<, lit≤}
 use lib.Pow.{pow-add, pow-mono}
@@ -172,7 +172,7 @@ module _ (b s A : ℕ) (from : 7 ≤ s) (pa : Power b s A) where
                 (both (productOf b s n1 * productOf b (s + n1) n2 * productOf b (s + (n1 + n2)) n3) (2 ^ 62 * 2 ^ 62 * 2 ^ 62) ((G1 + 1) * (G2 + 1) * (G3 + 1)) Z3
                 (productOf b (s + (n1 + n2 + n3)) n4) (2 ^ 62) (G4 + 1) (many n4)
                 (both (productOf b s n1 * productOf b (s + n1) n2) (2 ^ 62 * 2 ^ 62) ((G1 + 1) * (G2 + 1)) (many n1 * many n2) (productOf b (s + (n1 + n2)) n3) (2 ^ 62) (G3 + 1) (many n3)
-                (both (productOf b s n1) (2 ^ 62) (G1 + 1) (many n1) (productOf b (s + n1) n2) (2 ^ 62) (G2 + 1) (many n2) (p1 .high) (p2 .high)) (p3 .high)) (p4 .high)) lift-high)
+                (both (productOf b s n1) (2 ^ 62) (G1 + 1) (many n1) (productOf b (s + n1) n2) (2 ^ 62) (G2 + 1) (many n2) (le-of-lt (p1 .high)) (le-of-lt (p2 .high))) (le-of-lt (p3 .high))) (le-of-lt (p4 .high))) lift-high)
 
             steps : s + (N + 20) ≡ 52
             steps = omega arith

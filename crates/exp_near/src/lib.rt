@@ -10,6 +10,14 @@ ghost use Rattle.exp_near.specs.Near.{Near};
 // 2^62 stands for 1 in P.
 const ONE: u64 = 0x4000_0000_0000_0000;
 
+// An f64 keeps all of P but its last 1024th parts; the middle of two f64s is 512 of them, and 511 keeps just below it.
+const LAST: u64 = 1024;
+
+const BELOW_MIDDLE: u64 = 511;
+
+// The parts that are left where P is above its number by 14 at most.
+const DECIDED: u64 = 1009;
+
 // P after E's 52 steps, the first ones from a table.
 fn power_bits(b: u64) -> u64
     ensures { λ r. ⌜ Power b 52 r ⌝ }
@@ -38,9 +46,9 @@ pub fn nearest_to_power(b: u64, n: u64) -> f64
     ensures { λ r. ⌜ r ≡ round binary64 false (pOf b 52 * 2 ^ n) (2 ^ 1086) ⌝ }
 {
     let set = u64::count_ones(b) as u64;
-    let moved = near_power(b) + (511 - set);
-    if moved % 1024 < 1009 - set {
-        f64::from_bits((n - 2) * 0x10_0000_0000_0000 + moved / 1024)
+    let moved = near_power(b) + (BELOW_MIDDLE - set);
+    if moved % LAST < DECIDED - set {
+        f64::from_bits((n - 2) * 0x10_0000_0000_0000 + moved / LAST)
     } else {
         rounding::nearest_power(power_bits(b), n)
     }

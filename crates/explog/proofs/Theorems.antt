@@ -26,7 +26,7 @@ use Rattle.explog.specs.Rules.{E, L, inPowers, floorOf, powerOf}
 use Rattle.explog.specs.Samples.{log-of-one}
 use Rattle.explog.proofs.Meaning.{root-is}
 use Rattle.powers.proofs.Entries.{t-below}
-use Rattle.powers.proofs.Bound.{powers, power-below, tops}
+use Rattle.powers.proofs.Bound.{powers, power-below}
 use Rattle.explog.proofs.Plain.{plainFloor, plainPower}
 use Rattle.explog.proofs.Range.{e-range}
 use Rattle.explog.proofs.LiteralE.{e-literal}
@@ -43,10 +43,6 @@ root-floor n h = root-is n h
 pub table-root : (k : ℕ) → k < 52 → (tOf (suc k) * tOf (suc k) ≤ 2 ^ 62 * tOf k) × (2 ^ 62 * tOf k < (tOf (suc k) + 1) * (tOf (suc k) + 1))
 unfolding tOf
 table-root k h = root-is (2 ^ 62 * tOf k) (lt-of-le-of-lt (mul-le-mul-left (2 ^ 62) (t-below k (omega arith))) (lit< tt))
-
--- E's first ten steps look at the ten highest bits of b alone
-pub first-ten : (b : ℕ) → pOf b 10 ≡ pOf (b / 2 ^ 42 * 2 ^ 42) 10
-first-ten b = tops b (b / 2 ^ 42 * 2 ^ 42) (sym (mul-div-cancel (b / 2 ^ 42) (pow-pos 42))) 10 (omega arith)
 
 -- ---- E answers a number: never a NaN, never an infinity
 power-at : (x r : Float) → E x ≡ gives r → (inPowers x ≡ true) × (powerOf (floorOf x) ≡ r)

@@ -8,7 +8,7 @@ ghost use Rattle.floats.specs.Answers.{saysFloat};
 ghost use Rattle.explog.specs.Rules.{E, L, inPowers};
 
 // 2^62: E's f is moved up by so many parts of 2^52.
-const ONE: u64 = 0x4000_0000_0000_0000;
+const MOVED: u64 = 0x4000_0000_0000_0000;
 
 // 2^52: f and V count in parts of it.
 const PARTS: u64 = 0x10_0000_0000_0000;
@@ -29,7 +29,7 @@ fn moved_up(negative: bool, w: u64) -> u64
     requires { ⌜ w ≤ 2 ^ 62 ⌝ }
     ensures { λ r. ⌜ r ≡ pick negative (2 ^ 62 - w) (2 ^ 62 + w) ⌝ }
 {
-    if negative { ONE - w } else { ONE + w }
+    if negative { MOVED - w } else { MOVED + w }
 }
 
 // The whole part of 2^62 + v or 2^62 - v, for v = d * 2^(k - 1022), at most 2^62: E's f, moved up to be above zero.
@@ -39,9 +39,9 @@ fn floor_sum(negative: bool, d: u64, k: u64) -> u64
 {
     if k <= 968 {
         if negative {
-            if d == 0 { ONE } else { ONE - 1 }
+            if d == 0 { MOVED } else { MOVED - 1 }
         } else {
-            ONE
+            MOVED
         }
     } else {
         let s = 1032 - k;

@@ -102,8 +102,15 @@ module _ (count : ℕ) (t : ItemTable) (l : ListTable) (none : count ≡ 0) (u :
           is-root = r .1 .0;
           is-pitch = h .1 .0;
           is-ratio = x .1 .0;
+          in-search = c .0;
           answer = same-value a (approximation (x .0) (pos 0)) (sym (f .1 .1) ∙ ap (λ (s : Said Found). andThen s degree) (sym (c .1)) ∙ searched-none (x .0));
         }
+
+    -- and it is answered as soon as each of these steps is
+    pub pitch-none-answers : (root : KbmRoot) (pitch : Float) (a : Approximation) → isRoot root ≡ true → inPitch pitch ≡ true → FindsNone items root pitch a
+        → tested (isScale count t l && (isRoot root && inPitch pitch)) (andThen (pitchSearchOf items es root pitch) degree) ≡ gives a
+    unfolding pitchSearchFrom pitchSearchOf
+    pitch-none-answers root pitch a r p f = rw (its, list, r, p, f .is-root, f .is-pitch, f .is-ratio, f .in-search) (searched-none (f .ratio) ∙ ap gives (sym (f .answer)))
 
   -- ---- the calls
   pub find-by-relative-pitch-none : (x : Float) → inSearch x ≡ true → tested (isScale count t l && inSearch x) (andThen (searchOf items es x) (declaredOf count)) ≡ gives (approximation x (pos 0))
@@ -114,6 +121,14 @@ module _ (count : ℕ) (t : ItemTable) (l : ListTable) (none : count ≡ 0) (u :
 
   pub find-by-pitch-none : (root : KbmRoot) (pitch : Float) (a : Approximation) → tested (isScale count t l && (isRoot root && inPitch pitch)) (andThen (pitchSearchOf items es root pitch) (declaredOf count)) ≡ gives a → FindsNone items root pitch a
   find-by-pitch-none = pitch-none (declaredOf count) declared-none
+
+  pub find-by-pitch-none-answers : (root : KbmRoot) (pitch : Float) (a : Approximation) → isRoot root ≡ true → inPitch pitch ≡ true → FindsNone items root pitch a
+      → tested (isScale count t l && (isRoot root && inPitch pitch)) (andThen (pitchSearchOf items es root pitch) (declaredOf count)) ≡ gives a
+  find-by-pitch-none-answers = pitch-none-answers (declaredOf count) declared-none
+
+  pub find-by-pitch-sorted-none-answers : (root : KbmRoot) (pitch : Float) (a : Approximation) → isRoot root ≡ true → inPitch pitch ≡ true → FindsNone items root pitch a
+      → tested (isScale count t l && (isRoot root && inPitch pitch)) (andThen (pitchSearchOf items es root pitch) (ascendingOf count)) ≡ gives a
+  find-by-pitch-sorted-none-answers = pitch-none-answers (ascendingOf count) ascending-none
 
   pub find-by-pitch-sorted-none : (root : KbmRoot) (pitch : Float) (a : Approximation) → tested (isScale count t l && (isRoot root && inPitch pitch)) (andThen (pitchSearchOf items es root pitch) (ascendingOf count)) ≡ gives a → FindsNone items root pitch a
   find-by-pitch-sorted-none = pitch-none (ascendingOf count) ascending-none

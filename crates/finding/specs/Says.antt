@@ -51,6 +51,7 @@ pub record FindsNone (items : List Item) (root : KbmRoot) (pitch : Float) (a : A
   pub is-root : rootDegree root ≡ gives root-at
   pub is-pitch : rootPitch items (root .pitch .0) root-at ≡ gives root-pitch
   pub is-ratio : betweenPitches root-pitch pitch ≡ gives ratio
+  pub in-search : inSearch ratio ≡ true
   pub answer : a ≡ approximation ratio (pos 0)
 
 -- ---- which refusals are left, once tables, root and target are usable: a degree or key, 11 or 18

@@ -4,7 +4,7 @@ use libc::STDERR_FILENO;
 // The refusals of texts.
 fn say_text(fd: i32, number: u32) {
     if number == base::NOT_UTF8 {
-        io::write_all(fd, b"the line is not UTF-8");
+        io::write_all(fd, b"a line is not UTF-8");
     } else if number == base::INT_VALUE {
         io::write_all(fd, b"not an integer of its type");
     } else if number == base::CENTS_VALUE {
@@ -42,7 +42,10 @@ fn say_value(fd: i32, number: u32) {
     } else if number == base::UNMAPPED_KEY {
         io::write_all(fd, b"the key is unmapped");
     } else {
-        io::write_all(fd, b"a computed pitch or ratio is outside 2^-900..2^900");
+        io::write_all(
+            fd,
+            b"beyond reach: a period of 1.0, 0 divisions, or a computed pitch or ratio outside its range",
+        );
     }
 }
 

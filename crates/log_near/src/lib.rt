@@ -6,6 +6,23 @@ ghost use Rattle.log_near.specs.Head.{Head};
 // 2^62 stands for 1 in y.
 const ONE: u64 = 0x4000_0000_0000_0000;
 
+// The natural logarithm of 2 in 2^64, and in 2^42: a guess's last 22 bits, and what they add to 1.
+const LN_2: u64 = 0xb172_17f7_d1cf_0000;
+
+const LN_2_PARTS: u64 = 3048493539143;
+
+// The last bits are 22; a guess of the first ones that is too small by more than these is not followed.
+const LAST: u64 = 0x40_0000;
+
+const MOST_LAST: u64 = 5242880;
+
+// What the first bits' power may be short of; what a power of the last bits may be above its number; what the next one is above it at least.
+const SHORT: u64 = 16;
+
+const ABOVE: u64 = 8;
+
+const NEXT: u64 = 709;
+
 // 2^62 times the power of two whose exponent has the 30 bits h after the point, from below, within 16.
 pub fn root_power(h: u64) -> u64
     ensures { λ r. ⌜ Head h r ⌝ }
@@ -27,12 +44,12 @@ pub fn near_log_bits(y: u64) -> u64
         let h = log_guess::rough_log(y);
         let q = root_power(h);
         let rest = std::num::wrapping_sub_u64(y, q) << 31;
-        let t = rest / (wide::high_product(y, 0xb172_17f7_d1cf_0000) / 0x20_0000);
-        if t < 5242880 {
-            let d = t * 3048493539143 / 0x1_0000_0000;
-            if wide::mul_shift62(q + 16, ONE + d + 8) < y {
-                if y < wide::mul_shift62(q, ONE + d + 709) {
-                    h * 0x40_0000 + t
+        let t = rest / (wide::high_product(y, LN_2) / 0x20_0000);
+        if t < MOST_LAST {
+            let d = t * LN_2_PARTS / 0x1_0000_0000;
+            if wide::mul_shift62(q + SHORT, ONE + d + ABOVE) < y {
+                if y < wide::mul_shift62(q, ONE + d + NEXT) {
+                    h * LAST + t
                 } else {
                     powers::log_bits(y)
                 }

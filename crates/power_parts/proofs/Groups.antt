@@ -6,7 +6,7 @@ use mathlib.Core.List.{List}
 use Prim.Native.Nat.{ℕ, zero, suc, _+_, _-_, _*_, _/_, _%_, _^_, _≤_, _<_}
 use native.Mathlib.Nat.{add-suc, add-zero, add-assoc, mul-assoc, mul-one}
 use native.Mathlib.Omega.{arith}
-use lib.Dec.{T, eqb, leb, leb→le, eqb→eq}
+use lib.Dec.{T, eqb, leb, ltb, leb→le, ltb→lt, eqb→eq}
 use lib.ListN.{getD, length}
 use lib.Ieee.Fits.{and-l, and-r}
 use Rattle.base.specs.Said.{pick}
@@ -42,7 +42,7 @@ module _ (b s n w : ℕ) (e : s + n + w ≡ 52) where
       let q = product-cut n (omega arith) in
       record {
         low = subst (λ (x : ℕ). r * (2 ^ 62) ^ n ≤ x * 2 ^ 62) (sym q) (p .low);
-        high = subst (λ (x : ℕ). x * 2 ^ 62 ≤ (r + 1) * (2 ^ 62) ^ n) (sym q) (p .high);
+        high = subst (λ (x : ℕ). x * 2 ^ 62 < (r + 1) * (2 ^ 62) ^ n) (sym q) (p .high);
         above = p .above;
         below = p .below;
       }
@@ -118,7 +118,7 @@ state-right n w i x = eqb x (stateIn (i * 2 ^ w) n)
 unfoldable pub part-right : ℕ → ℕ → ℕ → ℕ → ℕ → Bool
 part-right s n w i x =
     leb (x * (2 ^ 62) ^ n) (productIn (i * 2 ^ w) s n * 2 ^ 62)
-    && (leb (productIn (i * 2 ^ w) s n * 2 ^ 62) ((x + 1) * (2 ^ 62) ^ n)
+    && (ltb (productIn (i * 2 ^ w) s n * 2 ^ 62) ((x + 1) * (2 ^ 62) ^ n)
     && (leb (2 ^ 62) x && leb (x * 2 ^ s) (2 ^ 62 * 2 ^ s + 2 ^ 62)))
 
 unfoldable pub rise-right : ℕ → ℕ → ℕ → ℕ → ℕ → Bool
@@ -134,14 +134,14 @@ unfolding part-right
 part-test s n w i x l t =
     let q = product-in (i * 2 ^ w) s n l in
     let c1 = leb (x * (2 ^ 62) ^ n) (productIn (i * 2 ^ w) s n * 2 ^ 62) in
-    let c2 = leb (productIn (i * 2 ^ w) s n * 2 ^ 62) ((x + 1) * (2 ^ 62) ^ n) in
+    let c2 = ltb (productIn (i * 2 ^ w) s n * 2 ^ 62) ((x + 1) * (2 ^ 62) ^ n) in
     let c3 = leb (2 ^ 62) x in
     let c4 = leb (x * 2 ^ s) (2 ^ 62 * 2 ^ s + 2 ^ 62) in
     let u = and-r c1 (c2 && (c3 && c4)) t in
     let v = and-r c2 (c3 && c4) u in
     record {
       low = subst (λ (z : ℕ). x * (2 ^ 62) ^ n ≤ z * 2 ^ 62) q (leb→le _ _ (and-l c1 (c2 && (c3 && c4)) t));
-      high = subst (λ (z : ℕ). z * 2 ^ 62 ≤ (x + 1) * (2 ^ 62) ^ n) q (leb→le _ _ (and-l c2 (c3 && c4) u));
+      high = subst (λ (z : ℕ). z * 2 ^ 62 < (x + 1) * (2 ^ 62) ^ n) q (ltb→lt _ _ (and-l c2 (c3 && c4) u));
       above = leb→le _ _ (and-l c3 c4 v);
       below = leb→le _ _ (and-r c3 c4 v);
     }

@@ -124,15 +124,3 @@ power-below b k p h i = below p (tOf k) (t-above k h) (i .bound)
 -- a loop that runs while k < j ends at j
 pub arrived : (b j k p : ℕ) → k ≤ j → j ≤ k → Power b k p → Power b j p
 arrived b j k p h g i = subst (λ (x : ℕ). Power b x p) (le-antisymm h g) i
-
--- ---- the first ten steps look at b's ten highest bits
-top-bit : (b j : ℕ) → b / 2 ^ (42 + j) ≡ b / 2 ^ 42 / 2 ^ j
-top-bit b j = ap (λ (x : ℕ). b / x) (pow-add 2 42 j) ∙ sym (div-div-eq-div-mul b (2 ^ 42) (2 ^ j))
-
-pub tops : (b c : ℕ) → b / 2 ^ 42 ≡ c / 2 ^ 42 → (k : ℕ) → k ≤ 10 → pOf b k ≡ pOf c k
-unfolding pOf
-tops b c h zero l = refl
-tops b c h (suc k) l =
-    let e : 52 - suc k ≡ 42 + (9 - k) = omega arith in
-    let d : b / 2 ^ (52 - suc k) ≡ c / 2 ^ (52 - suc k) = rw e (top-bit b (9 - k) ∙ ap (λ (x : ℕ). x / 2 ^ (9 - k)) h ∙ sym (top-bit c (9 - k))) in
-    λ i. stepE (eqb (d i % 2) 1) (tops b c h k (omega arith) i) (tOf (suc k))

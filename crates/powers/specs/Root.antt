@@ -1,4 +1,4 @@
--- "floor of the square root" (document 01, T_k); that `root` is it is `root-floor` of proofs/Theorems. Assumes nothing.
+-- "floor of the square root" (document 01, T_k); that `root` is it is `root-floor` of explog/proofs/Theorems. Assumes nothing.
 use Prim.Native.Nat.{ℕ, zero, suc, _+_, _*_, _^_}
 use lib.Dec.{leb}
 use Rattle.base.specs.Said.{pick}
