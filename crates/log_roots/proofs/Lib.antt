@@ -1,3 +1,4 @@
 pub mod Ratio
 pub mod Roots
 pub mod Rows
+pub mod Theorems
