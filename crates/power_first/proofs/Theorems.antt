@@ -4,5 +4,6 @@ use Prim.Native.Nat.{ℕ}
 use Rattle.powers.specs.Inner.{Power}
 use Rattle.powers.proofs.Theorems.{power-steps-one}
 
-pub first-steps-one : (b r s : ℕ) → Power b 7 r → Power b 7 s → r ≡ s
-first-steps-one b = power-steps-one b 7
+module _ (b q r : ℕ) where
+  pub first-steps-one : Power b 7 q → Power b 7 r → q ≡ r
+  first-steps-one = power-steps-one b 7 q r
