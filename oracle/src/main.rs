@@ -14,6 +14,7 @@ mod bench;
 mod bench_tuning;
 mod differences;
 mod differences_kbm;
+mod differences_rule;
 mod differences_scl;
 mod differences_tuning;
 mod entries;
@@ -100,7 +101,9 @@ fn compare() -> ExitCode {
     let mut all = tally::Report::shown();
     compare_all(&mut all);
     untouched::report();
-    all.verdict()
+    let lacking = differences_rule::lacking(all.unlike());
+    lacking.iter().for_each(|row| println!("docs/DIFFERENCES.md should have a row: {row}"));
+    if lacking.is_empty() { all.verdict() } else { ExitCode::FAILURE }
 }
 
 /// The comparison of every function, on the inputs of this thread's round.

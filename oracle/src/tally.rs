@@ -107,7 +107,7 @@ impl Report {
     }
 
     fn tried(&mut self, name: &str, numbers: &[u64], ruled: bool, cases: impl FnOnce(&mut Tally)) {
-        let mut tally = Tally { name: name.to_string(), by: [0; 3], differences: 0, met: BTreeMap::new() };
+        let mut tally = Tally { name: name.to_string(), by: [0; 3], differences: 0, met: BTreeMap::new(), unlike: BTreeSet::new() };
         cases(&mut tally);
         let line = Line { tally, numbers: numbers.iter().copied().collect(), ruled };
         if self.shown {
@@ -133,6 +133,11 @@ impl Report {
     /// Cases: the Rust's own answers, those on the second E and L, those by the rules alone.
     pub fn cases(&self) -> [u64; 3] {
         [0, 1, 2].map(|who| self.lines.iter().map(|line| line.tally.by[who]).sum())
+    }
+
+    /// Each function with the refusals that the Rust does not give there: by the rules alone, or where it panics.
+    pub fn unlike(&self) -> impl Iterator<Item = (&str, u64)> {
+        self.lines.iter().flat_map(|line| line.tally.unlike.iter().map(|&number| (line.tally.name.as_str(), number)))
     }
 
     /// The lines of all rounds.
@@ -169,7 +174,7 @@ struct Line {
 
 impl Line {
     fn print(&self) {
-        let Tally { name, by, differences, met } = &self.tally;
+        let Tally { name, by, differences, met, .. } = &self.tally;
         let numbers: Vec<String> = met.iter().map(|(number, times)| format!("{number}:{times}")).collect();
         println!("{:<26} {:>9} {:>9} {:>9} {:>9} {:>6}  {}", name, by.iter().sum::<u64>(), by[0], by[1], by[2], differences, numbers.join(" "));
     }
@@ -196,7 +201,11 @@ pub struct Tally {
     by: [u64; 3],
     differences: u64,
     met: BTreeMap<u64, u64>,
+    unlike: BTreeSet<u64>,
 }
+
+/// The numbers that no error of the Rust's stands for.
+const OURS: [u64; 4] = [10, 11, 12, 18];
 
 impl Tally {
     /// One input: what the library answered and left behind, and what it should have. The first few differences are shown.
@@ -212,6 +221,9 @@ impl Tally {
         self.by[who as usize] += 1;
         if code != Code::ACCEPTED {
             *self.met.entry(code.number()).or_default() += 1;
+            if who == Who::Rules || OURS.contains(&code.number()) {
+                self.unlike.insert(code.number());
+            }
         }
     }
 
@@ -232,6 +244,7 @@ impl Tally {
     fn add(&mut self, other: &Tally) {
         (0..3).for_each(|who| self.by[who] += other.by[who]);
         self.differences += other.differences;
+        self.unlike.extend(&other.unlike);
         other.met.iter().for_each(|(&number, times)| *self.met.entry(number).or_default() += times);
     }
 }
