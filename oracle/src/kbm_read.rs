@@ -1,7 +1,7 @@
 //! Mapping files: ours beside the rules, the whole table compared, and the rules beside the Rust in its domain.
 
 use crate::ffi_kbm::{self, Mapping, OLD_MAPPING};
-use crate::inputs::Random;
+use crate::inputs::{Random, drawn, fixed};
 use crate::tally::{Code, Report, Said, Tally, Who};
 use crate::{rules, rust_kbm};
 
@@ -66,7 +66,7 @@ pub fn texts() -> Vec<Vec<u8>> {
         "", "!", "x", "X", "-0", "+7", "007", "65535", "65536", "-1", "32767", "32768", "-32768", "-32769", "2147483646", "2147483647", "2147483648", "-2147483648", "-2147483649", "440", "440.",
         ".5", ".", "1e3", "inf", "nan", "-1.0", "0.0", "0.0009765625", "0.0009765624", "1048576", "1048576.0001", "1234567890123456789", "5x", "5!", "x5", "xx", "\u{a0}5", "5\u{b}6", "5\u{c}6", "\u{feff}5", "5\u{a0}6",
     ];
-    for file in [FILES[0], FILES[3]] {
+    for file in fixed([FILES[0], FILES[3]]) {
         let lines: Vec<&str> = file.lines().collect();
         for k in 0..lines.len() {
             for token in tokens {
@@ -88,7 +88,7 @@ pub fn texts() -> Vec<Vec<u8>> {
     }
     // damaged copies
     let mut random = Random::new(18);
-    for _ in 0..60_000 {
+    for _ in drawn(60_000) {
         let mut text = FILES[random.next() as usize % FILES.len()].as_bytes().to_vec();
         for _ in 0..1 + random.next() % 3 {
             if text.is_empty() {
@@ -123,7 +123,7 @@ pub fn compare(all: &mut Report) {
                 one_read(tally, &text, room);
             }
         }
-        for (entries, size) in [(0, 0), (1, 1), (0, 1), (8_192, 8_192), (8_191, 8_192), (8_193, 8_192), (65_535, 65_535), (65_536, 65_535), (65_537, 65_535), (0, 65_535)] {
+        for (entries, size) in fixed([(0, 0), (1, 1), (0, 1), (8_192, 8_192), (8_191, 8_192), (8_193, 8_192), (65_535, 65_535), (65_536, 65_535), (65_537, 65_535), (0, 65_535)]) {
             let text = long(entries, size);
             for room in [entries.max(size), entries.max(size) + 2, entries.max(size).saturating_sub(1), 0] {
                 one_read(tally, &text, room);

@@ -32,6 +32,7 @@
 extern crate alloc;
 
 mod mapping;
+mod mapping_builder;
 #[cfg(feature = "alloc")]
 mod owned;
 pub mod ratio;
@@ -40,6 +41,7 @@ mod refusal;
 mod scale;
 
 pub use mapping::{read_mapping, MappingRef, Numbers, Root, Tuning, UNMAPPED};
+pub use mapping_builder::MappingBuilder;
 #[cfg(feature = "alloc")]
 pub use owned::{Mapping, Scale};
 pub use refusal::Refusal;

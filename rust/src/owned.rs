@@ -1,9 +1,10 @@
 //! Scales and mappings that own their tables.
 
-use crate::{read_mapping, Builder, Columns, MappingRef, Numbers, Refusal, ScaleRef, Tuning};
+use crate::{read_mapping, Builder, Columns, MappingBuilder, MappingRef, Numbers, Refusal, Root, ScaleRef, Tuning};
 use alloc::string::String;
 use alloc::vec;
 use alloc::vec::Vec;
+use core::ops::Range;
 
 /// A scale with its own columns.
 #[derive(Clone, Debug)]
@@ -160,6 +161,42 @@ impl Mapping {
         let numbers = read_mapping(text, &mut map)?;
         map.truncate(numbers.count.into());
         map.shrink_to_fit();
+        Ok(Mapping { map, numbers })
+    }
+
+    /// Builds a mapping of at most so many entries above a root, for the keys of a range, from what `push` pushes. Only a mapping without
+    /// entries needs no formal octave.
+    ///
+    /// ```
+    /// use telbijan::{Mapping, Root};
+    ///
+    /// let root = Root { reference: 60, hz: 261.6256, offset: 0 };
+    /// let mapping = Mapping::build(3, root, 0..128, Some(5), |b| {
+    ///     b.push(0)?;
+    ///     b.push_unmapped()?;
+    ///     b.push(2)
+    /// })?;
+    /// assert_eq!(mapping.view().degree_of(63)?, 5);
+    /// assert_eq!(mapping.export()?, "3\n0\n127\n60\n60\n261.626\n5\n0\nx\n2\n");
+    ///
+    /// let linear = Mapping::build(0, root, 0..128, None, |_| Ok(()))?;
+    /// assert_eq!(linear.view().degree_of(72)?, 12);
+    /// let refusal = Mapping::build(1, root, 0..128, None, |b| b.push(0)).unwrap_err();
+    /// assert_eq!(refusal.number(), 15);
+    /// # Ok::<(), telbijan::Refusal>(())
+    /// ```
+    pub fn build(
+        entries: usize,
+        root: Root,
+        keys: Range<i32>,
+        octave: Option<i16>,
+        push: impl FnOnce(&mut MappingBuilder<'_>) -> Result<(), Refusal>,
+    ) -> Result<Mapping, Refusal> {
+        let mut map = vec![0; entries];
+        let mut builder = MappingBuilder::new(&mut map, root, keys)?;
+        push(&mut builder)?;
+        let numbers = builder.build(octave)?.numbers;
+        map.truncate(numbers.count.into());
         Ok(Mapping { map, numbers })
     }
 
