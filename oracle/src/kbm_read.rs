@@ -107,6 +107,42 @@ pub fn texts() -> Vec<Vec<u8>> {
     found
 }
 
+/// A token where an integer should be: usual, at the limits of 16 and 32 bits, or none.
+fn random_integer(random: &mut Random) -> String {
+    let limits = [0i64, 32_767, -32_768, 65_535, 2_147_483_646, -2_147_483_648];
+    match random.next() % 16 {
+        0 => (limits[random.next() as usize % 6] + random.next() as i64 % 3 - 1).to_string(),
+        1 => format!("{}{}", ["+", "-", "0", "x", ".", "-0"][random.next() as usize % 6], random.next() % 200),
+        _ => (random.next() % 128).to_string(),
+    }
+}
+
+/// A token where a pitch should be, with any number of decimals.
+fn random_pitch(random: &mut Random) -> String {
+    match random.next() % 8 {
+        0 => random_integer(random),
+        1 => format!("{:.*}", random.next() as usize % 22, random.ratio(22)),
+        2 => ["0.0009765625", "0.00097656249", "1048576", "1048576.0000001", "4e2", "inf", "-1.0", "NaN"][random.next() as usize % 8].to_string(),
+        _ => format!("{:.*}", random.next() as usize % 6, random.unit() * 1000.0),
+    }
+}
+
+/// A text of at most so many entries: mostly a whole mapping, else with another size, text behind a token, comments, or fewer lines.
+fn random_text(random: &mut Random, most: u64) -> Vec<u8> {
+    let entries = random.next() % (most + 1);
+    let size = if random.next() % 4 == 0 { random.next() % 20 } else { entries };
+    let mut lines = vec![size.to_string()];
+    lines.extend((0..4).map(|_| random_integer(random)));
+    lines.extend([random_pitch(random), random_integer(random)]);
+    lines.extend((0..entries).map(|_| if random.next() % 4 == 0 { ["x", "X", "x ", "xx"][random.next() as usize % 4].to_string() } else { random_integer(random) }));
+    if random.next() % 16 == 0 {
+        lines.truncate(random.next() as usize % 8);
+    }
+    let end = ["\n", "\r\n"][usize::from(random.next() % 8 == 0)];
+    let behind = ["", "", "", " Hz", "\t! c", "\n! c", "\n", "\u{a0}"];
+    lines.iter().map(|line| format!("{line}{}{end}", behind[random.next() as usize % 8])).collect::<String>().into_bytes()
+}
+
 /// A mapping file of so many entries that says a size.
 pub fn long(entries: usize, size: usize) -> Vec<u8> {
     let mut text = format!("{size}\n0\n127\n60\n60\n440.0\n12\n");
@@ -118,7 +154,8 @@ pub fn long(entries: usize, size: usize) -> Vec<u8> {
 
 pub fn compare(all: &mut Report) {
     all.function("Kbm::import", &[1, 2, 3, 7, 8, 9, 10, 11, 12, 13, 14], |tally| {
-        for text in texts() {
+        let mut random = Random::new(31);
+        for text in texts().into_iter().chain(drawn(20_000).map(|_| random_text(&mut random, 12))) {
             for room in [0, 1, 2, 3, 8, 12] {
                 one_read(tally, &text, room);
             }
