@@ -13,24 +13,19 @@ mod scaled;
 
 // Whether a call gives the answer of its line.
 fn is_same(line: &[u8]) -> bool {
-    let name = frozen::field(line, frozen::next(line, 0));
+    let call = frozen::call_of(
+        line,
+        b"harmonics rank2 maybe_key maybe_degree run period relative degree key sorted_relative sorted_pitch find find_sorted find_pitch find_pitch_sorted find_key",
+    );
     let at = frozen::later(line, 0, 2);
-    if check::same(name, b"harmonics") {
-        return computed::is_same_segment(line, at);
+    match call {
+        0 => computed::is_same_segment(line, at),
+        1 => computed::is_same_temperament(line, at),
+        2 => mapped::is_same_mapped(line, at, true),
+        3 => mapped::is_same_mapped(line, at, false),
+        4 => mapped::is_same_run(line, at),
+        _ => scaled::is_same_scaled(call, line, at),
     }
-    if check::same(name, b"rank2") {
-        return computed::is_same_temperament(line, at);
-    }
-    if check::same(name, b"maybe_key") {
-        return mapped::is_same_key(line, at);
-    }
-    if check::same(name, b"maybe_degree") {
-        return mapped::is_same_degree(line, at);
-    }
-    if check::same(name, b"run") {
-        return mapped::is_same_run(line, at);
-    }
-    scaled::is_same_scaled(name, line, at)
 }
 
 // The counts of all lines.
