@@ -164,7 +164,7 @@ fn push_rational(items: Items, builder: SclBuilder, line: &[u8], at: usize) -> S
 }
 
 // One step. For another the answer is one that no line has.
-fn stepped(items: Items, builder: SclBuilder, line: &[u8], at: usize) -> Stepped {
+fn step_on(items: Items, builder: SclBuilder, line: &[u8], at: usize) -> Stepped {
     let step = step_of(line, at);
     match step {
         b'n' => new(items),
@@ -198,7 +198,7 @@ fn kept(answer: SclBuilderAnswer, old: SclBuilder) -> SclBuilder {
 fn with_step(done: Done, line: &[u8], at: usize) -> Done {
     let builder = done.builder;
     let items = done.items;
-    let one = stepped(items, builder, line, at);
+    let one = step_on(items, builder, line, at);
     let said = one.said;
     let items = one.items;
     Done {
@@ -289,7 +289,7 @@ fn after_state(state: SclBuilder, line: &[u8], at: usize) -> usize {
 pub fn is_same_push(line: &[u8], at: usize) -> bool {
     let state = read_state(line, at);
     let push = after_state(state, line, at);
-    let one = stepped(frozen_scales::lent_items(), state, line, push);
+    let one = step_on(frozen_scales::lent_items(), state, line, push);
     let said = one.said;
     let items = one.items;
     let after = after_push(said, line, after_step(line, push));
