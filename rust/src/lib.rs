@@ -44,5 +44,5 @@ pub use mapping::{read_mapping, MappingRef, Numbers, Root, Tuning, UNMAPPED};
 pub use mapping_builder::MappingBuilder;
 #[cfg(feature = "alloc")]
 pub use owned::{Mapping, Scale};
-pub use refusal::Refusal;
+pub use refusal::{reason, Refusal};
 pub use scale::{Builder, Columns, Found, ScaleRef};

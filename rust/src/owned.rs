@@ -6,6 +6,14 @@ use alloc::vec;
 use alloc::vec::Vec;
 use core::ops::Range;
 
+/// At least as many as the text has lines: no more items or entries are written in it.
+fn lines(text: &[u8]) -> usize {
+    text.iter().filter(|&&b| b == b'\n').count() + 1
+}
+
+/// The most items or entries that a builder can hold and a build then refuses (13).
+const MOST: usize = 65_536;
+
 /// A scale with its own columns.
 #[derive(Clone, Debug)]
 pub struct Scale {
@@ -62,16 +70,14 @@ impl Scale {
     /// # Ok::<(), telbijan::Refusal>(())
     /// ```
     pub fn read(text: &[u8]) -> Result<Scale, Refusal> {
-        // every item stands on a line of its own
-        let items = text.iter().filter(|&&b| b == b'\n').count().min(65_535) + 1;
-        let mut scale = Scale::empty(items);
+        let mut scale = Scale::empty(lines(text));
         let (count, description) = scale.columns().read(text)?;
         scale.count = count;
         scale.description = core::str::from_utf8(&text[description]).unwrap_or("").into();
         Ok(scale)
     }
 
-    /// Builds a scale of at most so many items from what `push` pushes.
+    /// Builds a scale of at most so many items from what `push` pushes into the builder that it is given; 10 where it puts another in its place.
     ///
     /// ```
     /// let scale = telbijan::Scale::build(3, |b| {
@@ -83,10 +89,14 @@ impl Scale {
     /// # Ok::<(), telbijan::Refusal>(())
     /// ```
     pub fn build(items: usize, push: impl FnOnce(&mut Builder<'_>) -> Result<(), Refusal>) -> Result<Scale, Refusal> {
-        let mut scale = Scale::empty(items);
+        let mut scale = Scale::empty(items.min(MOST));
+        let own = scale.kind.as_ptr();
         let mut builder = scale.columns().builder()?;
         push(&mut builder)?;
-        let (_, count) = builder.build()?;
+        let (columns, count) = builder.build()?;
+        if columns.kind.as_ptr() != own {
+            return Err(Refusal::UNUSABLE);
+        }
         scale.count = count;
         Ok(scale)
     }
@@ -157,15 +167,15 @@ impl Mapping {
     /// ```
     pub fn read(text: &[u8]) -> Result<Mapping, Refusal> {
         // a map may be larger than the entries that the file writes, up to its size, which is at most 65,535
-        let mut map = vec![0; 65_535];
+        let mut map = vec![0; lines(text).max(65_535)];
         let numbers = read_mapping(text, &mut map)?;
         map.truncate(numbers.count.into());
         map.shrink_to_fit();
         Ok(Mapping { map, numbers })
     }
 
-    /// Builds a mapping of at most so many entries above a root, for the keys of a range, from what `push` pushes. Only a mapping without
-    /// entries needs no formal octave.
+    /// Builds a mapping of at most so many entries above a root, for the keys of a range, from what `push` pushes into the builder that it is
+    /// given; 10 where it puts another in its place. Only a mapping without entries needs no formal octave.
     ///
     /// ```
     /// use telbijan::{Mapping, Root};
@@ -192,10 +202,15 @@ impl Mapping {
         octave: Option<i16>,
         push: impl FnOnce(&mut MappingBuilder<'_>) -> Result<(), Refusal>,
     ) -> Result<Mapping, Refusal> {
-        let mut map = vec![0; entries];
+        let mut map = vec![0; entries.min(MOST)];
+        let own = (map.as_ptr(), map.len());
         let mut builder = MappingBuilder::new(&mut map, root, keys)?;
         push(&mut builder)?;
-        let numbers = builder.build(octave)?.numbers;
+        let built = builder.build(octave)?;
+        if (built.map.as_ptr(), built.map.len()) != own {
+            return Err(Refusal::UNUSABLE);
+        }
+        let numbers = built.numbers;
         map.truncate(numbers.count.into());
         Ok(Mapping { map, numbers })
     }

@@ -15,7 +15,8 @@ pub struct Columns<'a> {
     pub wraps: &'a mut [i32],
 }
 
-/// A scale in borrowed columns: what is asked of a scale is asked here.
+/// A scale in borrowed columns: what is asked of a scale is asked here. Every call tests the columns, the root and the ratio or pitch first (10); then come
+/// 11 for a number that leaves its type and 18 for a pitch or ratio that leaves its range.
 #[derive(Clone, Copy, Debug)]
 pub struct ScaleRef<'a> {
     pub(crate) kind: &'a [u8],
@@ -80,6 +81,7 @@ macro_rules! write_columns {
 pub(crate) use {ask_items, items};
 
 impl<'a> ScaleRef<'a> {
+    /// How many items it has.
     pub fn count(self) -> u16 {
         self.count
     }
@@ -225,6 +227,7 @@ macro_rules! push {
 }
 
 impl<'a> Builder<'a> {
+    /// So many cents, from -38400 to 38400 (else 10, as for every push); 12 where the columns are full.
     pub fn push_cents(&mut self, cents: f64) -> Result<(), Refusal> {
         push!(self, telbijan_push_cents, cents)
     }
@@ -234,10 +237,12 @@ impl<'a> Builder<'a> {
         push!(self, telbijan_push_ratio, ratio)
     }
 
+    /// A whole number, from 1 on.
     pub fn push_int(&mut self, number: u32) -> Result<(), Refusal> {
         push!(self, telbijan_push_int, number)
     }
 
+    /// A fraction, both parts from 1 on.
     pub fn push_fraction(&mut self, numer: u32, denom: u32) -> Result<(), Refusal> {
         push!(self, telbijan_push_fraction, numer, denom)
     }

@@ -50,7 +50,12 @@ fn kept(answer: BuilderAnswer, old: KbmBuilder) -> KbmBuilder {
 fn with_push(done: Done, room: usize, line: &[u8], at: usize) -> Done {
     let builder = done.builder;
     let mut map = done.map;
-    let said = pushed(builder, frozen_mappings::first_mut(&mut map, room), line, at);
+    let said = pushed(
+        builder,
+        frozen_mappings::first_mut(&mut map, room),
+        line,
+        at,
+    );
     Done {
         builder: kept(said, builder),
         map,

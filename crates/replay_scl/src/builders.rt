@@ -136,14 +136,7 @@ fn push_fraction(items: Items, builder: SclBuilder, above: u32, below: u32) -> S
     let mut cents = items.cents;
     let mut numer = items.numer;
     let mut denom = items.denom;
-    let said = builder.push_fraction(
-        &mut kind,
-        &mut cents,
-        &mut numer,
-        &mut denom,
-        above,
-        below,
-    );
+    let said = builder.push_fraction(&mut kind, &mut cents, &mut numer, &mut denom, above, below);
     let items = Items {
         kind,
         cents,
