@@ -6,6 +6,11 @@ use alloc::vec;
 use alloc::vec::Vec;
 use core::ops::Range;
 
+/// No text has more lines than this.
+fn lines(text: &[u8]) -> usize {
+    text.iter().filter(|&&b| b == b'\n').count() + 1
+}
+
 /// A scale with its own columns.
 #[derive(Clone, Debug)]
 pub struct Scale {
@@ -49,7 +54,7 @@ impl Scale {
         }
     }
 
-    /// Reads a scale file.
+    /// Reads a scale file. There is always room: over 65,535 items give 13, never 12.
     ///
     /// ```
     /// let scale = telbijan::Scale::read(b"fifths\n2\n3/2\n2/1\n")?;
@@ -63,15 +68,14 @@ impl Scale {
     /// ```
     pub fn read(text: &[u8]) -> Result<Scale, Refusal> {
         // every item stands on a line of its own
-        let items = text.iter().filter(|&&b| b == b'\n').count().min(65_535) + 1;
-        let mut scale = Scale::empty(items);
+        let mut scale = Scale::empty(lines(text));
         let (count, description) = scale.columns().read(text)?;
         scale.count = count;
         scale.description = core::str::from_utf8(&text[description]).unwrap_or("").into();
         Ok(scale)
     }
 
-    /// Builds a scale of at most so many items from what `push` pushes.
+    /// Builds a scale of at most so many items from what `push` pushes; what it refuses is handed on, and so is what `Builder::build` does.
     ///
     /// ```
     /// let scale = telbijan::Scale::build(3, |b| {
@@ -91,14 +95,14 @@ impl Scale {
         Ok(scale)
     }
 
-    /// A segment of the harmonic series, whole or in so many equal divisions.
+    /// A segment of the harmonic series, whole or in so many equal divisions: as `Columns::create_harmonics`, and never 12.
     pub fn harmonics(otonal: bool, start: u16, size: u16, divisions: Option<u16>) -> Result<Scale, Refusal> {
         let mut scale = Scale::empty(divisions.unwrap_or(size).into());
         scale.count = scale.columns().create_harmonics(otonal, start, size, divisions)?;
         Ok(scale)
     }
 
-    /// A rank-2 temperament.
+    /// A rank-2 temperament: as `Columns::create_rank2`, and never 12.
     ///
     /// ```
     /// let scale = telbijan::Scale::rank2(1.5, 5, 1, 2.0)?;
@@ -111,7 +115,7 @@ impl Scale {
         Ok(scale)
     }
 
-    /// What the file said above its notes.
+    /// What the file said above its notes; empty where there was no file.
     pub fn description(&self) -> &str {
         &self.description
     }
@@ -130,7 +134,7 @@ impl Scale {
         }
     }
 
-    /// The text of the scale.
+    /// The text of the scale under a description.
     pub fn export(&self, description: &str) -> Result<String, Refusal> {
         let mut out = vec![0; self.view().room_for_export(description)];
         let written = self.view().export(description, &mut out)?;
@@ -147,7 +151,7 @@ pub struct Mapping {
 }
 
 impl Mapping {
-    /// Reads a mapping file.
+    /// Reads a mapping file. There is always room: over 65,535 entries give 13, never 12.
     ///
     /// ```
     /// let mapping = telbijan::Mapping::read(b"3\n0\n127\n60\n60\n261.6256\n3\n0\nx\n2\n")?;
@@ -157,7 +161,7 @@ impl Mapping {
     /// ```
     pub fn read(text: &[u8]) -> Result<Mapping, Refusal> {
         // a map may be larger than the entries that the file writes, up to its size, which is at most 65,535
-        let mut map = vec![0; 65_535];
+        let mut map = vec![0; lines(text).max(65_535)];
         let numbers = read_mapping(text, &mut map)?;
         map.truncate(numbers.count.into());
         map.shrink_to_fit();
@@ -205,7 +209,7 @@ impl Mapping {
         MappingRef { map: &self.map, numbers: self.numbers }
     }
 
-    /// The text of the mapping.
+    /// The text of the mapping; 11 where its last or its middle key passes 32 bits.
     pub fn export(&self) -> Result<String, Refusal> {
         let mut out = vec![0; self.view().room_for_export()];
         let written = self.view().export(&mut out)?;
