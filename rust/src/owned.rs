@@ -6,13 +6,13 @@ use alloc::vec;
 use alloc::vec::Vec;
 use core::ops::Range;
 
-/// At least as many as the text has lines: no more items or entries are written in it.
+/// The most items or entries that a builder can hold and a build then refuses (13).
+const MOST: usize = 65_536;
+
+/// No text has more lines than this.
 fn lines(text: &[u8]) -> usize {
     text.iter().filter(|&&b| b == b'\n').count() + 1
 }
-
-/// The most items or entries that a builder can hold and a build then refuses (13).
-const MOST: usize = 65_536;
 
 /// A scale with its own columns.
 #[derive(Clone, Debug)]
@@ -57,7 +57,7 @@ impl Scale {
         }
     }
 
-    /// Reads a scale file.
+    /// Reads a scale file. There is always room: over 65,535 items give 13, never 12.
     ///
     /// ```
     /// let scale = telbijan::Scale::read(b"fifths\n2\n3/2\n2/1\n")?;
@@ -70,6 +70,7 @@ impl Scale {
     /// # Ok::<(), telbijan::Refusal>(())
     /// ```
     pub fn read(text: &[u8]) -> Result<Scale, Refusal> {
+        // every item stands on a line of its own
         let mut scale = Scale::empty(lines(text));
         let (count, description) = scale.columns().read(text)?;
         scale.count = count;
@@ -77,7 +78,8 @@ impl Scale {
         Ok(scale)
     }
 
-    /// Builds a scale of at most so many items from what `push` pushes into the builder that it is given; 10 where it puts another in its place.
+    /// Builds a scale of at most so many items from what `push` pushes into the builder that it is given; what it refuses is handed on, and so is what
+    /// `Builder::build` does; 10 where it puts another builder in the place of its own.
     ///
     /// ```
     /// let scale = telbijan::Scale::build(3, |b| {
@@ -101,14 +103,14 @@ impl Scale {
         Ok(scale)
     }
 
-    /// A segment of the harmonic series, whole or in so many equal divisions.
+    /// A segment of the harmonic series, whole or in so many equal divisions: as `Columns::create_harmonics`, and never 12.
     pub fn harmonics(otonal: bool, start: u16, size: u16, divisions: Option<u16>) -> Result<Scale, Refusal> {
         let mut scale = Scale::empty(divisions.unwrap_or(size).into());
         scale.count = scale.columns().create_harmonics(otonal, start, size, divisions)?;
         Ok(scale)
     }
 
-    /// A rank-2 temperament.
+    /// A rank-2 temperament: as `Columns::create_rank2`, and never 12.
     ///
     /// ```
     /// let scale = telbijan::Scale::rank2(1.5, 5, 1, 2.0)?;
@@ -121,7 +123,7 @@ impl Scale {
         Ok(scale)
     }
 
-    /// What the file said above its notes.
+    /// What the file said above its notes; empty where there was no file.
     pub fn description(&self) -> &str {
         &self.description
     }
@@ -140,7 +142,7 @@ impl Scale {
         }
     }
 
-    /// The text of the scale.
+    /// The text of the scale under a description.
     pub fn export(&self, description: &str) -> Result<String, Refusal> {
         let mut out = vec![0; self.view().room_for_export(description)];
         let written = self.view().export(description, &mut out)?;
@@ -157,7 +159,7 @@ pub struct Mapping {
 }
 
 impl Mapping {
-    /// Reads a mapping file.
+    /// Reads a mapping file. There is always room: over 65,535 entries give 13, never 12.
     ///
     /// ```
     /// let mapping = telbijan::Mapping::read(b"3\n0\n127\n60\n60\n261.6256\n3\n0\nx\n2\n")?;
@@ -174,8 +176,8 @@ impl Mapping {
         Ok(Mapping { map, numbers })
     }
 
-    /// Builds a mapping of at most so many entries above a root, for the keys of a range, from what `push` pushes into the builder that it is
-    /// given; 10 where it puts another in its place. Only a mapping without entries needs no formal octave.
+    /// Builds a mapping of at most so many entries above a root, for the keys of a range, from what `push` pushes into the builder that it
+    /// is given; 10 where it puts another in its place. Only a mapping without entries needs no formal octave.
     ///
     /// ```
     /// use telbijan::{Mapping, Root};
@@ -220,7 +222,7 @@ impl Mapping {
         MappingRef { map: &self.map, numbers: self.numbers }
     }
 
-    /// The text of the mapping.
+    /// The text of the mapping; 11 where its last or its middle key passes 32 bits.
     pub fn export(&self) -> Result<String, Refusal> {
         let mut out = vec![0; self.view().room_for_export()];
         let written = self.view().export(&mut out)?;
