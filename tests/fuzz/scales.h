@@ -160,7 +160,7 @@ static void build_scale(columns *c, size_t room, size_t count, telbijan_scale_bu
     values_change(0), JUDGE();
     MUST(result != 0 || *items == count);
     if (b) {
-        telbijan_scale built;
+        telbijan_scale built = {0};
         built.count = 0x5a5a;
         SAME(telbijan_scale_build(b, &built), result), alike(KIND, WRAPS, HERE);
         MUST(result == 0 ? built.count == *items && built.kind == b->scale.kind && built.room == b->scale.room : built.count == 0x5a5a);
