@@ -243,13 +243,17 @@ static void scale_lookups(uint32_t number) {
     }
 }
 
+static void searches_by_pitch(uint32_t number) {
+    ALIKE(telbijan_tuning_find_by_pitch(&ours.scale, ours.mapping.root, 490, &ours.out.found), telbijan_find_by_pitch(COLUMNS(theirs), theirs.scale.count, ROOT(theirs), 490, FOUND(theirs))), SAID(number, 0);
+    ALIKE(telbijan_tuning_find_by_pitch_sorted(&ours.scale, ours.mapping.root, 490, &ours.out.found), telbijan_find_by_pitch_sorted(COLUMNS(theirs), theirs.scale.count, ROOT(theirs), 490, FOUND(theirs))), SAID(number, 0);
+    ALIKE(telbijan_tuning_find_key_by_pitch(&ours.scale, ours.mapping.root, 490, &ours.out.found), telbijan_find_key_by_pitch(COLUMNS(theirs), theirs.scale.count, ROOT(theirs), 490, FOUND(theirs))), SAID(number, 0);
+}
+
 static void searches(uint32_t number) {
     bool good = number == 0;
     ALIKE(telbijan_scale_find(&ours.scale, 2.3, &ours.out.found), telbijan_find_by_relative_pitch(COLUMNS(theirs), theirs.scale.count, 2.3, FOUND(theirs))), SAID(number, 0), SAME(seen.out.found.number, good ? 6 : 0x5a5a5a5a);
     ALIKE(telbijan_scale_find_sorted(&ours.scale, 2.3, &ours.out.found), telbijan_find_by_relative_pitch_sorted(COLUMNS(theirs), theirs.scale.count, 2.3, FOUND(theirs))), SAID(number, 0), SAME(seen.out.found.number, good ? 5 : 0x5a5a5a5a);
-    ALIKE(telbijan_tuning_find_by_pitch(&ours.scale, ours.mapping.root, 490, &ours.out.found), telbijan_find_by_pitch(COLUMNS(theirs), theirs.scale.count, ROOT(theirs), 490, FOUND(theirs))), SAID(number, 0);
-    ALIKE(telbijan_tuning_find_by_pitch_sorted(&ours.scale, ours.mapping.root, 490, &ours.out.found), telbijan_find_by_pitch_sorted(COLUMNS(theirs), theirs.scale.count, ROOT(theirs), 490, FOUND(theirs))), SAID(number, 0);
-    ALIKE(telbijan_tuning_find_key_by_pitch(&ours.scale, ours.mapping.root, 490, &ours.out.found), telbijan_find_key_by_pitch(COLUMNS(theirs), theirs.scale.count, ROOT(theirs), 490, FOUND(theirs))), SAID(number, 0);
+    searches_by_pitch(number);
 }
 
 /* Every key from the one before the first to the one after the last. */
@@ -280,6 +284,12 @@ static void ends_of_runs(void) {
     filled(5, 4);
     run_of_keys(4, 0), SAME(seen.out.numbers[0], 16u), SAME(seen.out.numbers[1], 0u), SAME(seen.out.numbers[4], 17u), SAME(seen.out.numbers[9], 0x5a5a5a5au), SAME(seen.out.hz[0], seen.out.hz[9]);
     run_of_keys(83, 0), SAME(seen.out.numbers[7], 0u), SAME(seen.out.numbers[8], 16u);
+}
+
+/* A count that is no count of the columns, and a pitch that is none. */
+static void unusable(void) {
+    filled(5, 4), BOTH(scale.count, 65535), scale_lookups(10), searches(10), run_of_keys(4, 10), export_scale(ROOM_OF_TEXT), SAID(10, 0);
+    filled(5, 4), BOTH(mapping.root.hz, 0), searches_by_pitch(10), run_of_keys(4, 10), export_mapping(ROOM_OF_TEXT), SAID(10, 0);
 }
 
 /* ---- The header's own names. */
@@ -324,6 +334,7 @@ int main(void) {
     lookups(4, 4, 10, 10);
     lookups(5, 3, 0, 10);
     ends_of_runs();
+    unusable();
     names();
     return faults != 0;
 }
