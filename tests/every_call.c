@@ -3,8 +3,9 @@
  * a call may set holds 0x5a bytes before it; a refused call leaves its world as it was. Silent and 0 where all is well. */
 #include "worlds.h"
 
-/* The texts: no number twice, none that a default would give, and no end to the last line. */
+/* The texts: no number twice, none that a default would give, and no end to the last line. The scales differ in their periods alone. */
 static const char SCALE[] = "! steps\nbright\n4\n5/3\n150.5\n7\n1203.25";
+static const char FRACTION[] = "! steps\nbright\n4\n5/3\n150.5\n7\n13/6";
 static const char MAPPING[] = "! keys\n4\n5\n90\n61\n67\n300.5\n7\n1\nx\n3\n6";
 
 static void read_scale(size_t room) {
@@ -18,14 +19,14 @@ static void read_mapping(size_t table) {
         &theirs.mapping.root.reference, &theirs.mapping.root.hz, &theirs.mapping.root.offset, &theirs.mapping.octave));
 }
 
-/* Worlds in which both texts were read, and which then have rooms of these sizes. */
-static void filled(size_t room, size_t table) {
+/* Worlds in which a scale and the mapping were read, and which then have rooms of these sizes. */
+static void filled(const char *scale, size_t room, size_t table) {
     world *w;
     int j;
     blank(PLACES, PLACES);
     for (j = 0; j < 2; j++) {
         w = j == 0 ? &ours : &theirs;
-        SAME(telbijan_read_scl(BYTES(SCALE), COLUMNS(*w), &w->scale.count, &w->out.span.start, &w->out.span.end), 0);
+        SAME(telbijan_read_scl(BYTES(scale), COLUMNS(*w), &w->scale.count, &w->out.span.start, &w->out.span.end), 0);
         SAME(telbijan_read_kbm(BYTES(MAPPING), w->m.map, PLACES, &w->mapping.count, &w->mapping.start, &w->mapping.end, &w->mapping.root.reference, &w->mapping.root.hz, &w->mapping.root.offset, &w->mapping.octave), 0);
         memset(&w->out, 0x5a, sizeof w->out);
     }
@@ -133,7 +134,7 @@ static void export_mapping(size_t room) {
 
 static void exports(void) {
     const char *text = "bright\n4\n5/3\n150.500\n7\n1203.250\n";
-    filled(5, 4);
+    filled(SCALE, 5, 4);
     export_scale(strlen(text)), SAID(0, 0), SAME(seen.out.written, strlen(text)), SAME(memcmp(seen.out.text, text, strlen(text)), 0), SAME(seen.out.text[strlen(text)], 0x5a);
     export_scale(strlen(text) - 1), SAID(12, 0);
     text = "4\n5\n90\n61\n67\n300.500\n7\n1\nx\n3\n6\n";
@@ -192,7 +193,9 @@ static void push_entry(bool mapped) {
         ALIKE(telbijan_mapping_push_unmapped(&ours.entries), telbijan_push_unmapped_key(theirs.m.map, theirs.mapping.room, theirs.mapping.room, theirs.entries.count, &theirs.entries.count));
 }
 
+/* A builder of a mapping whose own count and octave do not matter. */
 static void begin_mapping(void) {
+    BOTH(mapping.count, 0x5a5a), BOTH(mapping.octave, 0x5a5a);
     theirs.entries.mapping = theirs.mapping, theirs.entries.count = 0;
     ALIKE(telbijan_mapping_begin(&ours.entries, &ours.mapping), telbijan_kbm_root(ROOT(theirs)));
 }
@@ -213,9 +216,9 @@ static void build_linear(void) {
 static void mapping_builders(void) {
     static int32_t large[65536];
     int last, j;
-    filled(5, 4), begin_mapping(), SAID(0, 0), build_linear(), SAID(0, 0), SAME(seen.made.count, 0), SAME(seen.made.octave, 0), SAME(seen.made.root.hz, 300.5);
+    filled(SCALE, 5, 4), begin_mapping(), SAID(0, 0), build_linear(), SAID(0, 0), SAME(seen.made.count, 0), SAME(seen.made.octave, 0), SAME(seen.made.root.hz, 300.5);
     for (last = 0; last < 2; last++) {
-        filled(5, 4), begin_mapping(), SAID(0, 0);
+        filled(SCALE, 5, 4), begin_mapping(), SAID(0, 0);
         for (j = 1; j <= 4; j++)
             push_entry((last + j) % 2 == 0), SAID(0, 0), SAME(seen.entries.count, (size_t)j);
         SAME(seen.m.map[3], last == 0 ? -9 : INT32_MIN);
@@ -225,8 +228,8 @@ static void mapping_builders(void) {
     }
     BOTH(entries.count, 5), build_mapping(), SAID(10, 0), build_linear(), SAID(10, 0);
     BOTH(entries.count, 0), BOTH(entries.mapping.root.hz, 0), build_mapping(), SAID(10, 0), build_linear(), SAID(10, 0);
-    BOTH(mapping.root.hz, NAN), begin_mapping(), SAID(10, 0);
-    filled(5, 4), begin_mapping(), BOTH(entries.mapping.map, large), BOTH(entries.mapping.room, 65536), BOTH(entries.count, 65536), build_mapping(), SAID(13, 0);
+    BOTH(mapping.root.hz, 0), begin_mapping(), SAID(10, 0);
+    filled(SCALE, 5, 4), begin_mapping(), BOTH(entries.mapping.map, large), BOTH(entries.mapping.room, 65536), BOTH(entries.count, 65536), build_mapping(), SAID(13, 0);
 }
 
 /* ---- What looks at a scale and a mapping. Each answers `number`, or the refusal of its key. */
@@ -271,9 +274,9 @@ static void run_of_keys(int32_t first, uint32_t number) {
     SAID(number, 0);
 }
 
-/* Both texts in rooms of these sizes. A room one short of its count is refused by all that look at it. */
-static void lookups(size_t room, size_t table, uint32_t scale_number, uint32_t number) {
-    filled(room, table);
+/* A room one short of its count is refused by all that look at it. */
+static void lookups(const char *scale, size_t room, size_t table, uint32_t scale_number, uint32_t number) {
+    filled(scale, room, table);
     scale_lookups(scale_number), searches(scale_number), keys(), run_of_keys(4, number), run_of_keys(83, number);
     export_scale(ROOM_OF_TEXT), SAID(scale_number, 0);
     export_mapping(ROOM_OF_TEXT), SAID(table < 4 ? 10u : 0u, 0);
@@ -281,15 +284,15 @@ static void lookups(size_t room, size_t table, uint32_t scale_number, uint32_t n
 
 /* Key 4 is outside and key 8 unmapped; key 90 is the last; the places behind the run stay. */
 static void ends_of_runs(void) {
-    filled(5, 4);
+    filled(SCALE, 5, 4);
     run_of_keys(4, 0), SAME(seen.out.numbers[0], 16u), SAME(seen.out.numbers[1], 0u), SAME(seen.out.numbers[4], 17u), SAME(seen.out.numbers[9], 0x5a5a5a5au), SAME(seen.out.hz[0], seen.out.hz[9]);
     run_of_keys(83, 0), SAME(seen.out.numbers[7], 0u), SAME(seen.out.numbers[8], 16u);
 }
 
 /* A count that is no count of the columns, and a pitch that is none. */
 static void unusable(void) {
-    filled(5, 4), BOTH(scale.count, 65535), scale_lookups(10), searches(10), run_of_keys(4, 10), export_scale(ROOM_OF_TEXT), SAID(10, 0);
-    filled(5, 4), BOTH(mapping.root.hz, 0), searches_by_pitch(10), run_of_keys(4, 10), export_mapping(ROOM_OF_TEXT), SAID(10, 0);
+    filled(SCALE, 5, 4), BOTH(scale.count, 65535), scale_lookups(10), searches(10), run_of_keys(4, 10), export_scale(ROOM_OF_TEXT), SAID(10, 0);
+    filled(SCALE, 5, 4), BOTH(mapping.root.hz, 0), searches_by_pitch(10), run_of_keys(4, 10), export_mapping(ROOM_OF_TEXT), SAID(10, 0);
 }
 
 /* ---- The header's own names. */
@@ -329,10 +332,11 @@ int main(void) {
     exports();
     scale_builders();
     mapping_builders();
-    lookups(5, 4, 0, 0);
-    lookups(PLACES, PLACES, 0, 0);
-    lookups(4, 4, 10, 10);
-    lookups(5, 3, 0, 10);
+    lookups(SCALE, 5, 4, 0, 0);
+    lookups(FRACTION, 5, 4, 0, 0);
+    lookups(SCALE, PLACES, PLACES, 0, 0);
+    lookups(SCALE, 4, 4, 10, 10);
+    lookups(SCALE, 5, 3, 0, 10);
     ends_of_runs();
     unusable();
     names();
