@@ -228,7 +228,7 @@ static void mapping_builders(void) {
     }
     BOTH(entries.count, 5), build_mapping(), SAID(10, 0), build_linear(), SAID(10, 0);
     BOTH(entries.count, 0), BOTH(entries.mapping.root.hz, 0), build_mapping(), SAID(10, 0), build_linear(), SAID(10, 0);
-    BOTH(mapping.root.hz, 0), begin_mapping(), SAID(10, 0);
+    filled(SCALE, 5, 4), BOTH(mapping.root.hz, 0), begin_mapping(), SAID(10, 0);
     filled(SCALE, 5, 4), begin_mapping(), BOTH(entries.mapping.map, large), BOTH(entries.mapping.room, 65536), BOTH(entries.count, 65536), build_mapping(), SAID(13, 0);
 }
 
