@@ -1,5 +1,5 @@
-/* Prints, for each key of a mapping, its degree, its pitch in Hz and its cents from the reference pitch, or why it has none: what the program
- * `keytable` prints.
+/* Prints, for each key of a mapping, its degree, its pitch in Hz and its cents from the reference pitch, or why it has none: of the files in
+ * examples/ what the program `keytable` prints. Beyond the program's limits (8,191 items, 2^53 Hz) this one goes on.
  *
  * Build:  ./install target/telbijan
  *         cc examples/keytable.c -Itarget/telbijan/include -Ltarget/telbijan/lib -ltelbijan -o target/keytable

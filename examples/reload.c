@@ -89,15 +89,25 @@ static bool load(tuning *spare, const char *scl, const char *kbm) {
     return accepted(scl, telbijan_tuning_pitches_of(&spare->scale, &spare->mapping, 0, KEYS, spare->hz, spare->numbers));
 }
 
+/* The rest of a line: how key 60 sounds. */
+static void tell(const tuning *t) {
+    if (t->numbers[60] == TELBIJAN_ACCEPTED)
+        printf(": key 60 has %.3f Hz\n", t->hz[60]);
+    else
+        printf(": key 60 has no pitch, %s\n", telbijan_reason(t->numbers[60]));
+}
+
 static void reload(const char *scl, const char *kbm) {
     tuning *old = atomic_load(&current), *spare = old == &memory[0] ? &memory[1] : &memory[0];
     while (atomic_load(&played) == spare)
         sched_yield(); /* the player still looks at the spare one */
     if (load(spare, scl, kbm)) {
         atomic_store(&current, spare);
-        printf("%s is in use: key 60 has %.3f Hz\n", scl, spare->hz[60]);
+        printf("%s is in use", scl);
+        tell(spare);
     } else {
-        printf("the tuning in use stays: key 60 has %.3f Hz\n", old->hz[60]);
+        printf("the tuning in use stays");
+        tell(old);
     }
 }
 
@@ -112,7 +122,8 @@ int main(int argc, char **argv) {
         return 1;
     atomic_store(&current, &memory[0]);
     atomic_store(&played, &memory[0]);
-    printf("%s is in use: key 60 has %.3f Hz\n", argv[1], memory[0].hz[60]);
+    printf("%s is in use", argv[1]);
+    tell(&memory[0]);
     if (pthread_create(&player, NULL, play, &sum) != 0)
         return 2;
     for (int i = 3; i < argc; i++)

@@ -311,8 +311,8 @@ uint64_t telbijan_create_rank2_temperament_scale(double generator, uint16_t posi
 
 /* ==== The same calls on structs ====================================================================================================
  *
- * The calls above, for people: a scale, a mapping and a refusal as plain structs. Each function here hands its struct to the call of the
- * same name and does nothing else, so all that is said there holds here. A refusal leaves the structs as they were too. Copies of a
+ * The calls above, for people: a scale, a mapping and a refusal as plain structs. Each function here hands its struct to one of the calls
+ * above and does nothing else, so all that is said there holds here. A refusal leaves the structs as they were too. Copies of a
  * struct lend the same memory: one of them writes, or many read.
  */
 

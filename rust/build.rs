@@ -1,5 +1,5 @@
 //! Finds the archive: in TELBIJAN_LIB_DIR (as `./install PREFIX` leaves it in PREFIX/lib), else in target/native of the repository, where
-//! it is built first if it is not there.
+//! it is built first if it is not there or older than the sources.
 use std::path::PathBuf;
 use std::process::Command;
 
@@ -17,9 +17,11 @@ fn main() {
 fn built() -> PathBuf {
     let root = PathBuf::from(std::env::var_os("CARGO_MANIFEST_DIR").unwrap()).join("..");
     let archive = root.join("target/native/libtelbijan.a");
-    if !archive.exists() {
-        let done = Command::new(root.join("tools/archive")).arg(&archive).status();
-        assert!(done.is_ok_and(|status| status.success()), "the archive could not be built: run tools/archive, or set TELBIJAN_LIB_DIR");
+    println!("cargo:rerun-if-changed={}", root.join("crates").display());
+    let done = Command::new(root.join("tools/archive")).arg(&archive).status();
+    if !done.is_ok_and(|status| status.success()) {
+        assert!(archive.exists(), "the archive could not be built: run tools/archive, or set TELBIJAN_LIB_DIR");
+        println!("cargo:warning=tools/archive did not end well: what is linked may be older than the sources");
     }
     archive.parent().unwrap().to_path_buf()
 }

@@ -1,256 +1,344 @@
-/* Calls every function of the header once, and each call on structs beside the flat one: the same result, the same values, the same
- * memory. Then wrong calls, which are refused and leave everything as it was. Silent and 0 where all is well. */
-#include <inttypes.h>
-#include <math.h>
-#include <stdio.h>
-#include <string.h>
+/* Calls every function of the header, and each call on structs beside the flat one, in two worlds of the same memory: the same result, the
+ * same values, the same bytes. Rooms are full to the last place or one short of it, and places behind them are watched; every value that
+ * a call may set holds 0x5a bytes before it; a refused call leaves its world as it was. Silent and 0 where all is well. */
+#include "worlds.h"
 
-#include "telbijan.h"
+/* The texts: no number twice, none that a default would give, and no end to the last line. The scales differ in their periods alone. */
+static const char SCALE[] = "! steps\nbright\n4\n5/3\n150.5\n7\n1203.25";
+static const char FRACTION[] = "! steps\nbright\n4\n5/3\n150.5\n7\n13/6";
+static const char MAPPING[] = "! keys\n4\n5\n90\n61\n67\n300.5\n7\n1\nx\n3\n6";
 
-static int faults;
+static void read_scale(size_t room) {
+    blank(room, PLACES);
+    ALIKE(telbijan_scale_read(&ours.scale, SCALE, strlen(SCALE), &ours.out.span), telbijan_read_scl(BYTES(SCALE), COLUMNS(theirs), &theirs.scale.count, &theirs.out.span.start, &theirs.out.span.end));
+}
 
-static void check(bool good, const char *what, int line) {
-    if (!good) {
-        printf("every_call: line %d: %s\n", line, what);
-        faults++;
+static void read_mapping(size_t table) {
+    blank(PLACES, table);
+    ALIKE(telbijan_mapping_read(&ours.mapping, MAPPING, strlen(MAPPING)), telbijan_read_kbm(BYTES(MAPPING), theirs.m.map, theirs.mapping.room, &theirs.mapping.count, &theirs.mapping.start, &theirs.mapping.end,
+        &theirs.mapping.root.reference, &theirs.mapping.root.hz, &theirs.mapping.root.offset, &theirs.mapping.octave));
+}
+
+/* Worlds in which a scale and the mapping were read, and which then have rooms of these sizes. */
+static void filled(const char *scale, size_t room, size_t table) {
+    world *w;
+    int j;
+    blank(PLACES, PLACES);
+    for (j = 0; j < 2; j++) {
+        w = j == 0 ? &ours : &theirs;
+        SAME(telbijan_read_scl(BYTES(scale), COLUMNS(*w), &w->scale.count, &w->out.span.start, &w->out.span.end), 0);
+        SAME(telbijan_read_kbm(BYTES(MAPPING), w->m.map, PLACES, &w->mapping.count, &w->mapping.start, &w->mapping.end, &w->mapping.root.reference, &w->mapping.root.hz, &w->mapping.root.offset, &w->mapping.octave), 0);
+        memset(&w->out, 0x5a, sizeof w->out);
+    }
+    BOTH(scale.room, room), BOTH(mapping.room, table);
+}
+
+/* ---- The flat calls on numbers. */
+
+static void numbers(void) {
+    int32_t z = 7;
+    uint32_t n = 7;
+    uint8_t midi = 7;
+    SAME(telbijan_i32_div_u(-6, 5, &z), 0), SAME(z, -2), z = 7;
+    SAME(telbijan_i32_rem_u(-6, 5, &n), 0), SAME(n, 4), n = 7;
+    SAME(telbijan_i32_dr_u(-6, 5, &z, &n), 0), SAME(z, -2), SAME(n, 4);
+    SAME(telbijan_odd_factors_u16(24), 3);
+    SAME(telbijan_checked_midi_number(64, &midi), 0), SAME(midi, 64);
+    SAME(telbijan_num_keys_before(62, 67, &z), 0), SAME(z, 5);
+    SAME(telbijan_plus_steps(62, 5, &z), 0), SAME(z, 67);
+    SAME(telbijan_i32_dr_u(1, 0, &z, &n), 10), SAME(z, 67), SAME(n, 4);
+}
+
+/* A call that stores y in x. */
+#define STORES(call, y) (x = 7, SAME(call, 0), NEAR(x, y))
+
+static void pitches(void) {
+    double x;
+    bool small = true;
+    int32_t z = 7;
+    uint16_t numer = 7, denom = 7;
+    STORES(telbijan_exp2(3, &x), 8);
+    STORES(telbijan_log2(8, &x), 3);
+    STORES(telbijan_ratio_from_float(1.5, &x), 1.5);
+    STORES(telbijan_ratio_from_octaves(3, &x), 8);
+    STORES(telbijan_ratio_from_semitones(24, &x), 4);
+    STORES(telbijan_ratio_from_cents(1200, &x), 2);
+    STORES(telbijan_ratio_between_pitches(330, 440, &x), 4.0 / 3);
+    STORES(telbijan_ratio_stretched_by(2, 1.5, &x), 3);
+    STORES(telbijan_ratio_deviation_from(3, 1.5, &x), 2);
+    STORES(telbijan_ratio_repeated(2, 3, &x), 8);
+    STORES(telbijan_ratio_divided_into_equal_steps(8, 3, &x), 2);
+    STORES(telbijan_ratio_num_equal_steps_of_size(8, 2, &x), 3);
+    STORES(telbijan_ratio_as_octaves(2, &x), 1);
+    STORES(telbijan_ratio_as_semitones(2, &x), 12);
+    STORES(telbijan_ratio_as_cents(2, &x), 1200);
+    STORES(telbijan_ratio_inv(4, &x), 0.25);
+    STORES(telbijan_ratio_abs(0.5, &x), 2);
+    STORES(telbijan_pitch_from_hz(440, &x), 440);
+    STORES(telbijan_pitch_times_ratio(220, 1.5, &x), 330);
+    STORES(telbijan_pitch_over_ratio(330, 1.5, &x), 220);
+    STORES(telbijan_item_as_ratio(1, 0, 3, 2, &x), 1.5);
+    STORES(telbijan_ratio_nearest_fraction(0.75, 11, &numer, &denom, &x, &z), 1), SAME(numer, 3), SAME(denom, 2), SAME(z, -1);
+    SAME(telbijan_ratio_is_negligible(1.5, &small), 0), SAME(small, false);
+    SAME(telbijan_ratio_total_cmp(1.5, 2, &z), 0), SAME(z, -1), z = 7;
+    SAME(telbijan_ratio_total_cmp(-1, 2, &z), 10), SAME(z, 7);
+}
+
+/* ---- What writes a scale or a mapping: with just enough places, and with one less. */
+
+static void readers(void) {
+    read_scale(5), SAID(0, 0), SAME(seen.scale.count, 4), SAME(seen.out.span.start, 8), SAME(seen.out.span.end, 14);
+    SAME(seen.m.kind[1], TELBIJAN_FRACTION), SAME(seen.m.kind[2], TELBIJAN_CENTS), SAME(seen.m.kind[3], TELBIJAN_WHOLE), SAME(seen.m.kind[5], 0x5a);
+    SAME(seen.m.numer[1], 5), SAME(seen.m.denom[1], 3), SAME(seen.m.cents[2], 150.5), SAME(seen.m.numer[3], 7), SAME(seen.m.cents[4], 1203.25), SAME(seen.m.place[1], 2), SAME(seen.m.wraps[3], 2);
+    read_scale(4), SAID(12, 7);
+    read_mapping(4), SAID(0, 0), SAME(seen.mapping.count, 4), SAME(seen.mapping.start, 5), SAME(seen.mapping.end, 91), SAME(seen.mapping.octave, 7);
+    SAME(seen.mapping.root.reference, 67), SAME(seen.mapping.root.hz, 300.5), SAME(seen.mapping.root.offset, -6);
+    SAME(seen.m.map[0], 1), SAME(seen.m.map[1], TELBIJAN_UNMAPPED), SAME(seen.m.map[3], 6), SAME(seen.m.map[4], 0x5a5a5a5a);
+    read_mapping(3), SAID(12, 12);
+}
+
+static void harmonics(bool otonal, size_t room) {
+    blank(room, PLACES);
+    ALIKE(telbijan_scale_harmonics(&ours.scale, otonal, 8, 6), telbijan_create_harmonics_scale(otonal, 8, 6, false, 0, COLUMNS(theirs), &theirs.scale.count));
+}
+
+static void divided(bool otonal, size_t room) {
+    blank(room, PLACES);
+    ALIKE(telbijan_scale_divided_harmonics(&ours.scale, otonal, 27, 20, 12), telbijan_create_harmonics_scale(otonal, 27, 20, true, 12, COLUMNS(theirs), &theirs.scale.count));
+}
+
+static void rank2(size_t room) {
+    blank(room, PLACES);
+    ALIKE(telbijan_scale_rank2(&ours.scale, 1.5, 5, 1, 2.5), telbijan_create_rank2_temperament_scale(1.5, 5, 1, 2.5, COLUMNS(theirs), &theirs.scale.count));
+}
+
+static void generators(void) {
+    harmonics(true, 7), SAID(0, 0), SAME(seen.scale.count, 6), SAME(seen.m.numer[1], 9), SAME(seen.m.denom[1], 8);
+    harmonics(false, 7), SAID(0, 0), SAME(seen.m.numer[1], 14), SAME(seen.m.denom[1], 13);
+    harmonics(true, 6), SAID(12, 0);
+    divided(true, 13), SAID(0, 0), SAME(seen.scale.count, 12), SAME(seen.m.numer[12], 47);
+    divided(false, 13), SAID(0, 0), SAME(seen.m.denom[12], 27);
+    divided(true, 12), SAID(12, 0);
+    rank2(8), SAID(0, 0), SAME(seen.scale.count, 7), NEAR(seen.m.ratio[1], 1.215);
+    rank2(7), SAID(12, 0);
+}
+
+/* The lent bytes: the text and no more, and one byte less. */
+static void export_scale(size_t room) {
+    ALIKE(telbijan_scale_export(&ours.scale, "bright", 6, ours.out.text, room, &ours.out.written), telbijan_export_scl(BYTES("bright"), ITEMS(theirs), theirs.scale.count, OUT(theirs, room)));
+}
+
+static void export_mapping(size_t room) {
+    ALIKE(telbijan_mapping_export(&ours.mapping, ours.out.text, room, &ours.out.written), telbijan_export_kbm(KEYS(theirs), OUT(theirs, room)));
+}
+
+static void exports(void) {
+    const char *text = "bright\n4\n5/3\n150.500\n7\n1203.250\n";
+    filled(SCALE, 5, 4);
+    export_scale(strlen(text)), SAID(0, 0), SAME(seen.out.written, strlen(text)), SAME(memcmp(seen.out.text, text, strlen(text)), 0), SAME(seen.out.text[strlen(text)], 0x5a);
+    export_scale(strlen(text) - 1), SAID(12, 0);
+    text = "4\n5\n90\n61\n67\n300.500\n7\n1\nx\n3\n6\n";
+    export_mapping(strlen(text)), SAID(0, 0), SAME(seen.out.written, strlen(text)), SAME(memcmp(seen.out.text, text, strlen(text)), 0), SAME(seen.out.text[strlen(text)], 0x5a);
+    export_mapping(strlen(text) - 1), SAID(12, 0);
+}
+
+/* ---- Builders. */
+
+/* One of the four pushes. */
+static void push(int which) {
+    switch (which % 4) {
+    case 0: ALIKE(telbijan_scale_push_cents(&ours.items, 150.5), telbijan_push_cents(ITEMS(theirs), theirs.scale.room, theirs.items.count, 150.5, &theirs.items.count)); break;
+    case 1: ALIKE(telbijan_scale_push_ratio(&ours.items, 1.25), telbijan_push_ratio(ITEMS(theirs), theirs.scale.room, theirs.items.count, 1.25, &theirs.items.count)); break;
+    case 2: ALIKE(telbijan_scale_push_fraction(&ours.items, 9, 8), telbijan_push_fraction(ITEMS(theirs), theirs.scale.room, theirs.items.count, 9, 8, &theirs.items.count)); break;
+    default: ALIKE(telbijan_scale_push_int(&ours.items, 7), telbijan_push_int(ITEMS(theirs), theirs.scale.room, theirs.items.count, 7, &theirs.items.count));
     }
 }
 
-#define SAME(a, b) check((a) == (b), #a " == " #b, __LINE__)
-#define GOOD(result) check((result) == TELBIJAN_ACCEPTED, #result, __LINE__)
-#define NEAR(x, y) check(fabs((x) - (y)) < 1e-9, #x " near " #y, __LINE__)
-/* A struct's answer is the flat call's result. */
-#define ALIKE(said, result) alike((said), (result), #said, __LINE__)
-
-static void alike(telbijan_refusal said, uint64_t result, const char *what, int line) {
-    check(said.number == TELBIJAN_NUMBER(result) && said.detail == TELBIJAN_DETAIL(result), what, line);
+/* A builder in columns of `room` places, which say they hold a scale of one item. */
+static void begin_scale(size_t room) {
+    size_t places = 7;
+    blank(room, PLACES);
+    BOTH(scale.count, 1);
+    theirs.items.scale = theirs.scale, theirs.items.count = 0;
+    ALIKE(telbijan_scale_begin(&ours.items, &ours.scale), telbijan_new_scl(COLUMNS(theirs), &places));
+    SAME(places, room == 0 ? 7 : room);
 }
 
-#define PLACES 16
-
-/* The memory of a scale. */
-typedef struct memory {
-    uint8_t kind[PLACES];
-    double cents[PLACES];
-    uint32_t numer[PLACES], denom[PLACES], place[PLACES];
-    double ratio[PLACES];
-    int32_t wraps[PLACES];
-} memory;
-
-static memory ours, theirs;
-
-static telbijan_scale lend(memory *m) {
-    telbijan_scale s;
-    memset(m, 0x5a, sizeof *m);
-    s.kind = m->kind, s.cents = m->cents, s.numer = m->numer, s.denom = m->denom, s.place = m->place, s.ratio = m->ratio, s.wraps = m->wraps;
-    s.room = PLACES, s.count = 0x5a5a;
-    return s;
-}
-
-static bool same_scale(telbijan_scale s, telbijan_scale t) {
-    return s.kind == t.kind && s.cents == t.cents && s.numer == t.numer && s.denom == t.denom && s.place == t.place && s.ratio == t.ratio && s.wraps == t.wraps && s.room == t.room && s.count == t.count;
-}
-
-static bool same_mapping(telbijan_mapping m, telbijan_mapping n) {
-    return m.map == n.map && m.room == n.room && m.count == n.count && m.start == n.start && m.end == n.end && m.root.reference == n.root.reference && m.root.hz == n.root.hz && m.root.offset == n.root.offset &&
-        m.octave == n.octave;
-}
-
-static void same_memory(int line) {
-    check(memcmp(&ours, &theirs, sizeof ours) == 0, "the same memory", line);
-}
-
-static void numbers(void) {
-    int32_t z = 0;
-    uint32_t n = 0;
-    uint8_t midi = 0;
-    GOOD(telbijan_i32_div_u(-6, 5, &z)), SAME(z, -2);
-    GOOD(telbijan_i32_rem_u(-6, 5, &n)), SAME(n, 4);
-    GOOD(telbijan_i32_dr_u(-6, 5, &z, &n)), SAME(z, -2), SAME(n, 4);
-    SAME(telbijan_odd_factors_u16(24), 3);
-    GOOD(telbijan_checked_midi_number(64, &midi)), SAME(midi, 64);
-    GOOD(telbijan_num_keys_before(62, 67, &z)), SAME(z, 5);
-    GOOD(telbijan_plus_steps(62, 5, &z)), SAME(z, 67);
-}
-
-static void pitches(void) {
-    double x = 0;
-    bool small = true;
-    int32_t z = 0;
-    uint16_t numer = 0, denom = 0;
-    GOOD(telbijan_exp2(3, &x)), NEAR(x, 8);
-    GOOD(telbijan_log2(8, &x)), NEAR(x, 3);
-    GOOD(telbijan_ratio_from_float(1.5, &x)), NEAR(x, 1.5);
-    GOOD(telbijan_ratio_from_octaves(1, &x)), NEAR(x, 2);
-    GOOD(telbijan_ratio_from_semitones(12, &x)), NEAR(x, 2);
-    GOOD(telbijan_ratio_from_cents(1200, &x)), NEAR(x, 2);
-    GOOD(telbijan_ratio_between_pitches(330, 440, &x)), NEAR(x, 4.0 / 3);
-    GOOD(telbijan_ratio_stretched_by(2, 1.5, &x)), NEAR(x, 3);
-    GOOD(telbijan_ratio_deviation_from(3, 1.5, &x)), NEAR(x, 2);
-    GOOD(telbijan_ratio_repeated(2, 3, &x)), NEAR(x, 8);
-    GOOD(telbijan_ratio_divided_into_equal_steps(8, 3, &x)), NEAR(x, 2);
-    GOOD(telbijan_ratio_num_equal_steps_of_size(8, 2, &x)), NEAR(x, 3);
-    GOOD(telbijan_ratio_as_octaves(2, &x)), NEAR(x, 1);
-    GOOD(telbijan_ratio_as_semitones(2, &x)), NEAR(x, 12);
-    GOOD(telbijan_ratio_as_cents(2, &x)), NEAR(x, 1200);
-    GOOD(telbijan_ratio_inv(4, &x)), NEAR(x, 0.25);
-    GOOD(telbijan_ratio_abs(0.5, &x)), NEAR(x, 2);
-    GOOD(telbijan_pitch_from_hz(440, &x)), NEAR(x, 440);
-    GOOD(telbijan_pitch_times_ratio(220, 1.5, &x)), NEAR(x, 330);
-    GOOD(telbijan_pitch_over_ratio(330, 1.5, &x)), NEAR(x, 220);
-    GOOD(telbijan_ratio_is_negligible(1.5, &small)), SAME(small, false);
-    GOOD(telbijan_ratio_total_cmp(1.5, 2, &z)), SAME(z, -1);
-    GOOD(telbijan_ratio_nearest_fraction(0.75, 11, &numer, &denom, &x, &z)), SAME(numer, 3), SAME(denom, 2), SAME(z, -1);
-    GOOD(telbijan_item_as_ratio(TELBIJAN_FRACTION, 0, 3, 2, &x)), NEAR(x, 1.5);
-}
-
-static const char SCALE[] = "just\n3\n5/4\n9/8\n2/1\n";
-
-static void scales(void) {
-    telbijan_scale s = lend(&ours), t = lend(&theirs);
-    telbijan_span span = {0, 0};
-    size_t start = 0, end = 0, written = 0, length = 0;
-    char out[64] = {0}, text[64] = {0};
-    double x = 0, y = 0;
-    telbijan_found found = {0, 0};
-    int32_t z = 0;
-    ALIKE(telbijan_scale_read(&s, SCALE, sizeof SCALE - 1, &span), telbijan_read_scl((const uint8_t *)SCALE, sizeof SCALE - 1, TELBIJAN_COLUMNS(&t), &t.count, &start, &end));
-    SAME(s.count, 3), SAME(t.count, 3), SAME(span.start, start), SAME(span.end, end), SAME(end, 4), same_memory(__LINE__); SAME(ours.numer[1], 5), SAME(ours.denom[1], 4), SAME(ours.cents[1], 0), SAME(ours.place[1], 2), check(ours.ratio[2] > 1.2, "ratio", __LINE__);
-    ALIKE(telbijan_scale_export(&s, "just", 4, out, sizeof out, &written), telbijan_export_scl((const uint8_t *)"just", 4, TELBIJAN_ITEMS(&t), t.count, (uint8_t *)text, sizeof text, &length));
-    SAME(written, length), SAME(memcmp(out, text, sizeof out), 0);
-    ALIKE(telbijan_scale_period(&s, &x), telbijan_period(TELBIJAN_ITEMS(&t), t.count, &y)), NEAR(x, 2), SAME(x, y);
-    ALIKE(telbijan_scale_relative_pitch_of(&s, 4, &x), telbijan_relative_pitch_of(TELBIJAN_ITEMS(&t), t.count, 4, &y)), NEAR(x, 2.5), SAME(x, y);
-    ALIKE(telbijan_scale_sorted_relative_pitch_of(&s, -1, &x), telbijan_sorted_relative_pitch_of(TELBIJAN_COLUMNS(&t), t.count, -1, &y)), NEAR(x, 0.625), SAME(x, y);
-    ALIKE(telbijan_scale_find(&s, 2.3, &found), telbijan_find_by_relative_pitch(TELBIJAN_COLUMNS(&t), t.count, 2.3, &z, &y)), SAME(found.number, 5), SAME(z, 5), SAME(found.deviation, y);
-    ALIKE(telbijan_scale_find_sorted(&s, 2.3, &found), telbijan_find_by_relative_pitch_sorted(TELBIJAN_COLUMNS(&t), t.count, 2.3, &z, &y)), SAME(found.number, 4), SAME(z, 4), SAME(found.deviation, y);
-    ALIKE(telbijan_scale_harmonics(&s, true, 8, 5), telbijan_create_harmonics_scale(true, 8, 5, false, 0, TELBIJAN_COLUMNS(&t), &t.count)), SAME(s.count, 5), SAME(t.count, 5), same_memory(__LINE__);
-    ALIKE(telbijan_scale_divided_harmonics(&s, false, 27, 20, 12), telbijan_create_harmonics_scale(false, 27, 20, true, 12, TELBIJAN_COLUMNS(&t), &t.count)), SAME(s.count, 12), same_memory(__LINE__);
-    ALIKE(telbijan_scale_rank2(&s, 1.5, 5, 1, 2), telbijan_create_rank2_temperament_scale(1.5, 5, 1, 2, TELBIJAN_COLUMNS(&t), &t.count)), SAME(s.count, 7), same_memory(__LINE__);
+static void build_scale(void) {
+    theirs.built = theirs.items.scale;
+    ALIKE(telbijan_scale_build(&ours.items, &ours.built), telbijan_build_scl(COLUMNS(theirs), theirs.scale.room, theirs.items.count, &theirs.built.count));
 }
 
 static void scale_builders(void) {
-    telbijan_scale s = lend(&ours), t = lend(&theirs);
-    telbijan_scale_builder b;
-    size_t room = 0, count = 0;
-    ALIKE(telbijan_scale_begin(&b, &s), telbijan_new_scl(TELBIJAN_COLUMNS(&t), &room)), SAME(room, PLACES), SAME(b.count, 0);
-    ALIKE(telbijan_scale_push_cents(&b, 100), telbijan_push_cents(TELBIJAN_ITEMS(&t), room, count, 100, &count));
-    ALIKE(telbijan_scale_push_ratio(&b, 1.25), telbijan_push_ratio(TELBIJAN_ITEMS(&t), room, count, 1.25, &count));
-    ALIKE(telbijan_scale_push_fraction(&b, 3, 2), telbijan_push_fraction(TELBIJAN_ITEMS(&t), room, count, 3, 2, &count));
-    ALIKE(telbijan_scale_push_int(&b, 2), telbijan_push_int(TELBIJAN_ITEMS(&t), room, count, 2, &count)), SAME(count, 4), SAME(b.count, 4);
-    ALIKE(telbijan_scale_push_int(&b, 0), telbijan_push_int(TELBIJAN_ITEMS(&t), room, count, 0, &count)), SAME(count, 4), SAME(b.count, 4);
-    ALIKE(telbijan_scale_build(&b, &s), telbijan_build_scl(TELBIJAN_COLUMNS(&t), room, count, &t.count)), SAME(s.count, 4), SAME(t.count, 4), same_memory(__LINE__);
+    int last, j;
+    begin_scale(1), SAID(0, 0), SAME(seen.items.count, 0), SAME(seen.m.cents[0], 0), SAME(seen.m.kind[1], 0x5a);
+    begin_scale(0), SAID(12, 0);
+    for (last = 0; last < 4; last++) {
+        begin_scale(5);
+        for (j = 1; j <= 4; j++)
+            push(last + j), SAID(0, 0), SAME(seen.items.count, (size_t)j);
+        push(last), SAID(12, 0);
+        build_scale(), SAID(0, 0), SAME(seen.built.count, 4);
+    }
+    BOTH(items.count, 5), build_scale(), SAID(10, 0);
+    begin_scale(3), push(0), SAID(0, 0);
+    ALIKE(telbijan_scale_push_int(&ours.items, 1), telbijan_push_int(ITEMS(theirs), theirs.scale.room, theirs.items.count, 1, &theirs.items.count)), SAID(0, 0);
+    build_scale(), SAID(18, 0);
 }
 
-/* A build into another struct; refusals leave builder and struct alone. */
-static void refused_builds(void) {
-    telbijan_scale s = lend(&ours), u = lend(&theirs);
-    telbijan_scale_builder b, kept;
-    int32_t map[PLACES] = {0};
-    telbijan_mapping m = {map, PLACES, 7, 1, 99, {60, 300, 2}, 5}, built = {NULL, 3, 9, 8, 7, {6, 5, 4}, 3}, bad = m;
-    telbijan_mapping_builder k;
-    GOOD(telbijan_scale_begin(&b, &s).number), GOOD(telbijan_scale_push_int(&b, 3).number), GOOD(telbijan_scale_push_int(&b, 1).number);
-    kept = b;
-    SAME(telbijan_scale_build(&b, &u).number, TELBIJAN_BEYOND_REACH), SAME(u.count, 0x5a5a), check(u.kind == theirs.kind, "scale kept", __LINE__);
-    s.room = 0;
-    SAME(telbijan_scale_begin(&b, &s).number, TELBIJAN_NO_ROOM), SAME(b.count, kept.count), SAME(b.scale.room, PLACES);
-    GOOD(telbijan_scale_push_int(&b, 2).number), GOOD(telbijan_scale_build(&b, &u).number), SAME(u.count, 3), check(u.kind == ours.kind && u.wraps == ours.wraps, "columns", __LINE__), SAME(u.room, PLACES);
-    GOOD(telbijan_mapping_begin(&k, &m).number), GOOD(telbijan_mapping_push(&k, 4).number);
-    SAME(telbijan_mapping_build_linear(&k, &built).number, TELBIJAN_FORMAL_OCTAVE_MISSING), SAME(built.start, 8), SAME(built.count, 9);
-    bad.root.hz = 0;
-    SAME(telbijan_mapping_begin(&k, &bad).number, TELBIJAN_UNUSABLE), SAME(k.count, 1), SAME(k.mapping.root.hz, 300);
-    k.count = PLACES + 1;
-    SAME(telbijan_mapping_build(&k, 12, &built).number, TELBIJAN_UNUSABLE), SAME(built.start, 8), SAME(built.count, 9);
-    k.count = 1;
-    GOOD(telbijan_mapping_build(&k, 12, &built).number), SAME(built.start, 1), SAME(built.end, 99), SAME(built.root.reference, 60), SAME(built.root.hz, 300), SAME(built.root.offset, 2), SAME(built.octave, 12), SAME(built.count, 1), check(built.map == map, "table", __LINE__), SAME(built.room, PLACES);
-    built.start = 8, k.count = 0;
-    GOOD(telbijan_mapping_build_linear(&k, &built).number), SAME(built.start, 1), SAME(built.end, 99), SAME(built.count, 0), SAME(built.octave, 0);
+static void push_entry(bool mapped) {
+    if (mapped)
+        ALIKE(telbijan_mapping_push(&ours.entries, -9), telbijan_push_mapped_key(theirs.m.map, theirs.mapping.room, theirs.mapping.room, theirs.entries.count, -9, &theirs.entries.count));
+    else
+        ALIKE(telbijan_mapping_push_unmapped(&ours.entries), telbijan_push_unmapped_key(theirs.m.map, theirs.mapping.room, theirs.mapping.room, theirs.entries.count, &theirs.entries.count));
 }
 
-static const char MAPPING[] = "4\n0\n127\n60\n69\n440.0\n4\n0\nx\n2\n3\n";
-
-static void mappings(void) {
-    int32_t map[PLACES], table[PLACES], degree = 0, z = 0;
-    telbijan_mapping m = {map, PLACES, 0, 0, 0, {0, 0, 0}, 0}, built = m;
-    telbijan_mapping_builder b;
-    char out[128] = {0}, text[128] = {0};
-    size_t written = 0, length = 0, count = 0;
-    uint16_t size = 0;
-    int32_t start = 0, end = 0, reference = 0, offset = 0;
-    double hz = 0;
-    int16_t octave = 0, formal = 0;
-    memset(map, 0x5a, sizeof map), memset(table, 0x5a, sizeof table);
-    ALIKE(telbijan_mapping_read(&m, MAPPING, sizeof MAPPING - 1), telbijan_read_kbm((const uint8_t *)MAPPING, sizeof MAPPING - 1, table, PLACES, &size, &start, &end, &reference, &hz, &offset, &octave));
-    SAME(m.count, size), SAME(size, 4), SAME(m.start, start), SAME(m.end, end), SAME(end, 128), SAME(m.root.reference, reference), SAME(m.root.hz, hz), SAME(m.root.offset, offset), SAME(m.octave, octave);
-    SAME(memcmp(map, table, sizeof map), 0);
-    ALIKE(telbijan_mapping_degree_of(&m, 63, &degree), telbijan_scale_degree_of(table, PLACES, size, start, end, reference, hz, offset, octave, 63, &z)), SAME(degree, z);
-    ALIKE(telbijan_mapping_export(&m, out, sizeof out, &written), telbijan_export_kbm(table, PLACES, size, start, end, reference, hz, offset, octave, (uint8_t *)text, sizeof text, &length));
-    SAME(written, length), SAME(memcmp(out, text, sizeof out), 0);
-    ALIKE(telbijan_mapping_begin(&b, &m), telbijan_kbm_root(reference, hz, offset)), SAME(b.count, 0);
-    ALIKE(telbijan_mapping_push(&b, -7), telbijan_push_mapped_key(table, PLACES, PLACES, count, -7, &count));
-    ALIKE(telbijan_mapping_push_unmapped(&b), telbijan_push_unmapped_key(table, PLACES, PLACES, count, &count)), SAME(b.count, count), SAME(count, 2);
-    SAME(memcmp(map, table, sizeof map), 0);
-    ALIKE(telbijan_mapping_build(&b, 12, &built), telbijan_build_kbm(table, PLACES, PLACES, count, start, end, reference, hz, offset, true, 12, &size, &formal)), SAME(built.count, size), SAME(size, 2), SAME(built.octave, formal);
-    ALIKE(telbijan_mapping_build_linear(&b, &built), telbijan_build_kbm(table, PLACES, PLACES, count, start, end, reference, hz, offset, false, 0, &size, &formal)), SAME(built.count, 2);
-    GOOD(telbijan_mapping_begin(&b, &m).number), GOOD(telbijan_mapping_build_linear(&b, &built).number), SAME(built.count, 0), SAME(built.octave, 0);
+/* A builder of a mapping whose own count and octave do not matter. */
+static void begin_mapping(void) {
+    BOTH(mapping.count, 0x5a5a), BOTH(mapping.octave, 0x5a5a);
+    theirs.entries.mapping = theirs.mapping, theirs.entries.count = 0;
+    ALIKE(telbijan_mapping_begin(&ours.entries, &ours.mapping), telbijan_kbm_root(ROOT(theirs)));
 }
 
-static void tunings(void) {
-    telbijan_scale s = lend(&ours);
-    int32_t map[PLACES] = {0}, z = 0;
-    telbijan_mapping m = {map, PLACES, 0, 0, 0, {0, 0, 0}, 0};
-    telbijan_span span = {0, 0};
-    telbijan_found found = {0, 0};
-    double x = 0, y = 0, hz[4] = {0}, pitch[4] = {0};
-    uint32_t numbers[4] = {0}, others[4] = {0};
-    GOOD(telbijan_scale_read(&s, SCALE, sizeof SCALE - 1, &span).number), GOOD(telbijan_mapping_read(&m, MAPPING, sizeof MAPPING - 1).number);
-    ALIKE(telbijan_tuning_pitch_of(&s, m.root, 4, &x), telbijan_pitch_of(TELBIJAN_ITEMS(&s), s.count, TELBIJAN_ROOT(m.root), 4, &y)), SAME(x, y);
-    ALIKE(telbijan_tuning_pitch_of_key(&s, m.root, 60, &x), telbijan_pitch_of_key(TELBIJAN_ITEMS(&s), s.count, TELBIJAN_ROOT(m.root), 60, &y)), SAME(x, y), NEAR(x, 6.875);
-    ALIKE(telbijan_tuning_sorted_pitch_of(&s, m.root, 4, &x), telbijan_sorted_pitch_of(TELBIJAN_COLUMNS(&s), s.count, TELBIJAN_ROOT(m.root), 4, &y)), SAME(x, y);
-    ALIKE(telbijan_tuning_maybe_pitch_of(&s, &m, 60, &x), telbijan_maybe_pitch_of(TELBIJAN_ITEMS(&s), s.count, TELBIJAN_MAPPING(&m), 60, &y)), SAME(x, y);
-    ALIKE(telbijan_tuning_maybe_pitch_of_degree(&s, &m, 3, &x), telbijan_maybe_pitch_of_degree(TELBIJAN_ITEMS(&s), s.count, TELBIJAN_MAPPING(&m), 3, &y)), SAME(x, y);
-    ALIKE(telbijan_tuning_pitches_of(&s, &m, 126, 4, hz, numbers), telbijan_pitches_of(TELBIJAN_ITEMS(&s), s.count, TELBIJAN_MAPPING(&m), 126, 4, pitch, 4, others, 4));
-    SAME(memcmp(hz, pitch, sizeof hz), 0), SAME(memcmp(numbers, others, sizeof numbers), 0), SAME(numbers[2], TELBIJAN_KEY_OUT_OF_RANGE);
-    ALIKE(telbijan_tuning_find_by_pitch(&s, m.root, 490, &found), telbijan_find_by_pitch(TELBIJAN_COLUMNS(&s), s.count, TELBIJAN_ROOT(m.root), 490, &z, &y)), SAME(found.number, z), SAME(found.deviation, y);
-    ALIKE(telbijan_tuning_find_by_pitch_sorted(&s, m.root, 490, &found), telbijan_find_by_pitch_sorted(TELBIJAN_COLUMNS(&s), s.count, TELBIJAN_ROOT(m.root), 490, &z, &y)), SAME(found.number, z), SAME(found.deviation, y);
-    ALIKE(telbijan_tuning_find_key_by_pitch(&s, m.root, 440, &found), telbijan_find_key_by_pitch(TELBIJAN_COLUMNS(&s), s.count, TELBIJAN_ROOT(m.root), 440, &z, &y)), SAME(found.number, 78), SAME(z, 78), SAME(found.deviation, y);
+/* The flat call is lent what the builder has. */
+#define ENTRIES(b) (b).mapping.map, (b).mapping.room, (b).mapping.room, (b).count, (b).mapping.start, (b).mapping.end, (b).mapping.root.reference, (b).mapping.root.hz, (b).mapping.root.offset
+
+static void build_mapping(void) {
+    theirs.made = theirs.entries.mapping;
+    ALIKE(telbijan_mapping_build(&ours.entries, 11, &ours.made), telbijan_build_kbm(ENTRIES(theirs.entries), true, 11, &theirs.made.count, &theirs.made.octave));
 }
 
-static const char BROKEN[] = "2\n0\n127\n60\n69\n440.0\n2\n0\ny\n";
+static void build_linear(void) {
+    theirs.made = theirs.entries.mapping;
+    ALIKE(telbijan_mapping_build_linear(&ours.entries, &ours.made), telbijan_build_kbm(ENTRIES(theirs.entries), false, 0, &theirs.made.count, &theirs.made.octave));
+}
 
-/* A short table, a count that is no count of the columns, a pitch that is none, a key outside: refused, and nothing is touched. */
-static void wrong(void) {
-    telbijan_scale s = lend(&ours), old = s;
-    int32_t map[PLACES] = {0};
-    telbijan_mapping m = {map, PLACES, 0, 0, 128, {69, 440, -9}, 0}, kept;
-    telbijan_span span = {7, 7};
-    telbijan_refusal said;
-    double x = 7;
-    memset(&theirs, 0x5a, sizeof theirs);
-    s.room = 3, old.room = 3;
-    said = telbijan_scale_read(&s, SCALE, sizeof SCALE - 1, &span);
-    SAME(said.number, TELBIJAN_NO_ROOM), SAME(said.detail, 5), SAME(same_scale(s, old), true), SAME(span.start, 7), same_memory(__LINE__);
-    s.room = PLACES, s.count = 65535;
-    SAME(telbijan_tuning_pitch_of_key(&s, m.root, 60, &x).number, TELBIJAN_UNUSABLE), SAME(x, 7);
-    GOOD(telbijan_scale_read(&s, SCALE, sizeof SCALE - 1, &span).number);
-    m.root.hz = NAN;
-    SAME(telbijan_tuning_pitch_of_key(&s, m.root, 60, &x).number, TELBIJAN_UNUSABLE), SAME(x, 7);
-    m.root.hz = 440;
-    SAME(telbijan_tuning_maybe_pitch_of(&s, &m, 128, &x).number, TELBIJAN_KEY_OUT_OF_RANGE), SAME(x, 7);
-    kept = m;
-    said = telbijan_mapping_read(&m, BROKEN, sizeof BROKEN - 1);
-    SAME(said.number, TELBIJAN_KEYBOARD_MAPPING), SAME(said.detail, 9), SAME(same_mapping(m, kept), true), SAME(map[0], 0);
-    SAME(telbijan_refusal_of(0x908).number, 8), SAME(telbijan_refusal_of(0x908).detail, 9);
-    SAME(strcmp(telbijan_reason(said.number), "not a mapping entry"), 0), SAME(telbijan_is_accepted(said), false);
+static void mapping_builders(void) {
+    static int32_t large[65536];
+    int last, j;
+    filled(SCALE, 5, 4), begin_mapping(), SAID(0, 0), build_linear(), SAID(0, 0), SAME(seen.made.count, 0), SAME(seen.made.octave, 0), SAME(seen.made.root.hz, 300.5);
+    for (last = 0; last < 2; last++) {
+        filled(SCALE, 5, 4), begin_mapping(), SAID(0, 0);
+        for (j = 1; j <= 4; j++)
+            push_entry((last + j) % 2 == 0), SAID(0, 0), SAME(seen.entries.count, (size_t)j);
+        SAME(seen.m.map[3], last == 0 ? -9 : INT32_MIN);
+        push_entry(true), SAID(12, 0), push_entry(false), SAID(12, 0);
+        build_mapping(), SAID(0, 0), SAME(seen.made.count, 4), SAME(seen.made.octave, 11), SAME(seen.made.start, 5), SAME(seen.made.end, 91), SAME(seen.made.root.offset, -6);
+        build_linear(), SAID(15, 0);
+    }
+    BOTH(entries.count, 5), build_mapping(), SAID(10, 0), build_linear(), SAID(10, 0);
+    BOTH(entries.count, 0), BOTH(entries.mapping.root.hz, 0), build_mapping(), SAID(10, 0), build_linear(), SAID(10, 0);
+    filled(SCALE, 5, 4), BOTH(mapping.root.hz, 0), begin_mapping(), SAID(10, 0);
+    filled(SCALE, 5, 4), begin_mapping(), BOTH(entries.mapping.map, large), BOTH(entries.mapping.room, 65536), BOTH(entries.count, 65536), build_mapping(), SAID(13, 0);
+}
+
+/* ---- What looks at a scale and a mapping. Each answers `number`, or the refusal of its key. */
+
+static void scale_lookups(uint32_t number) {
+    int32_t degree;
+    ALIKE(telbijan_scale_period(&ours.scale, &ours.out.x), telbijan_period(ITEMS(theirs), theirs.scale.count, &theirs.out.x)), SAID(number, 0);
+    for (degree = -6; degree <= 6; degree++) {
+        ALIKE(telbijan_scale_relative_pitch_of(&ours.scale, degree, &ours.out.x), telbijan_relative_pitch_of(ITEMS(theirs), theirs.scale.count, degree, &theirs.out.x)), SAID(number, 0);
+        ALIKE(telbijan_scale_sorted_relative_pitch_of(&ours.scale, degree, &ours.out.x), telbijan_sorted_relative_pitch_of(COLUMNS(theirs), theirs.scale.count, degree, &theirs.out.x)), SAID(number, 0);
+        ALIKE(telbijan_tuning_pitch_of(&ours.scale, ours.mapping.root, degree, &ours.out.x), telbijan_pitch_of(ITEMS(theirs), theirs.scale.count, ROOT(theirs), degree, &theirs.out.x)), SAID(number, 0);
+        ALIKE(telbijan_tuning_sorted_pitch_of(&ours.scale, ours.mapping.root, degree, &ours.out.x), telbijan_sorted_pitch_of(COLUMNS(theirs), theirs.scale.count, ROOT(theirs), degree, &theirs.out.x)), SAID(number, 0);
+        ALIKE(telbijan_tuning_pitch_of_key(&ours.scale, ours.mapping.root, degree + 67, &ours.out.x), telbijan_pitch_of_key(ITEMS(theirs), theirs.scale.count, ROOT(theirs), degree + 67, &theirs.out.x)), SAID(number, 0);
+    }
+}
+
+static void searches_by_pitch(uint32_t number) {
+    ALIKE(telbijan_tuning_find_by_pitch(&ours.scale, ours.mapping.root, 490, &ours.out.found), telbijan_find_by_pitch(COLUMNS(theirs), theirs.scale.count, ROOT(theirs), 490, FOUND(theirs))), SAID(number, 0);
+    ALIKE(telbijan_tuning_find_by_pitch_sorted(&ours.scale, ours.mapping.root, 490, &ours.out.found), telbijan_find_by_pitch_sorted(COLUMNS(theirs), theirs.scale.count, ROOT(theirs), 490, FOUND(theirs))), SAID(number, 0);
+    ALIKE(telbijan_tuning_find_key_by_pitch(&ours.scale, ours.mapping.root, 490, &ours.out.found), telbijan_find_key_by_pitch(COLUMNS(theirs), theirs.scale.count, ROOT(theirs), 490, FOUND(theirs))), SAID(number, 0);
+}
+
+static void searches(uint32_t number) {
+    bool good = number == 0;
+    ALIKE(telbijan_scale_find(&ours.scale, 2.3, &ours.out.found), telbijan_find_by_relative_pitch(COLUMNS(theirs), theirs.scale.count, 2.3, FOUND(theirs))), SAID(number, 0), SAME(seen.out.found.number, good ? 6 : 0x5a5a5a5a);
+    ALIKE(telbijan_scale_find_sorted(&ours.scale, 2.3, &ours.out.found), telbijan_find_by_relative_pitch_sorted(COLUMNS(theirs), theirs.scale.count, 2.3, FOUND(theirs))), SAID(number, 0), SAME(seen.out.found.number, good ? 5 : 0x5a5a5a5a);
+    searches_by_pitch(number);
+}
+
+/* Every key from the one before the first to the one after the last. */
+static void keys(void) {
+    int32_t key;
+    for (key = 4; key <= 91; key++) {
+        ALIKE(telbijan_mapping_degree_of(&ours.mapping, key, &ours.out.degree), telbijan_scale_degree_of(KEYS(theirs), key, &theirs.out.degree));
+        ALIKE(telbijan_tuning_maybe_pitch_of(&ours.scale, &ours.mapping, key, &ours.out.x), telbijan_maybe_pitch_of(ITEMS(theirs), theirs.scale.count, KEYS(theirs), key, &theirs.out.x));
+        ALIKE(telbijan_tuning_maybe_pitch_of_degree(&ours.scale, &ours.mapping, key - 67, &ours.out.x), telbijan_maybe_pitch_of_degree(ITEMS(theirs), theirs.scale.count, KEYS(theirs), key - 67, &theirs.out.x));
+    }
+}
+
+static void run_of_keys(int32_t first, uint32_t number) {
+    ALIKE(telbijan_tuning_pitches_of(&ours.scale, &ours.mapping, first, 9, ours.out.hz, ours.out.numbers), telbijan_pitches_of(ITEMS(theirs), theirs.scale.count, KEYS(theirs), first, 9, theirs.out.hz, 9, theirs.out.numbers, 9));
+    SAID(number, 0);
+}
+
+/* A room one short of its count is refused by all that look at it. */
+static void lookups(const char *scale, size_t room, size_t table, uint32_t scale_number, uint32_t number) {
+    filled(scale, room, table);
+    scale_lookups(scale_number), searches(scale_number), keys(), run_of_keys(4, number), run_of_keys(83, number);
+    export_scale(ROOM_OF_TEXT), SAID(scale_number, 0);
+    export_mapping(ROOM_OF_TEXT), SAID(table < 4 ? 10u : 0u, 0);
+}
+
+/* Key 4 is outside and key 8 unmapped; key 90 is the last; the places behind the run stay. */
+static void ends_of_runs(void) {
+    filled(SCALE, 5, 4);
+    run_of_keys(4, 0), SAME(seen.out.numbers[0], 16u), SAME(seen.out.numbers[1], 0u), SAME(seen.out.numbers[4], 17u), SAME(seen.out.numbers[9], 0x5a5a5a5au), SAME(seen.out.hz[0], seen.out.hz[9]);
+    run_of_keys(83, 0), SAME(seen.out.numbers[7], 0u), SAME(seen.out.numbers[8], 16u);
+}
+
+/* A count that is no count of the columns, and a pitch that is none. */
+static void unusable(void) {
+    filled(SCALE, 5, 4), BOTH(scale.count, 65535), scale_lookups(10), searches(10), run_of_keys(4, 10), export_scale(ROOM_OF_TEXT), SAID(10, 0);
+    filled(SCALE, 5, 4), BOTH(mapping.root.hz, 0), searches_by_pitch(10), run_of_keys(4, 10), export_mapping(ROOM_OF_TEXT), SAID(10, 0);
+}
+
+/* ---- The header's own names. */
+
+static const char *const REASONS[] = {
+    "accepted", "a line is not UTF-8", "a required line is missing", "not an integer of its type", "not a cents value", "not a numerator", "not a denominator", "not a decimal", "not a mapping entry",
+    "a numeral with an exponent, a word, or over 18 digits", "a value, a state or a lent table that cannot be used", "a number leaves its type", "what was lent is too small", "over 65,535 entries",
+    "the text has another count of notes or entries than it says", "a builder with entries and no formal octave", "the key is outside the range", "the key is unmapped",
+    "beyond reach: a period of 1.0, 0 divisions, or a computed pitch or ratio outside its range", "no number of this library",
+};
+
+static const uint32_t NUMBERS[] = {
+    TELBIJAN_ACCEPTED, TELBIJAN_NOT_UTF8, TELBIJAN_LINE_MISSING, TELBIJAN_INT_VALUE, TELBIJAN_CENTS_VALUE, TELBIJAN_NUMER, TELBIJAN_DENOM, TELBIJAN_FLOAT_VALUE, TELBIJAN_KEYBOARD_MAPPING,
+    TELBIJAN_UNSUPPORTED_NUMERAL, TELBIJAN_UNUSABLE, TELBIJAN_OVERFLOW, TELBIJAN_NO_ROOM, TELBIJAN_TOO_LARGE, TELBIJAN_INCONSISTENT_COUNT, TELBIJAN_FORMAL_OCTAVE_MISSING, TELBIJAN_KEY_OUT_OF_RANGE,
+    TELBIJAN_UNMAPPED_KEY, TELBIJAN_BEYOND_REACH,
+};
+
+static void names(void) {
+    uint32_t j;
+    for (j = 0; j < 20; j++)
+        TEXT(telbijan_reason(j), REASONS[j]);
+    for (j = 0; j < 19; j++)
+        SAME(NUMBERS[j], j);
+    SAME(TELBIJAN_CENTS, 0), SAME(TELBIJAN_FRACTION, 1), SAME(TELBIJAN_WHOLE, 2), SAME(TELBIJAN_UNMAPPED, INT32_MIN);
+    SAME(TELBIJAN_KBM_ROOM(0), 73u), SAME(TELBIJAN_KBM_ROOM(65535), 73u + 7u * 65535u);
+    SAME(TELBIJAN_SCL_ROOM(0, 0), 7u), SAME(TELBIJAN_SCL_ROOM(6, 65535), 6u + 7u + 22u * 65535u);
+    SAME(TELBIJAN_NUMBER(UINT64_C(0x123456789a08)), 8u), SAME(TELBIJAN_DETAIL(UINT64_C(0x123456789a08)), UINT64_C(0x123456789a));
+    SAME(telbijan_refusal_of(UINT64_C(0x123456789a08)).number, 8u), SAME(telbijan_refusal_of(UINT64_C(0x123456789a08)).detail, UINT64_C(0x123456789a));
+    SAME(telbijan_is_accepted(telbijan_refusal_of(0)), true), SAME(telbijan_is_accepted(telbijan_refusal_of(18)), false);
 }
 
 int main(void) {
     numbers();
     pitches();
-    scales();
+    readers();
+    generators();
+    exports();
     scale_builders();
-    refused_builds();
-    mappings();
-    tunings();
-    wrong();
+    mapping_builders();
+    lookups(SCALE, 5, 4, 0, 0);
+    lookups(FRACTION, 5, 4, 0, 0);
+    lookups(SCALE, PLACES, PLACES, 0, 0);
+    lookups(SCALE, 4, 4, 10, 10);
+    lookups(SCALE, 5, 3, 0, 10);
+    ends_of_runs();
+    unusable();
+    names();
     return faults != 0;
 }

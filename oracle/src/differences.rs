@@ -161,7 +161,7 @@ fn our_fraction(x: f64, limit: u16) -> String {
     here((code, (numer, denom, octaves)))
 }
 
-fn rows() -> Vec<Row> {
+pub fn rows() -> Vec<Row> {
     [integers(), powers(), made(), of_zero(), of_two(), alike(), scales(), mappings(), tunings()].into_iter().flatten().collect()
 }
 

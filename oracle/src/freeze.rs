@@ -9,17 +9,24 @@ use std::fs;
 use std::io::{Error, Result};
 
 /// What one run of a program reads at most.
-const MOST: usize = 65_536;
+pub const MOST: usize = 65_536;
 
 /// Refusals that the rules alone number: there the Rust goes on or panics, and a line that holds one is the rules'.
 const ONLY_RULES: [&str; 4] = ["!9", "!10", "!11", "!12"];
 
-/// A list under way.
+/// A list under way: its lines, and for each whose answer it has, and which.
+#[derive(Default)]
 pub struct List {
-    lines: Vec<String>,
+    pub lines: Vec<String>,
+    pub said: Vec<(Who, Code)>,
 }
 
 impl List {
+    /// What a program reads.
+    pub fn text(&self) -> String {
+        self.lines.iter().map(|line| format!("{line}\n")).collect()
+    }
+
     /// A line: who says so, the call with its arguments, and the answer, shown where it was accepted.
     pub fn push<T>(&mut self, call: &str, said: Said<T>, shown: impl FnOnce(T) -> String) {
         self.push_with(call, said, shown, "");
@@ -27,13 +34,15 @@ impl List {
 
     /// The same, where more stands after the answer or the refusal.
     pub fn push_with<T>(&mut self, call: &str, said: Said<T>, shown: impl FnOnce(T) -> String, more: &str) {
-        let answer = match said.code {
+        let code = said.code;
+        let answer = match code {
             Code::ACCEPTED => shown(said.value),
             code => refusal(code),
         };
         let line = format!("{call} {answer} {more}");
         let whose = if line.split(' ').any(|field| ONLY_RULES.contains(&field)) { Who::Rules } else { said.who };
         self.lines.push(format!("{} {line}", who(whose)).trim_end().to_string());
+        self.said.push((whose, code));
     }
 }
 
@@ -76,9 +85,9 @@ pub fn freeze(crates: &str) -> Result<()> {
         ("replay_kbm", freeze_kbm::mappings),
         ("replay_tuning", freeze_tuning::tunings),
     ] {
-        let mut list = List { lines: Vec::new() };
+        let mut list = List::default();
         fill(&mut list);
-        let text: String = list.lines.iter().map(|l| format!("{l}\n")).collect();
+        let text = list.text();
         if text.len() > MOST {
             return Err(Error::other(format!("{name}: {} bytes are more than {MOST}", text.len())));
         }

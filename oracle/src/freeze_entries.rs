@@ -62,6 +62,13 @@ fn pushes(items: &[Item]) -> Vec<Push> {
     items.iter().map(push).collect()
 }
 
+/// The read of a text.
+pub fn read(list: &mut List, text: &[u8]) {
+    let said = said(text);
+    let after = places(&said.value.1, entries(&said, said.value.0.0));
+    list.push_with(&format!("read {}", hex(text)), said, |((count, start, end), _)| format!("{count} {start} {end}"), &after);
+}
+
 fn reads(list: &mut List) {
     // what the list has no room for, each number of a text, and what is read
     let texts: [&[u8]; 20] = [
@@ -69,9 +76,7 @@ fn reads(list: &mut List) {
         b"d\n9\n1.\n2.\n3.\n4.\n5.\n6.\n7.\n8.\n9.\n", b"d\n7\n7.\n6.\n5.\n4.\n3.\n2.\n1200.\n", b"d\n1\n1/1\n", b"d\n0\n", b"d\n5\n3/2\n3\n6\n12\n2\n", b"d\n3\n-100.\n-1300.\n1/2\n",
     ];
     for text in scl_read::FILES.iter().map(|file| file.as_bytes()).chain(texts) {
-        let said = said(text);
-        let after = places(&said.value.1, entries(&said, said.value.0.0));
-        list.push_with(&format!("read {}", hex(text)), said, |((count, start, end), _)| format!("{count} {start} {end}"), &after);
+        read(list, text);
     }
 }
 
@@ -79,8 +84,8 @@ fn reads(list: &mut List) {
 const SCALES: [&str; 6] = ["d\n4\n3/2\n1/1\n500.0\n2\n", "d\n7\n7.\n6.\n5.\n4.\n3.\n2.\n1200.\n", "d\n0\n", "d\n1\n2/1\n", "d\n1\n1/1\n", "d\n5\n3/2\n3\n6\n12\n2\n"];
 
 /// The build of a state over the items read. The state must fit the list too (10), and be below its room.
-fn build(list: &mut List, text: &str, room: usize, count: usize) {
-    let mut columns = said(text.as_bytes()).value.1;
+pub fn build(list: &mut List, text: &[u8], room: usize, count: usize) {
+    let mut columns = said(text).value.1;
     columns.put_list(&[old(); PLACES]);
     let fits = room <= LIST && count < room;
     let items = u16::try_from(count).ok().filter(|_| fits).and_then(|count| rules::items_in(&columns, count));
@@ -89,16 +94,16 @@ fn build(list: &mut List, text: &str, room: usize, count: usize) {
         Some(items) => scl_build::built(&columns, &pushes(&items[1..])),
     };
     let after = places(&said.value.1, entries(&said, count as u16));
-    list.push_with(&format!("build {} {room} {count}", hex(text.as_bytes())), said, |(count, _)| count.to_string(), &after);
+    list.push_with(&format!("build {} {room} {count}", hex(text)), said, |(count, _)| count.to_string(), &after);
 }
 
 fn builds(list: &mut List) {
     for (scale, room, count) in [(0, 5, 4), (0, 8, 4), (0, 8, 3), (0, 4, 3), (0, 8, 1), (0, 2, 0), (1, 8, 7), (1, 8, 6), (2, 1, 0), (3, 2, 1), (4, 2, 1), (5, 8, 5), (5, 6, 3)] {
-        build(list, SCALES[scale], room, count);
+        build(list, SCALES[scale].as_bytes(), room, count);
     }
     // a period of 1.0; a state that the columns have room for and the list has not; one that is full; an item that is none
     for (scale, room, count) in [(0, 8, 2), (0, 9, 4), (0, 10, 4), (0, 4, 4), (0, 0, 0), (0, 8, 5), (0, 11, 4), (1, 9, 7), (2, 8, 1)] {
-        build(list, SCALES[scale], room, count);
+        build(list, SCALES[scale].as_bytes(), room, count);
     }
 }
 
@@ -115,8 +120,8 @@ fn ruled(found: rules::Answer<rules::Found>, count: u16, sorted: bool) -> Said<F
 }
 
 /// A search in the list that a read left, of so many items.
-fn find(list: &mut List, text: &str, count: u16, sorted: bool, x: f64) {
-    let read = said(text.as_bytes());
+pub fn find(list: &mut List, text: &[u8], count: u16, sorted: bool, x: f64) {
+    let read = said(text);
     let columns = &read.value.1;
     let mut lent = columns.clone();
     let left = structs(columns, entries(&read, read.value.0.0));
@@ -129,7 +134,7 @@ fn find(list: &mut List, text: &str, count: u16, sorted: bool, x: f64) {
         (Some(items), Some(entries)) if rules::is_searched(x) => ruled(rules::search(&items, &entries, x), count, sorted),
         _ => Said::refused(Who::Rules, 10, 0, OLD_FOUND),
     };
-    list.push(&format!("find {} {count} {} {}", hex(text.as_bytes()), u32::from(sorted), float(x)), said, |(degree, deviation)| format!("{degree} {}", written(deviation)));
+    list.push(&format!("find {} {count} {} {}", hex(text), u32::from(sorted), float(x)), said, |(degree, deviation)| format!("{degree} {}", written(deviation)));
 }
 
 fn finds(list: &mut List) {
@@ -137,20 +142,20 @@ fn finds(list: &mut List) {
     for (k, scale) in SCALES.iter().enumerate() {
         let count = [4, 7, 0, 1, 1, 5][k];
         for (t, &x) in targets.iter().enumerate() {
-            find(list, scale, count, (k + t) % 2 == 0, x);
+            find(list, scale.as_bytes(), count, (k + t) % 2 == 0, x);
         }
     }
     // ratios of entries, and between two of them by the tolerance's middle
     for x in [4.0 / 3.0, 1.334_839_854_170_034, 1.224_744_871_391_589, 1.224_745_5, 1.224_744_2, 2.0f64.sqrt(), 1.5f64.next_down(), 1.5f64.next_up()] {
-        find(list, SCALES[0], 4, false, x);
-        find(list, SCALES[0], 4, true, x);
+        find(list, SCALES[0].as_bytes(), 4, false, x);
+        find(list, SCALES[0].as_bytes(), 4, true, x);
     }
     // counts that are not the list's: an item that is none, a part of a list, a place beyond the count, a list that is too short, a text that was
     // not read
     for (scale, count) in [(0, 5), (0, 3), (0, 2), (0, 1), (1, 6), (1, 8), (1, 9), (1, u16::MAX), (2, 1), (3, 0)] {
-        find(list, SCALES[scale], count, false, 1.5);
+        find(list, SCALES[scale].as_bytes(), count, false, 1.5);
     }
-    find(list, "d\n1\nx\n", 0, false, 1.5);
+    find(list, b"d\n1\nx\n", 0, false, 1.5);
 }
 
 pub fn entry_lists(list: &mut List) {

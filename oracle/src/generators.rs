@@ -3,7 +3,7 @@
 use crate::ffi::OLD_U16;
 use crate::ffi_generators::{self as ffi, Segment, Temperament};
 use crate::ffi_scl::{Columns, Item};
-use crate::inputs::{Random, f64_limits};
+use crate::inputs::{Random, drawn, f64_limits, fixed};
 use crate::tally::{Code, Report, Said, Tally, Who};
 use crate::tuning::asked;
 use crate::{rules_scl, rust_scl};
@@ -56,7 +56,7 @@ fn one_segment(tally: &mut Tally, s: Segment, lengths: [usize; 7]) {
 fn segments(tally: &mut Tally) {
     let mut random = Random::new(54);
     for otonal in [true, false] {
-        for start in 0..=20 {
+        for start in fixed(0..=20) {
             for size in 0..=20 {
                 for divisions in (0..=24).map(Some).chain([None]) {
                     let s = Segment { otonal, start, size, divisions };
@@ -73,13 +73,15 @@ fn segments(tally: &mut Tally) {
                 }
             }
         }
-        for _ in 0..2_000 {
+        for _ in drawn(2_000) {
             let (start, size, into) = (random.u32() as u16, random.u32() as u16, random.next() as u16 % 60);
             let divisions = (random.next() % 4 != 0).then_some(into);
             let s = Segment { otonal, start, size: if divisions.is_none() { size % 400 } else { size }, divisions };
-            one_segment(tally, s, [usize::from(divisions.unwrap_or(s.size)) + 1; 7]);
+            let mut lengths = [usize::from(divisions.unwrap_or(s.size)) + 1; 7];
+            lengths[random.next() as usize % 7] -= usize::from(random.next() % 8 == 0);
+            one_segment(tally, s, lengths);
         }
-        for (start, size, divisions) in [(65_535, 65_535, None), (1, 65_535, None), (65_535, 65_535, Some(65_535)), (1, 65_535, Some(65_535)), (65_535, 0, Some(1)), (1, 0, Some(2)), (1, 0, None)] {
+        for (start, size, divisions) in fixed([(65_535, 65_535, None), (1, 65_535, None), (65_535, 65_535, Some(65_535)), (1, 65_535, Some(65_535)), (65_535, 0, Some(1)), (1, 0, Some(2)), (1, 0, None)]) {
             one_segment(tally, Segment { otonal, start, size, divisions }, [65_536; 7]);
         }
     }
@@ -116,7 +118,7 @@ fn one_temperament(tally: &mut Tally, t: Temperament, lengths: [usize; 7]) {
 fn temperaments(tally: &mut Tally) {
     let mut random = Random::new(56);
     let usual = [1.5, 4.0 / 3.0, 1.25, 0.5, 2.0, 3.0, 1.0, 1.0000001, 0.9999999, 1.4953487812212205, 2f64.powi(32), 2f64.powi(-32), 1.0000000000000002];
-    for generator in usual {
+    for generator in fixed(usual) {
         for period in usual {
             for (positive, negative) in [(0, 0), (1, 0), (0, 1), (5, 1), (3, 3), (11, 0), (0, 7)] {
                 let count = usize::from(positive + negative + 1);
@@ -129,17 +131,19 @@ fn temperaments(tally: &mut Tally) {
             }
         }
     }
-    for k in 0..6_000 {
+    for k in drawn(6_000) {
         let (generator, period) = if k % 2 == 0 { (random.ratio(31), random.ratio(31)) } else { (1.0 + random.unit(), [2.0, 3.0, 0.5, 1.5][k % 4]) };
         let (positive, negative) = (random.next() as u16 % 20, random.next() as u16 % 20);
-        one_temperament(tally, Temperament { generator, positive, negative, period }, [usize::from(positive + negative) + 2; 7]);
+        let mut lengths = [usize::from(positive + negative) + 2; 7];
+        lengths[random.next() as usize % 7] -= usize::from(random.next() % 8 == 0);
+        one_temperament(tally, Temperament { generator, positive, negative, period }, lengths);
     }
     for x in f64_limits() {
         one_temperament(tally, Temperament { generator: x, positive: 2, negative: 1, period: 2.0 }, [5; 7]);
         one_temperament(tally, Temperament { generator: 1.5, positive: 2, negative: 1, period: x }, [5; 7]);
     }
     // 13 comes before 10, 10 before 12; as many items as a scale can have
-    for (positive, negative, generator, room) in [(65_535, 0, 1.5, 65_600), (32_768, 32_767, 0.0, 0), (65_535, 65_535, 1.5, 0), (65_534, 0, 0.0, 0), (65_534, 0, 1.5, 65_535), (65_534, 0, 1.5, 65_536), (30_000, 35_534, 1.25, 65_536)] {
+    for (positive, negative, generator, room) in fixed([(65_535, 0, 1.5, 65_600), (32_768, 32_767, 0.0, 0), (65_535, 65_535, 1.5, 0), (65_534, 0, 0.0, 0), (65_534, 0, 1.5, 65_535), (65_534, 0, 1.5, 65_536), (30_000, 35_534, 1.25, 65_536)]) {
         one_temperament(tally, Temperament { generator, positive, negative, period: 2.0 }, [room; 7]);
     }
     // a period below 1 is sorted among the notes, so that the scale's period is its highest note

@@ -1,11 +1,56 @@
-//! Inputs: every limit with its neighbours, and a repeatable stream of random numbers.
+//! Inputs: every limit with its neighbours, and repeatable streams of random numbers. Which of them are drawn is said by the round.
+
+use std::cell::Cell;
+use std::ops::Range;
+
+/// A round of the comparison: what its random inputs hang on, how many times as many random tables and texts there are, and whether the fixed
+/// inputs, which are the same in every round, are among them.
+#[derive(Clone, Copy, Debug)]
+pub struct Round {
+    pub seed: u64,
+    pub times: usize,
+    pub fixed: bool,
+}
+
+/// The round of `tools/compare`.
+pub const PLAIN: Round = Round { seed: 0, times: 1, fixed: true };
+
+thread_local! {
+    static ROUND: Cell<Round> = const { Cell::new(PLAIN) };
+}
+
+/// From now on this thread's inputs are those of this round.
+pub fn begin(round: Round) {
+    ROUND.with(|cell| cell.set(round));
+}
+
+pub fn round() -> Round {
+    ROUND.with(Cell::get)
+}
+
+/// Whether the fixed inputs are tried.
+pub fn with_fixed() -> bool {
+    round().fixed
+}
+
+/// So many random tables or texts, or as many times that as the round has, counted from 0.
+pub fn drawn(count: usize) -> Range<usize> {
+    0..count * round().times
+}
+
+/// Fixed inputs, or none where the round has none.
+pub fn fixed<T>(inputs: impl IntoIterator<Item = T>) -> impl Iterator<Item = T> {
+    inputs.into_iter().take(if with_fixed() { usize::MAX } else { 0 })
+}
 
 /// SplitMix64.
 pub struct Random(u64);
 
 impl Random {
-    pub fn new(seed: u64) -> Random {
-        Random(seed)
+    /// A stream of the round: in the plain round the stream's number is the generator's seed.
+    pub fn new(stream: u64) -> Random {
+        let seed = round().seed;
+        Random(if seed == 0 { stream } else { Random(seed).next().wrapping_add(stream) })
     }
 
     pub fn next(&mut self) -> u64 {
@@ -28,8 +73,11 @@ impl Random {
     }
 }
 
-/// The limits of the integer types in use, and the numbers within three of them.
+/// The limits of the integer types in use, and the numbers within three of them: fixed inputs.
 pub fn i32_limits() -> Vec<i32> {
+    if !with_fixed() {
+        return Vec::new();
+    }
     let mut found = Vec::new();
     for limit in [0i64, 127, 255, 32_767, 65_535, 65_536, 1 << 24, i32::MAX as i64] {
         for near in -3i64..=3 {
@@ -44,6 +92,9 @@ pub fn i32_limits() -> Vec<i32> {
 }
 
 pub fn u32_limits() -> Vec<u32> {
+    if !with_fixed() {
+        return Vec::new();
+    }
     let mut found = Vec::new();
     for limit in [0i64, 127, 255, 32_767, 65_535, 1 << 24, i32::MAX as i64, u32::MAX as i64] {
         for near in -3i64..=3 {
@@ -56,8 +107,11 @@ pub fn u32_limits() -> Vec<u32> {
 }
 
 /// Floats that a step could get wrong: zeros, ones, the ends of every range with their neighbours, the smallest and the largest,
-/// halves, whole numbers up to 2^64, infinities and NaN, each with both signs.
+/// halves, whole numbers up to 2^64, infinities and NaN, each with both signs: fixed inputs.
 pub fn f64_limits() -> Vec<f64> {
+    if !with_fixed() {
+        return Vec::new();
+    }
     let mut found = vec![f64::NAN];
     let mut sizes = vec![
         0.0,

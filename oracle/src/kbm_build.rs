@@ -1,7 +1,7 @@
 //! The builder: every push beside a push of the Rust's own, the whole table compared after each, and what both build.
 
 use crate::ffi_kbm::{self, Mapping};
-use crate::inputs::Random;
+use crate::inputs::{Random, drawn, fixed};
 use crate::kbm_read::PATTERN;
 use crate::kbm_use::SAMPLE;
 use crate::lent::Float;
@@ -62,7 +62,7 @@ pub fn build(run: &Run) -> Said<(u16, i16)> {
 
 fn pushes(tally: &mut Tally) {
     let mut random = Random::new(21);
-    for k in 0..20_000 {
+    for k in drawn(20_000) {
         let run = random_run(&mut random, k % 9);
         let mut map = vec![PATTERN; run.room];
         for (k, &degree) in run.pushes.iter().enumerate() {
@@ -80,7 +80,7 @@ fn pushes(tally: &mut Tally) {
 
 fn builds(tally: &mut Tally) {
     let mut random = Random::new(22);
-    for k in 0..20_000 {
+    for k in drawn(20_000) {
         let run = random_run(&mut random, k % 9);
         let taken = run.pushes.len().min(run.room);
         let map = table(&run, taken);
@@ -88,7 +88,7 @@ fn builds(tally: &mut Tally) {
     }
     // over 65,535 entries, beside the Rust
     let large = vec![0; 65_537];
-    for (count, octave) in [(65_535, Some(7)), (65_536, None), (65_536, Some(1)), (65_537, Some(1))] {
+    for (count, octave) in fixed([(65_535, Some(7)), (65_536, None), (65_536, Some(1)), (65_537, Some(1))]) {
         let run = Run { room: large.len(), mapping: SAMPLE, octave, pushes: vec![Some(0); count] };
         tally.same((count, octave), ffi_kbm::build_kbm(&large, large.len(), count, SAMPLE, octave), build(&run));
     }
@@ -112,7 +112,7 @@ pub fn compare(all: &mut Report) {
     all.function("KbmRoot", &[10], |tally| {
         let ends = [2f64.powi(20), 2f64.powi(-10)].into_iter().flat_map(|end| [end.next_down(), end, end.next_up()]);
         let mut random = Random::new(23);
-        for hz in ends.chain([440.0, 0.0, -0.0, f64::NAN, -440.0, f64::INFINITY]).chain((0..1000).map(|_| random.ratio(24))) {
+        for hz in ends.chain([440.0, 0.0, -0.0, f64::NAN, -440.0, f64::INFINITY]).chain(drawn(1000).map(|_| random.ratio(24))) {
             tally.same(hz, (ffi_kbm::kbm_root(60, hz, 2), ()), root(60, hz, 2));
         }
     });

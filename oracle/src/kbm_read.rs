@@ -1,7 +1,7 @@
 //! Mapping files: ours beside the rules, the whole table compared, and the rules beside the Rust in its domain.
 
 use crate::ffi_kbm::{self, Mapping, OLD_MAPPING};
-use crate::inputs::Random;
+use crate::inputs::{Random, drawn, fixed};
 use crate::tally::{Code, Report, Said, Tally, Who};
 use crate::{rules, rust_kbm};
 
@@ -66,7 +66,7 @@ pub fn texts() -> Vec<Vec<u8>> {
         "", "!", "x", "X", "-0", "+7", "007", "65535", "65536", "-1", "32767", "32768", "-32768", "-32769", "2147483646", "2147483647", "2147483648", "-2147483648", "-2147483649", "440", "440.",
         ".5", ".", "1e3", "inf", "nan", "-1.0", "0.0", "0.0009765625", "0.0009765624", "1048576", "1048576.0001", "1234567890123456789", "5x", "5!", "x5", "xx", "\u{a0}5", "5\u{b}6", "5\u{c}6", "\u{feff}5", "5\u{a0}6",
     ];
-    for file in [FILES[0], FILES[3]] {
+    for file in fixed([FILES[0], FILES[3]]) {
         let lines: Vec<&str> = file.lines().collect();
         for k in 0..lines.len() {
             for token in tokens {
@@ -88,7 +88,7 @@ pub fn texts() -> Vec<Vec<u8>> {
     }
     // damaged copies
     let mut random = Random::new(18);
-    for _ in 0..60_000 {
+    for _ in drawn(60_000) {
         let mut text = FILES[random.next() as usize % FILES.len()].as_bytes().to_vec();
         for _ in 0..1 + random.next() % 3 {
             if text.is_empty() {
@@ -107,6 +107,42 @@ pub fn texts() -> Vec<Vec<u8>> {
     found
 }
 
+/// A token where an integer should be: usual, at the limits of 16 and 32 bits, or none.
+fn random_integer(random: &mut Random) -> String {
+    let limits = [0i64, 32_767, -32_768, 65_535, 2_147_483_646, -2_147_483_648];
+    match random.next() % 16 {
+        0 => (limits[random.next() as usize % 6] + random.next() as i64 % 3 - 1).to_string(),
+        1 => format!("{}{}", ["+", "-", "0", "x", ".", "-0"][random.next() as usize % 6], random.next() % 200),
+        _ => (random.next() % 128).to_string(),
+    }
+}
+
+/// A token where a pitch should be, with any number of decimals.
+fn random_pitch(random: &mut Random) -> String {
+    match random.next() % 8 {
+        0 => random_integer(random),
+        1 => format!("{:.*}", random.next() as usize % 22, random.ratio(22)),
+        2 => ["0.0009765625", "0.00097656249", "1048576", "1048576.0000001", "4e2", "inf", "-1.0", "NaN"][random.next() as usize % 8].to_string(),
+        _ => format!("{:.*}", random.next() as usize % 6, random.unit() * 1000.0),
+    }
+}
+
+/// A text of at most so many entries: mostly a whole mapping, else with another size, text behind a token, comments, or fewer lines.
+fn random_text(random: &mut Random, most: u64) -> Vec<u8> {
+    let entries = random.next() % (most + 1);
+    let size = if random.next() % 4 == 0 { random.next() % 20 } else { entries };
+    let mut lines = vec![size.to_string()];
+    lines.extend((0..4).map(|_| random_integer(random)));
+    lines.extend([random_pitch(random), random_integer(random)]);
+    lines.extend((0..entries).map(|_| if random.next() % 4 == 0 { ["x", "X", "x ", "xx"][random.next() as usize % 4].to_string() } else { random_integer(random) }));
+    if random.next() % 16 == 0 {
+        lines.truncate(random.next() as usize % 8);
+    }
+    let end = ["\n", "\r\n"][usize::from(random.next() % 8 == 0)];
+    let behind = ["", "", "", " Hz", "\t! c", "\n! c", "\n", "\u{a0}"];
+    lines.iter().map(|line| format!("{line}{}{end}", behind[random.next() as usize % 8])).collect::<String>().into_bytes()
+}
+
 /// A mapping file of so many entries that says a size.
 pub fn long(entries: usize, size: usize) -> Vec<u8> {
     let mut text = format!("{size}\n0\n127\n60\n60\n440.0\n12\n");
@@ -118,12 +154,13 @@ pub fn long(entries: usize, size: usize) -> Vec<u8> {
 
 pub fn compare(all: &mut Report) {
     all.function("Kbm::import", &[1, 2, 3, 7, 8, 9, 10, 11, 12, 13, 14], |tally| {
-        for text in texts() {
+        let mut random = Random::new(31);
+        for text in texts().into_iter().chain(drawn(20_000).map(|_| random_text(&mut random, 12))) {
             for room in [0, 1, 2, 3, 8, 12] {
                 one_read(tally, &text, room);
             }
         }
-        for (entries, size) in [(0, 0), (1, 1), (0, 1), (8_192, 8_192), (8_191, 8_192), (8_193, 8_192), (65_535, 65_535), (65_536, 65_535), (65_537, 65_535), (0, 65_535)] {
+        for (entries, size) in fixed([(0, 0), (1, 1), (0, 1), (8_192, 8_192), (8_191, 8_192), (8_193, 8_192), (65_535, 65_535), (65_536, 65_535), (65_537, 65_535), (0, 65_535)]) {
             let text = long(entries, size);
             for room in [entries.max(size), entries.max(size) + 2, entries.max(size).saturating_sub(1), 0] {
                 one_read(tally, &text, room);

@@ -2,7 +2,7 @@
 
 use crate::ffi;
 use crate::ffi_kbm::{self, Mapping};
-use crate::inputs::Random;
+use crate::inputs::{Random, drawn};
 use crate::lent::Float;
 use crate::rules::{self, UNMAPPED};
 use crate::rust_kbm;
@@ -35,7 +35,7 @@ fn degrees(all: &mut Report) {
     all.function("scale_degree_of", &[10, 11, 16, 17], |tally| {
         let mut random = Random::new(19);
         let one = |tally: &mut Tally, m: Mapping, entries: &[i32], key: i32| tally.same((m, entries.len(), key), ffi_kbm::scale_degree_of(m, entries, key), degree(m, entries, key));
-        for _ in 0..20_000 {
+        for _ in drawn(20_000) {
             let count = [0, 1, 2, 3, 7, 12, 31][random.next() as usize % 7];
             let (m, entries) = rust_kbm::random(&mut random, count);
             for _ in 0..4 {
@@ -99,7 +99,7 @@ fn exports(all: &mut Report) {
             let (code, written) = ffi_kbm::export_kbm(m, map, &mut out);
             tally.same((m, room), (code, (written, out)), export(m, map, room));
         };
-        for k in 0..20_000 {
+        for k in drawn(20_000) {
             let (mut m, entries) = rust_kbm::random(&mut random, if k % 500 == 0 { 3000 } else { k % 40 });
             if k % 3 == 0 {
                 m.hz = Float::of([261.6256, 440.0, 0.0625 * 16.0, 1.0625, 1.1875, 2f64.powi(20), 2f64.powi(-10)][k % 7]);

@@ -1,7 +1,7 @@
 //! key.rs: every limit with every limit, and random pairs. The Rust panics where a sum leaves 32 bits, which is 11 here.
 
 use crate::ffi;
-use crate::inputs::{Random, i32_limits};
+use crate::inputs::{Random, fixed, i32_limits};
 use crate::tally::{Report, Said, Who, caught};
 use tune::key::PianoKey;
 
@@ -36,7 +36,7 @@ pub fn plus(number: i32, steps: i32) -> Said<i32> {
 pub fn compare(all: &mut Report) {
     all.function("checked_midi_number", &[16], |tally| {
         let mut random = Random::new(3);
-        let numbers = (-70_000..=70_000).chain(i32_limits()).chain((0..100_000).map(|_| random.i32()));
+        let numbers = fixed(-70_000..=70_000).chain(i32_limits()).chain((0..100_000).map(|_| random.i32()));
         for number in numbers {
             tally.same(number, ffi::checked_midi_number(number), checked(number));
         }

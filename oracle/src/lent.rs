@@ -21,6 +21,11 @@ thread_local! {
     static TURN: Cell<usize> = const { Cell::new(0) };
 }
 
+/// The next call finds the first pattern, as in a thread of its own.
+pub fn begin() {
+    TURN.with(|turn| turn.set(0));
+}
+
 /// So many patterns for a lent column of floats, the first of them another one each time.
 pub fn column(length: usize) -> Vec<u64> {
     let from = TURN.with(|turn| {

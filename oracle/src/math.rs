@@ -1,7 +1,7 @@
 //! math.rs: the divisions at every limit, every u16 denominator and random pairs; the odd part of every u16.
 
 use crate::ffi;
-use crate::inputs::{Random, i32_limits, u32_limits};
+use crate::inputs::{Random, fixed, i32_limits, u32_limits};
 use crate::tally::{Report, Said, Who, caught};
 use tune::math;
 
@@ -9,7 +9,7 @@ const RANDOM_PAIRS: usize = 2_000_000;
 
 pub fn pairs() -> impl Iterator<Item = (i32, u32)> {
     let limits = i32_limits().into_iter().flat_map(|numer| u32_limits().into_iter().map(move |denom| (numer, denom)));
-    let denoms = (0..=65_535u32).flat_map(|denom| [i32::MIN, -7, -1, 5, i32::MAX].map(|numer| (numer, denom)));
+    let denoms = fixed(0..=65_535u32).flat_map(|denom| [i32::MIN, -7, -1, 5, i32::MAX].map(|numer| (numer, denom)));
     let mut random = Random::new(1);
     limits.chain(denoms).chain((0..RANDOM_PAIRS).map(move |_| (random.i32(), random.u32())))
 }
@@ -47,7 +47,7 @@ pub fn compare(all: &mut Report) {
         }
     });
     all.function("odd_factors_u16", &[], |tally| {
-        for number in 0..=u16::MAX {
+        for number in fixed(0..=u16::MAX) {
             tally.same(number, ffi::odd_factors_u16(number), Said::gives(Who::Rust, math::odd_factors_u16(number)));
         }
     });

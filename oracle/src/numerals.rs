@@ -1,6 +1,6 @@
 //! Numerals beside `str::parse` and `format!`: short texts exhaustively over telling alphabets, limits, halfway decimals, random ones.
 
-use crate::inputs::{Random, f64_limits, i32_limits, u32_limits};
+use crate::inputs::{Random, f64_limits, fixed, i32_limits, u32_limits};
 use crate::lent::Float;
 use crate::probe;
 use crate::tally::{Code, Report, Said, Tally, Who};
@@ -14,7 +14,7 @@ fn alphabet(letters: &str) -> Vec<&[u8]> {
 fn integer_texts() -> Vec<Vec<u8>> {
     let letters = alphabet("+-0129:/ ");
     let mut found: Vec<Vec<u8>> = (0..=5).flat_map(|count| rows(&letters, count)).collect();
-    for limit in [0i64, 127, 255, 32_767, 32_768, 65_535, 2_147_483_647, 2_147_483_648, 4_294_967_295, 1 << 40, i64::MAX - 5] {
+    for limit in fixed([0i64, 127, 255, 32_767, 32_768, 65_535, 2_147_483_647, 2_147_483_648, 4_294_967_295, 1 << 40, i64::MAX - 5]) {
         for near in -3..=3 {
             for z in [limit + near, -limit + near] {
                 for prefix in ["", "+", "000", "+0000000000000000000000000", "-", "--"] {
@@ -76,7 +76,7 @@ fn decimal_texts() -> Vec<Vec<u8>> {
     let numbers = alphabet("+-.015e");
     let words = alphabet("+-.0eEinfatyNAI");
     let mut found: Vec<Vec<u8>> = (0..=6).flat_map(|count| rows(&numbers, count)).chain((0..=4).flat_map(|count| rows(&words, count))).collect();
-    for word in ["inf", "infinity", "nan", "INFINITY", "iNfInItY", "NaN", "infinit", "infinityy", "nann", "in", "1e", "1e+", ".e5", "1.e5", "nan.", "38400.0000000000001"] {
+    for word in fixed(["inf", "infinity", "nan", "INFINITY", "iNfInItY", "NaN", "infinit", "infinityy", "nann", "in", "1e", "1e+", ".e5", "1.e5", "nan.", "38400.0000000000001"]) {
         for prefix in ["", "+", "-", "++", " "] {
             found.push(format!("{prefix}{word}").into_bytes());
         }
@@ -112,7 +112,7 @@ fn printed() -> Vec<f64> {
     let mut random = Random::new(15);
     let most = 2f64.powi(53);
     let mut found: Vec<f64> = f64_limits().into_iter().filter(|x| x.abs() <= most).collect();
-    for k in 0..4000 {
+    for k in fixed(0..4000) {
         let ties = k as f64 / 32.0 + 1.0 / 64.0;
         found.extend([ties, -ties, k as f64 / 16.0, -(k as f64) / 8.0]);
     }

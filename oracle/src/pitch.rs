@@ -2,7 +2,7 @@
 //! and so is what E or L refuses; the Rust goes on there, which is outside its domain.
 
 use crate::ffi;
-use crate::inputs::{Random, f64_limits};
+use crate::inputs::{Random, f64_limits, fixed};
 use crate::lent::Float;
 use crate::tally::{Report, Said, Who};
 use tune::pitch::{Pitch, Ratio};
@@ -105,7 +105,7 @@ pub fn nearest(x: f64, limit: u16) -> Said<ffi::Nearest> {
 /// Ratios for the nearest fraction: those with turns of their own, every small fraction with its neighbours, and random ones.
 pub fn approached() -> impl Iterator<Item = f64> {
     let named = [1.25, 2f64.powi(63).next_down(), 1f64.next_down(), 1.000000001, 1.5, 0.75, 3.0];
-    let fractions = (1..40).flat_map(|n| (1..40).map(move |d| n as f64 / d as f64)).flat_map(|x| [x.next_down(), x, x.next_up()]);
+    let fractions = fixed(1..40).flat_map(|n| (1..40).map(move |d| n as f64 / d as f64)).flat_map(|x| [x.next_down(), x, x.next_up()]);
     let mut random = Random::new(10);
     named.into_iter().chain(f64_limits()).chain(fractions).chain((0..30_000).map(move |k| if k % 3 == 0 { random.ratio(66) } else { random.ratio(2) }))
 }

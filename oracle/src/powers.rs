@@ -4,7 +4,7 @@
 //! random numbers, the inputs have every few bits at every place with what makes their borders: zeros or ones below them, and neighbours.
 
 use crate::ffi;
-use crate::inputs::{Random, f64_limits};
+use crate::inputs::{Random, f64_limits, fixed, with_fixed};
 use crate::lent::Float;
 use crate::tally::{Code, Report, Said, Who};
 use std::hint::black_box;
@@ -15,7 +15,7 @@ const RANDOM: usize = 1_000_000;
 
 pub fn exponents() -> impl Iterator<Item = f64> {
     let mut random = Random::new(6);
-    let eighths = (-7300..=7300).map(|k| k as f64 / 8.0);
+    let eighths = fixed(-7300..=7300).map(|k| k as f64 / 8.0);
     f64_limits().into_iter().chain(eighths).chain((0..RANDOM).map(move |k| match k % 4 {
         0 => (random.unit() - 0.5) * 1900.0,
         1 => (random.unit() - 0.5) * 2.0,
@@ -26,7 +26,7 @@ pub fn exponents() -> impl Iterator<Item = f64> {
 
 pub fn values() -> impl Iterator<Item = f64> {
     let mut random = Random::new(7);
-    let powers = (-910..=910).flat_map(|k| {
+    let powers = fixed(-910..=910).flat_map(|k| {
         let power = 2f64.powi(k);
         [power.next_down(), power, power.next_up()]
     });
@@ -62,7 +62,7 @@ fn border_exponents(near: i64) -> impl Iterator<Item = f64> {
 fn border_values(near: i64) -> impl Iterator<Item = f64> {
     let digits = fractions(near).map(|f| f64::from_bits(0x3ff << 52 | f));
     let logarithms = fractions(0).filter_map(|f| powers::e(f as f64 * 2f64.powi(-52))).flat_map(move |x| (-near..=near).map(move |d| f64::from_bits(x.to_bits().wrapping_add_signed(d))));
-    let ones = (-2048 * near..=2048 * near).map(|d| f64::from_bits(1f64.to_bits().wrapping_add_signed(d)));
+    let ones = fixed(-2048 * near..=2048 * near).map(|d| f64::from_bits(1f64.to_bits().wrapping_add_signed(d)));
     digits.chain(logarithms).chain(ones)
 }
 
@@ -80,14 +80,14 @@ pub fn compare(all: &mut Report) {
             tally.same(x, ffi::one(ffi::telbijan_exp2, x), said(powers::e(x)));
         }
         let inputs: Vec<f64> = exponents().filter(|x| x.abs() < 10.0).take(20_000).collect();
-        tally.require(is_quick(&inputs, ffi::telbijan_exp2, powers::e), "the tables of E seldom decide");
+        tally.require(!with_fixed() || is_quick(&inputs, ffi::telbijan_exp2, powers::e), "the tables of E seldom decide");
     });
     all.function("log2", &[18], |tally| {
         for x in values().chain(border_values(1)) {
             tally.same(x, ffi::one(ffi::telbijan_log2, x), said(powers::l(x)));
         }
         let inputs: Vec<f64> = values().filter(|x| (0.01..100.0).contains(x)).take(20_000).collect();
-        tally.require(is_quick(&inputs, ffi::telbijan_log2, powers::l), "the tables of L seldom decide");
+        tally.require(!with_fixed() || is_quick(&inputs, ffi::telbijan_log2, powers::l), "the tables of L seldom decide");
     });
 }
 

@@ -2,7 +2,7 @@
 
 use crate::ffi::{OLD_U16, OLD_U8};
 use crate::ffi_scl::{self, Columns, Item, OLD_USIZE, Push};
-use crate::inputs::{Random, f64_limits, u32_limits};
+use crate::inputs::{Random, drawn, f64_limits, u32_limits, with_fixed};
 use crate::lent::Float;
 use crate::tally::{Code, Report, Said, Tally, Who};
 use crate::{rules_scl, rust_scl};
@@ -63,7 +63,7 @@ fn after(old: &Columns, pushes: &[Push]) -> Option<Columns> {
 
 fn pushes(tally: &mut Tally) {
     let mut random = Random::new(26);
-    for k in 0..20_000 {
+    for k in drawn(20_000) {
         let run = random_run(&mut random, k % 9);
         let mut columns = Columns::new(run.lengths);
         let old = columns.clone();
@@ -189,7 +189,7 @@ pub const RANDOM_SCALES: usize = 40_000;
 /// Random scales of up to eleven items, and scales of every shape.
 pub fn scales() -> impl Iterator<Item = ([usize; 7], Vec<Push>)> {
     let mut random = Random::new(27);
-    let random = (0..RANDOM_SCALES).map(move |k| {
+    let random = drawn(RANDOM_SCALES).map(move |k| {
         let run = random_run(&mut random, 1 + k % 12);
         (run.lengths, run.taken())
     });
@@ -201,6 +201,14 @@ fn builds(tally: &mut Tally) {
     for (lengths, pushes) in scales() {
         one_build(tally, lengths, &pushes);
     }
+    if with_fixed() {
+        large_builds(tally);
+        states(tally);
+    }
+}
+
+/// Builds of thousands of items, and of too many.
+fn large_builds(tally: &mut Tally) {
     for (k, pushes) in shapes(4_096).into_iter().enumerate() {
         if k % 3 == 0 {
             one_build(tally, [4_097; 7], &pushes);
@@ -225,7 +233,6 @@ fn builds(tally: &mut Tally) {
     let old = columns.clone();
     let (code, count) = ffi_scl::build_scl(&mut columns, 65_600, 65_536);
     tally.same("too many items, one of them 0/2", (code, (count, columns)), Said::refused(Who::Rules, 10, 0, (OLD_U16, old)));
-    states(tally);
 }
 
 /// States and items that cannot be used, and place 0, which needs only be usable.
@@ -278,13 +285,13 @@ pub fn as_ratio(item: Item) -> Said<Float> {
 
 fn ratios(tally: &mut Tally) {
     let mut random = Random::new(28);
-    let cents: Vec<f64> = f64_limits().into_iter().chain((0..100_000).map(|k| if k % 2 == 0 { (random.unit() - 0.5) * 80_000.0 } else { random.f64() })).collect();
+    let cents: Vec<f64> = f64_limits().into_iter().chain(drawn(100_000).map(|k| if k % 2 == 0 { (random.unit() - 0.5) * 80_000.0 } else { random.f64() })).collect();
     for x in cents {
         tally.same(x, ffi_scl::item_as_ratio(0, x, 7, 0), as_ratio(Item::cents(x)));
     }
     let limits = u32_limits();
     let pairs = limits.iter().flat_map(|&n| limits.iter().map(move |&d| (n, d)));
-    let more: Vec<(u32, u32)> = (0..100_000).map(|_| (random.u32(), random.u32())).collect();
+    let more: Vec<(u32, u32)> = drawn(100_000).map(|_| (random.u32(), random.u32())).collect();
     for (n, d) in pairs.chain(more) {
         tally.same((n, d), ffi_scl::item_as_ratio(1, f64::NAN, n, d), as_ratio(Item::Fraction(n, Some(d))));
         tally.same(n, ffi_scl::item_as_ratio(2, f64::NAN, n, d), as_ratio(Item::Fraction(n, None)));

@@ -1,7 +1,7 @@
 //! Exports of scales: ours beside the Rust, the lent bytes compared whole, and the items' columns as they were.
 
 use crate::ffi_scl::{self, Columns, Item, OLD_USIZE, Push};
-use crate::inputs::{Random, f64_limits, u32_limits};
+use crate::inputs::{self, Random, drawn, f64_limits, u32_limits};
 use crate::kbm_use::BYTE;
 use crate::tally::{Code, Report, Said, Tally, Who, caught};
 use crate::{rules_scl, rust_scl, scl_build, scl_read};
@@ -89,13 +89,13 @@ fn random_description(random: &mut Random, most: usize) -> Vec<u8> {
 
 /// Cents whose three decimals are a tie, near one, or at a limit.
 fn telling_cents(random: &mut Random) -> Vec<f64> {
-    let halves = (0..4_000).map(|k| f64::from(k) / 16.0 - 125.0);
-    let near = (0..4_000).flat_map(|k| {
+    let halves = inputs::fixed(0..4_000).map(|k| f64::from(k) / 16.0 - 125.0);
+    let near = inputs::fixed(0..4_000).flat_map(|k| {
         let x = f64::from(k) * 0.0005 - 1.0;
         [x, x.next_up(), x.next_down()]
     });
     let limits = f64_limits().into_iter().chain([38_400.0, -38_400.0, 38_399.9995, -38_399.9995, 38_399.999_499_999_99]);
-    let more: Vec<f64> = (0..20_000).map(|_| (random.unit() - 0.5) * 76_800.0).collect();
+    let more: Vec<f64> = drawn(20_000).map(|_| (random.unit() - 0.5) * 76_800.0).collect();
     halves.chain(near).chain(limits).chain(more).collect()
 }
 
@@ -151,10 +151,13 @@ fn unusable(tally: &mut Tally) {
 }
 
 fn exports(tally: &mut Tally) {
-    fixed(tally);
-    unusable(tally);
+    if inputs::with_fixed() {
+        fixed(tally);
+        unusable(tally);
+        files(tally);
+    }
     let mut random = Random::new(29);
-    for k in 0..20_000 {
+    for k in drawn(20_000) {
         let run = scl_build::random_run(&mut random, 12);
         let taken: Vec<Item> = run.pushes.iter().filter_map(|&push| rules_scl::pushed(push)).collect();
         let description = if k % 2 == 0 { DESCRIPTIONS[k / 2 % DESCRIPTIONS.len()].to_vec() } else { random_description(&mut random, 40) };
@@ -167,11 +170,14 @@ fn exports(tally: &mut Tally) {
         let items: Vec<Item> = items.iter().copied().filter(|&item| rules_scl::usable(item)).collect();
         rooms(tally, b"d", &table(&items, 0), items.len() as u16);
     }
+}
+
+/// Long scales, and files: what was read and written is, read and written again, the same text.
+fn files(tally: &mut Tally) {
     for count in [4_096, 65_535] {
         let text = scl_read::long(count, count);
         rooms(tally, b"a long scale", &table(&rules_scl::read(&text, count + 1).unwrap().2[1..], 0), count as u16);
     }
-    // a file that was read and written is, read and written again, the same text
     for file in scl_read::FILES {
         let mut columns = Columns::new([16; 7]);
         let (_, (count, start, end)) = ffi_scl::read_scl(file.as_bytes(), &mut columns);

@@ -1,7 +1,7 @@
 //! Scale files: ours beside the rules, all seven columns compared whole and by raw bits, and the rules beside the Rust in its domain.
 
 use crate::ffi_scl::{self, Columns, OLD_STORED, Stored};
-use crate::inputs::Random;
+use crate::inputs::{self, Random, drawn};
 use crate::tally::{Code, Report, Said, Tally, Who};
 use crate::{rules, rules_scl, rust_scl};
 
@@ -72,7 +72,7 @@ const LETTERS: &[u8] = b"\n\r 0123456789/!.-+e\xc2\xa0";
 pub fn texts() -> Vec<Vec<u8>> {
     let mut found: Vec<Vec<u8>> = FILES.iter().map(|f| f.as_bytes().to_vec()).collect();
     // each telling token as description, as count, as an only item, as an item among others, as the last item
-    for token in TOKENS {
+    for token in inputs::fixed(TOKENS) {
         found.push(format!("{token}\n1\n2\n").into_bytes());
         found.push(format!("d\n{token}\n2\n3\n").into_bytes());
         found.push(format!("d\n1\n{token}\n").into_bytes());
@@ -84,7 +84,7 @@ pub fn texts() -> Vec<Vec<u8>> {
         found.push(format!("d\n1\n{token}\n\n! c\nbad\n").into_bytes());
         found.push([format!("d\n1\n{token}\n").as_bytes(), b"\xff\n"].concat());
     }
-    for file in [FILES[0], FILES[4], FILES[7]] {
+    for file in inputs::fixed([FILES[0], FILES[4], FILES[7]]) {
         let lines: Vec<&str> = file.lines().collect();
         for k in 0..=lines.len() {
             found.push(lines[..k].join("\n").into_bytes());
@@ -100,7 +100,7 @@ pub fn texts() -> Vec<Vec<u8>> {
         }
     }
     // descriptions: trimmed, with a byte A0 at the end, and what is none
-    for description in ["dà", "  d  ", "\u{3000}d\u{2003}e\u{3000}", "a\rb", "\u{feff}!d", "\u{a0}!d\nd", "d!", "\"quoted\", pitch_values: [x], sorted_pitch_values: [", "\\", "\u{0}"] {
+    for description in inputs::fixed(["dà", "  d  ", "\u{3000}d\u{2003}e\u{3000}", "a\rb", "\u{feff}!d", "\u{a0}!d\nd", "d!", "\"quoted\", pitch_values: [x], sorted_pitch_values: [", "\\", "\u{0}"]) {
         found.push(format!("{description}\n1\n2\n").into_bytes());
     }
     // short texts over telling pieces, after no lines, one and two
@@ -112,23 +112,62 @@ pub fn texts() -> Vec<Vec<u8>> {
     }
     // damaged copies
     let mut random = Random::new(24);
-    for _ in 0..60_000 {
+    for _ in drawn(60_000) {
         let mut text = FILES[random.next() as usize % FILES.len()].as_bytes().to_vec();
-        for _ in 0..1 + random.next() % 3 {
-            if text.is_empty() {
-                break;
-            }
-            let at = random.next() as usize % text.len();
-            match random.next() % 4 {
-                0 => drop(text.remove(at)),
-                1 => text.insert(at, LETTERS[random.next() as usize % LETTERS.len()]),
-                2 => text[at] = (random.next() % 256) as u8,
-                _ => text.truncate(at + 1),
-            }
-        }
+        damage(&mut random, &mut text);
         found.push(text);
     }
     found
+}
+
+/// One to three bytes of a text gone, more or other, or its end gone.
+fn damage(random: &mut Random, text: &mut Vec<u8>) {
+    for _ in 0..1 + random.next() % 3 {
+        if text.is_empty() {
+            break;
+        }
+        let at = random.next() as usize % text.len();
+        match random.next() % 4 {
+            0 => drop(text.remove(at)),
+            1 => text.insert(at, LETTERS[random.next() as usize % LETTERS.len()]),
+            2 => text[at] = (random.next() % 256) as u8,
+            _ => text.truncate(at + 1),
+        }
+    }
+}
+
+/// A token of an item: of every kind, near others, at limits, or none.
+fn random_token(random: &mut Random) -> String {
+    match random.next() % 12 {
+        0 => TOKENS[random.next() as usize % TOKENS.len()].to_string(),
+        1 => format!("{}", 1 + random.next() % 9),
+        2 => format!("{}", random.u32()),
+        3 => format!("{}/{}", 1 + random.next() % 40, 1 + random.next() % 40),
+        4 => format!("{}/{}", random.u32(), random.u32()),
+        5 => format!("{:.3}", (random.unit() - 0.5) * 80_000.0),
+        6 => format!("{}.", random.next() as i32 % 1300),
+        7 => format!("{:.12}", (random.unit() - 0.5) * 0.01),
+        8 => format!("{}/10000000", 10_000_000 + random.next() % 40),
+        9 => ["2/1", "2", "1/1", "0."][random.next() as usize % 4].to_string(),
+        _ => format!("{:.*}", 1 + random.next() as usize % 6, random.unit() * 1300.0),
+    }
+}
+
+/// A text of at most so many items: mostly a whole scale, else with another count, text behind an item, comments, or damaged.
+pub fn random_text(random: &mut Random, most: u64) -> Vec<u8> {
+    let items = random.next() % (most + 1);
+    let count = if random.next() % 16 == 0 { random.next() % 12 } else { items };
+    let end = ["\n", "\r\n"][usize::from(random.next() % 8 == 0)];
+    let mut text = format!("d{end}{count}{end}");
+    for _ in 0..items {
+        let more = ["", "", "", "", " c", "\t! c", "\n! c", "  "][random.next() as usize % 8];
+        text.push_str(&format!("{}{more}{end}", random_token(random)));
+    }
+    let mut text = text.into_bytes();
+    if random.next() % 8 == 0 {
+        damage(random, &mut text);
+    }
+    text
 }
 
 /// A scale file of so many items that says a count, in no order.
@@ -198,11 +237,33 @@ fn fixed(tally: &mut Tally) {
     }
 }
 
+/// Texts of up to 65,537 items, and a reload.
+fn long_texts(tally: &mut Tally) {
+    for (items, count) in [(0, 0), (1, 1), (2, 2), (0, 1), (4_096, 4_096), (4_095, 4_096), (65_535, 65_535), (65_535, 65_534), (65_536, 65_535), (65_537, 65_535), (65_536, 0)] {
+        let text = long(items, count);
+        for room in [items + 1, items + 3, items, 0] {
+            one_read(tally, &text, [room; 7]);
+        }
+    }
+    // 13 before 14 and 18: too many items, and the period is 1.0
+    let text = [long(65_535, 65_535), b"1/1\n".to_vec()].concat();
+    for room in [65_537, 65_600] {
+        one_read(tally, &text, [room; 7]);
+    }
+    // a good scale in use, and a reload whose last item is broken: refused with its line, and every place as before
+    let mut columns = Columns::new([16; 7]);
+    let (code, _) = ffi_scl::read_scl(FILES[0].as_bytes(), &mut columns);
+    assert_eq!(code, Code::ACCEPTED);
+    let before = columns.clone();
+    let (code, stored) = ffi_scl::read_scl(FILES[0].replace("2/1", "2/1x").as_bytes(), &mut columns);
+    tally.same("a broken reload", (code, (stored, columns)), Said::refused(Who::Rust, 6, 17, (OLD_STORED, before)));
+}
+
 pub fn compare(all: &mut Report) {
     all.function("Scl::import", &[1, 2, 3, 4, 5, 6, 9, 10, 12, 13, 14, 18], |tally| {
-        fixed(tally);
         let mut random = Random::new(25);
-        for text in texts() {
+        let mut other = Random::new(30);
+        for text in texts().into_iter().chain(drawn(20_000).map(|_| random_text(&mut other, 18))) {
             for room in [0, 1, 2, 4, 13, 16] {
                 // one column is the shortest, the others are longer or not
                 let mut lengths = [room; 7];
@@ -211,23 +272,9 @@ pub fn compare(all: &mut Report) {
                 one_read(tally, &text, lengths);
             }
         }
-        for (items, count) in [(0, 0), (1, 1), (2, 2), (0, 1), (4_096, 4_096), (4_095, 4_096), (65_535, 65_535), (65_535, 65_534), (65_536, 65_535), (65_537, 65_535), (65_536, 0)] {
-            let text = long(items, count);
-            for room in [items + 1, items + 3, items, 0] {
-                one_read(tally, &text, [room; 7]);
-            }
+        if inputs::with_fixed() {
+            fixed(tally);
+            long_texts(tally);
         }
-        // 13 before 14 and 18: too many items, and the period is 1.0
-        let text = [long(65_535, 65_535), b"1/1\n".to_vec()].concat();
-        for room in [65_537, 65_600] {
-            one_read(tally, &text, [room; 7]);
-        }
-        // a good scale in use, and a reload whose last item is broken: refused with its line, and every place as before
-        let mut columns = Columns::new([16; 7]);
-        let (code, _) = ffi_scl::read_scl(FILES[0].as_bytes(), &mut columns);
-        assert_eq!(code, Code::ACCEPTED);
-        let before = columns.clone();
-        let (code, stored) = ffi_scl::read_scl(FILES[0].replace("2/1", "2/1x").as_bytes(), &mut columns);
-        tally.same("a broken reload", (code, (stored, columns)), Said::refused(Who::Rust, 6, 17, (OLD_STORED, before)));
     });
 }

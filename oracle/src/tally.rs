@@ -1,5 +1,6 @@
 //! Counts of what was compared, a line for each function.
 
+use crate::inputs;
 use std::cell::Cell;
 use std::collections::{BTreeMap, BTreeSet};
 use std::fmt::Debug;
@@ -75,63 +76,123 @@ impl<T> Said<T> {
     }
 }
 
+/// The lines of the functions that were compared. A round that is one of many says nothing but its differences; the lines of all
+/// are added and shown at the end.
 pub struct Report {
-    failed: bool,
-    lines: usize,
+    shown: bool,
+    lines: Vec<Line>,
 }
 
 impl Report {
-    pub fn new() -> Report {
+    pub fn shown() -> Report {
         println!("random inputs are SplitMix64's, from a seed for each function that its source names");
-        println!("cases: of them the Rust's own answers, those on the second E and L, and those by the rules alone; then refusals met");
-        println!("{:<26} {:>9} {:>9} {:>9} {:>9} {:>6}  {}", "function", "cases", "rust", "second", "rules", "differ", "NUMBER:times");
-        Report { failed: false, lines: 0 }
+        heading();
+        Report { shown: true, lines: Vec::new() }
+    }
+
+    pub fn silent() -> Report {
+        Report { shown: false, lines: Vec::new() }
     }
 
     /// Compares one function: `cases` calls the tally once for each input. The refusals met must be exactly `numbers`, and the Rust or
     /// the second E and L must have answered some.
     pub fn function(&mut self, name: &str, numbers: &[u64], cases: impl FnOnce(&mut Tally)) {
-        let by = self.tried(name, numbers, cases);
-        if by[0] + by[1] == 0 {
-            println!("{name}: the Rust answered no case");
-            self.failed = true;
-        }
+        self.tried(name, numbers, false, cases);
     }
 
     /// Compares what the Rust does not have, a range of document 01's or tables that no build leaves: every case is by the rules, and there
     /// is one.
     pub fn ruled(&mut self, name: &str, numbers: &[u64], cases: impl FnOnce(&mut Tally)) {
-        let by = self.tried(name, numbers, cases);
-        if by[2] == 0 {
-            println!("{name}: no case");
-            self.failed = true;
-        }
+        self.tried(name, numbers, true, cases);
     }
 
-    /// The line of a function: by whom its cases were.
-    fn tried(&mut self, name: &str, numbers: &[u64], cases: impl FnOnce(&mut Tally)) -> [u64; 3] {
-        let mut tally = Tally { name: name.to_string(), by: [0; 3], differences: 0, met: BTreeMap::new() };
+    fn tried(&mut self, name: &str, numbers: &[u64], ruled: bool, cases: impl FnOnce(&mut Tally)) {
+        let mut tally = Tally { name: name.to_string(), by: [0; 3], differences: 0, met: BTreeMap::new(), unlike: BTreeSet::new() };
         cases(&mut tally);
-        let met: Vec<String> = tally.met.iter().map(|(number, times)| format!("{number}:{times}")).collect();
-        let all: u64 = tally.by.iter().sum();
-        println!("{:<26} {:>9} {:>9} {:>9} {:>9} {:>6}  {}", name, all, tally.by[0], tally.by[1], tally.by[2], tally.differences, met.join(" "));
-        let unlike = !tally.met.keys().copied().eq(numbers.iter().copied().collect::<BTreeSet<_>>());
-        if unlike {
-            println!("{name}: the refusals should be {numbers:?}");
+        let line = Line { tally, numbers: numbers.iter().copied().collect(), ruled };
+        if self.shown {
+            line.print();
         }
-        self.failed |= tally.differences != 0 || unlike;
-        self.lines += 1;
-        tally.by
+        self.lines.push(line);
     }
 
-    pub fn verdict(self) -> ExitCode {
-        if self.failed {
+    /// Adds the lines of another round, function by function.
+    pub fn add(&mut self, other: Report) {
+        for line in other.lines {
+            match self.lines.iter_mut().find(|known| known.tally.name == line.tally.name) {
+                Some(known) => known.tally.add(&line.tally),
+                None => self.lines.push(line),
+            }
+        }
+    }
+
+    pub fn differences(&self) -> u64 {
+        self.lines.iter().map(|line| line.tally.differences).sum()
+    }
+
+    /// Cases: the Rust's own answers, those on the second E and L, those by the rules alone.
+    pub fn cases(&self) -> [u64; 3] {
+        [0, 1, 2].map(|who| self.lines.iter().map(|line| line.tally.by[who]).sum())
+    }
+
+    /// Each function with the refusals that the Rust does not give there: by the rules alone, or where it panics.
+    pub fn unlike(&self) -> impl Iterator<Item = (&str, u64)> {
+        self.lines.iter().flat_map(|line| line.tally.unlike.iter().map(|&number| (line.tally.name.as_str(), number)))
+    }
+
+    /// The lines of all rounds.
+    pub fn print(&self) {
+        heading();
+        self.lines.iter().for_each(Line::print);
+    }
+
+    /// Fails where something differs or a function lacks cases, which are said.
+    pub fn verdict(&self) -> ExitCode {
+        let lacking: Vec<String> = self.lines.iter().flat_map(Line::faults).collect();
+        lacking.iter().for_each(|fault| println!("{fault}"));
+        if self.differences() != 0 || !lacking.is_empty() {
             println!("comparison: DIFFERENCES FOUND");
             ExitCode::FAILURE
         } else {
-            println!("comparison: {} functions, no difference", self.lines);
+            println!("comparison: {} functions, no difference", self.lines.len());
             ExitCode::SUCCESS
         }
+    }
+}
+
+fn heading() {
+    println!("cases: of them the Rust's own answers, those on the second E and L, and those by the rules alone; then refusals met");
+    println!("{:<26} {:>9} {:>9} {:>9} {:>9} {:>6}  {}", "function", "cases", "rust", "second", "rules", "differ", "NUMBER:times");
+}
+
+/// What was compared of one function, and the refusals that it has.
+struct Line {
+    tally: Tally,
+    numbers: BTreeSet<u64>,
+    ruled: bool,
+}
+
+impl Line {
+    fn print(&self) {
+        let Tally { name, by, differences, met, .. } = &self.tally;
+        let numbers: Vec<String> = met.iter().map(|(number, times)| format!("{number}:{times}")).collect();
+        println!("{:<26} {:>9} {:>9} {:>9} {:>9} {:>6}  {}", name, by.iter().sum::<u64>(), by[0], by[1], by[2], differences, numbers.join(" "));
+    }
+
+    /// What its cases lack.
+    fn faults(&self) -> Vec<String> {
+        let (name, [rust, second, rules]) = (&self.tally.name, self.tally.by);
+        let mut found = Vec::new();
+        if self.ruled && rules == 0 {
+            found.push(format!("{name}: no case"));
+        }
+        if !self.ruled && rust + second == 0 {
+            found.push(format!("{name}: the Rust answered no case"));
+        }
+        if !self.tally.met.keys().eq(&self.numbers) {
+            found.push(format!("{name}: the refusals should be {:?}", self.numbers));
+        }
+        found
     }
 }
 
@@ -140,17 +201,29 @@ pub struct Tally {
     by: [u64; 3],
     differences: u64,
     met: BTreeMap<u64, u64>,
+    unlike: BTreeSet<u64>,
 }
+
+/// The numbers that no error of the Rust's stands for.
+const OURS: [u64; 4] = [10, 11, 12, 18];
 
 impl Tally {
     /// One input: what the library answered and left behind, and what it should have. The first few differences are shown.
     pub fn same<T: PartialEq + Debug>(&mut self, input: impl Debug, ours: (Code, T), theirs: Said<T>) {
-        self.by[theirs.who as usize] += 1;
-        if theirs.code != Code::ACCEPTED {
-            *self.met.entry(theirs.code.number()).or_default() += 1;
-        }
+        self.count(theirs.who, theirs.code);
         if ours.0 != theirs.code || ours.1 != theirs.value {
             self.differ(format!("{input:?}: ours {ours:?}, theirs {theirs:?}"));
+        }
+    }
+
+    /// One input, by whom its answer is, and what it is.
+    pub fn count(&mut self, who: Who, code: Code) {
+        self.by[who as usize] += 1;
+        if code != Code::ACCEPTED {
+            *self.met.entry(code.number()).or_default() += 1;
+            if who == Who::Rules || OURS.contains(&code.number()) {
+                self.unlike.insert(code.number());
+            }
         }
     }
 
@@ -164,8 +237,15 @@ impl Tally {
     fn differ(&mut self, what: String) {
         self.differences += 1;
         if self.differences <= 12 {
-            println!("{}: {}", self.name, what);
+            println!("{}: {what} (seed {})", self.name, inputs::round().seed);
         }
+    }
+
+    fn add(&mut self, other: &Tally) {
+        (0..3).for_each(|who| self.by[who] += other.by[who]);
+        self.differences += other.differences;
+        self.unlike.extend(&other.unlike);
+        other.met.iter().for_each(|(&number, times)| *self.met.entry(number).or_default() += times);
     }
 }
 

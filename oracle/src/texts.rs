@@ -1,7 +1,7 @@
 //! Lines, UTF-8, trimming and tokens beside Rust's std: short texts exhaustively over telling pieces, every scalar value, random
 //! long texts.
 
-use crate::inputs::Random;
+use crate::inputs::{Random, fixed};
 use crate::probe::{self, Line};
 use crate::tally::{Code, Report, Said, Who};
 use std::io::BufRead;
@@ -12,9 +12,9 @@ pub const PIECES: [&[u8]; 20] = [
     b"\xe2\x80\x8b", b"\xef\xbb\xbf", b"\xff", b"\x80", b"\xe2\x80",
 ];
 
-/// Every row of `count` pieces.
+/// Every row of `count` pieces: fixed inputs.
 pub fn rows<'a>(pieces: &'a [&'a [u8]], count: usize) -> impl Iterator<Item = Vec<u8>> + 'a {
-    (0..pieces.len().pow(count as u32)).map(move |mut k| {
+    fixed(0..pieces.len().pow(count as u32)).map(move |mut k| {
         let mut row = Vec::new();
         for _ in 0..count {
             row.extend_from_slice(pieces[k % pieces.len()]);
@@ -40,8 +40,8 @@ const BROKEN: [&[u8]; 10] =
     [b"\xc0\x80", b"\xc1\xbf", b"\xe0\x80\x80", b"\xe0\x9f\xbf", b"\xed\xa0\x80", b"\xed\xbf\xbf", b"\xf0\x80\x80\x80", b"\xf4\x90\x80\x80", b"\xf5\x80\x80\x80", b"\xf0\x9f\x98"];
 
 fn texts() -> impl Iterator<Item = Vec<u8>> {
-    let scalars = (0..=0x10FFFFu32).filter_map(char::from_u32).map(|c| format!("{c}a {c}\n").into_bytes());
-    let broken = BROKEN.iter().flat_map(|b| [b.to_vec(), [b"a", *b].concat(), [*b, b"\n2"].concat()]);
+    let scalars = fixed(0..=0x10FFFFu32).filter_map(char::from_u32).map(|c| format!("{c}a {c}\n").into_bytes());
+    let broken = fixed(&BROKEN).flat_map(|b| [b.to_vec(), [b"a", *b].concat(), [*b, b"\n2"].concat()]);
     (0..=4).flat_map(|count| rows(&PIECES, count)).chain(random_rows()).chain(scalars).chain(broken)
 }
 

@@ -5,7 +5,7 @@ use crate::ffi::OLD_U32;
 use crate::ffi_kbm::Mapping;
 use crate::ffi_scl::{Columns, Item, Push};
 use crate::ffi_tuning::{self as ffi, Found, OLD_FOUND};
-use crate::inputs::{Random, f64_limits};
+use crate::inputs::{Random, drawn, f64_limits, with_fixed};
 use crate::kbm_use::is_wrong;
 use crate::lent::{self, Float};
 use crate::rules_tuning::{self as rules, Answer, Root};
@@ -240,7 +240,7 @@ fn random_hz(random: &mut Random, b: &Built, root: Root) -> f64 {
 
 /// The scales of the builder's comparison that are not refused: some of the random ones, and every shape and period of up to 100 items.
 pub fn scales() -> impl Iterator<Item = Built> {
-    let taken = |k: usize, items: usize| items <= 100 && (k >= scl_build::RANDOM_SCALES || k % 5 == 0);
+    let taken = |k: usize, items: usize| items <= 100 && (k >= drawn(scl_build::RANDOM_SCALES).end || k % 5 == 0);
     scl_build::scales().enumerate().filter(move |(k, (_, pushes))| taken(*k, pushes.len())).filter_map(|(_, (lengths, pushes))| Built::new(lengths, &pushes))
 }
 
@@ -351,7 +351,7 @@ fn by_rules<T>(answer: Answer<T>, old: T) -> Said<T> {
 fn lent_strange(all: &mut Report) {
     all.ruled("lent lists, strange", &[11, 18], |tally| {
         let mut random = Random::new(40);
-        for k in 0..20_000 {
+        for k in drawn(20_000) {
             let count = random.next() as u16 % 5;
             let places = usize::from(count) + 1;
             let mut c = Columns::new([places + k % 2; 7]);
@@ -450,9 +450,11 @@ pub fn compare(all: &mut Report) {
     });
     runs(all);
     searches(all);
-    fixed(all);
-    lent_wrong(all);
     lent_strange(all);
+    if with_fixed() {
+        fixed(all);
+        lent_wrong(all);
+    }
 }
 
 /// Runs of keys: each key as the single call, the places behind it and the pitch of a refused key as they were.

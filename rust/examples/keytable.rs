@@ -1,5 +1,5 @@
-//! Prints, for each key of a mapping, its degree, its pitch in Hz and its cents from the reference pitch, or why it has none: what the program
-//! `keytable` prints.
+//! Prints, for each key of a mapping, its degree, its pitch in Hz and its cents from the reference pitch, or why it has none: of the files in
+//! examples/ what the program `keytable` prints.
 //!
 //!     cargo run --manifest-path rust/Cargo.toml --example keytable -- examples/just.scl examples/linear.kbm
 

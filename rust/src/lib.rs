@@ -32,6 +32,7 @@
 extern crate alloc;
 
 mod mapping;
+mod mapping_builder;
 #[cfg(feature = "alloc")]
 mod owned;
 pub mod ratio;
@@ -40,7 +41,8 @@ mod refusal;
 mod scale;
 
 pub use mapping::{read_mapping, MappingRef, Numbers, Root, Tuning, UNMAPPED};
+pub use mapping_builder::MappingBuilder;
 #[cfg(feature = "alloc")]
 pub use owned::{Mapping, Scale};
-pub use refusal::Refusal;
+pub use refusal::{reason, Refusal};
 pub use scale::{Builder, Columns, Found, ScaleRef};

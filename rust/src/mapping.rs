@@ -40,7 +40,7 @@ macro_rules! mapping {
     }};
 }
 
-/// Reads a mapping file into a table.
+/// Reads a mapping file into a table; the places behind its entries keep their values. 12 where an entry has no place.
 pub fn read_mapping(text: &[u8], map: &mut [i32]) -> Result<Numbers, Refusal> {
     let mut n = Numbers { count: 0, start: 0, end: 0, root: Root { reference: 0, hz: 0.0, offset: 0 }, octave: 0 };
     // Safety: each pointer comes with its slice's length; `map` is borrowed for writing, and the numbers stand apart.
@@ -52,15 +52,17 @@ pub fn read_mapping(text: &[u8], map: &mut [i32]) -> Result<Numbers, Refusal> {
     Refusal::of(result).map(|()| n)
 }
 
+/// Each call but `room_for_export` gives 10 where the table has fewer entries than the count, or others than degrees and `UNMAPPED`.
 impl MappingRef<'_> {
-    /// The degree of a key.
+    /// The degree of a key; 16 outside the range, 17 for a key that is unmapped, 11 where a number passes 32 bits.
     pub fn degree_of(self, key: i32) -> Result<i32, Refusal> {
         let (mut degree, (a, b, c, d, e, f, g, h, i)) = (0, mapping!(self));
         // Safety: the pointer comes with its slice's length.
         Refusal::of(unsafe { raw::telbijan_scale_degree_of(a, b, c, d, e, f, g, h, i, key, &mut degree) }).map(|()| degree)
     }
 
-    /// The text of the mapping, written into the first bytes of `out`: how many they are. `room_for_export` bytes are always enough.
+    /// The text of the mapping, written into the first bytes of `out`: how many they are; the others stay. 10 for a pitch outside 2^-10..2^20, 11
+    /// where the last or the middle key passes 32 bits, 12 where the text is longer than `out`; `room_for_export` bytes are always enough.
     pub fn export(self, out: &mut [u8]) -> Result<usize, Refusal> {
         let (mut written, (a, b, c, d, e, f, g, h, i)) = (0, mapping!(self));
         // Safety: each pointer comes with its slice's length; `out` is borrowed for writing.
@@ -93,20 +95,21 @@ impl Tuning<'_> {
         Items { kind, cents, numer, denom }
     }
 
-    /// The pitch of a key, in Hz; 16 outside the range, 17 for a key that is unmapped.
+    /// The pitch of a key, in Hz; 10 for tables or a root's pitch that cannot be used, 16 outside the range, 17 for a key that is unmapped, 11
+    /// where a number passes 32 bits and for the root offset -2147483648, 18 for a pitch or ratio outside 2^-900..2^900.
     pub fn pitch_of(self, key: i32) -> Result<f64, Refusal> {
         let (mut hz, s, (a, b, c, d, e, f, g, h, i)) = (0.0, self.items(), mapping!(self.mapping));
         ask_mapped(|x| ask_items!(telbijan_maybe_pitch_of, s, self.scale.count(), a, b, c, d, e, f, g, h, i, key, x), &mut hz)
     }
 
-    /// The same of the key so many steps above the reference key.
+    /// The same of the key so many steps above the reference key; 11 where that key passes 32 bits.
     pub fn pitch_of_degree(self, degree: i32) -> Result<f64, Refusal> {
         let (mut hz, s, (a, b, c, d, e, f, g, h, i)) = (0.0, self.items(), mapping!(self.mapping));
         ask_mapped(|x| ask_items!(telbijan_maybe_pitch_of_degree, s, self.scale.count(), a, b, c, d, e, f, g, h, i, degree, x), &mut hz)
     }
 
     /// The pitches of a run of keys, as many as `hz` has places, and beside each 0 or the number of its refusal; the pitch of a refused key
-    /// stays as it was. The tables are tested once. 12 where `numbers` has fewer places.
+    /// stays as it was. The tables are tested once. 10 where they cannot be used, 12 where `numbers` has fewer places than `hz`.
     pub fn pitches_of(self, first: i32, hz: &mut [f64], numbers: &mut [u32]) -> Result<(), Refusal> {
         let (s, (a, b, c, d, e, f, g, h, i)) = (self.items(), mapping!(self.mapping));
         let Ok(keys) = u32::try_from(hz.len()) else { return Refusal::of(12) };

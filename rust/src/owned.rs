@@ -1,9 +1,18 @@
 //! Scales and mappings that own their tables.
 
-use crate::{read_mapping, Builder, Columns, MappingRef, Numbers, Refusal, ScaleRef, Tuning};
+use crate::{read_mapping, Builder, Columns, MappingBuilder, MappingRef, Numbers, Refusal, Root, ScaleRef, Tuning};
 use alloc::string::String;
 use alloc::vec;
 use alloc::vec::Vec;
+use core::ops::Range;
+
+/// The most items or entries that a builder can hold and a build then refuses (13).
+const MOST: usize = 65_536;
+
+/// No text has more lines than this.
+fn lines(text: &[u8]) -> usize {
+    text.iter().filter(|&&b| b == b'\n').count() + 1
+}
 
 /// A scale with its own columns.
 #[derive(Clone, Debug)]
@@ -48,7 +57,7 @@ impl Scale {
         }
     }
 
-    /// Reads a scale file.
+    /// Reads a scale file. There is always room: over 65,535 items give 13, never 12.
     ///
     /// ```
     /// let scale = telbijan::Scale::read(b"fifths\n2\n3/2\n2/1\n")?;
@@ -62,15 +71,15 @@ impl Scale {
     /// ```
     pub fn read(text: &[u8]) -> Result<Scale, Refusal> {
         // every item stands on a line of its own
-        let items = text.iter().filter(|&&b| b == b'\n').count().min(65_535) + 1;
-        let mut scale = Scale::empty(items);
+        let mut scale = Scale::empty(lines(text));
         let (count, description) = scale.columns().read(text)?;
         scale.count = count;
         scale.description = core::str::from_utf8(&text[description]).unwrap_or("").into();
         Ok(scale)
     }
 
-    /// Builds a scale of at most so many items from what `push` pushes.
+    /// Builds a scale of at most so many items from what `push` pushes into the builder that it is given; what it refuses is handed on, and so is what
+    /// `Builder::build` does; 10 where it puts another builder in the place of its own.
     ///
     /// ```
     /// let scale = telbijan::Scale::build(3, |b| {
@@ -82,22 +91,26 @@ impl Scale {
     /// # Ok::<(), telbijan::Refusal>(())
     /// ```
     pub fn build(items: usize, push: impl FnOnce(&mut Builder<'_>) -> Result<(), Refusal>) -> Result<Scale, Refusal> {
-        let mut scale = Scale::empty(items);
+        let mut scale = Scale::empty(items.min(MOST));
+        let own = scale.kind.as_ptr();
         let mut builder = scale.columns().builder()?;
         push(&mut builder)?;
-        let (_, count) = builder.build()?;
+        let (columns, count) = builder.build()?;
+        if columns.kind.as_ptr() != own {
+            return Err(Refusal::UNUSABLE);
+        }
         scale.count = count;
         Ok(scale)
     }
 
-    /// A segment of the harmonic series, whole or in so many equal divisions.
+    /// A segment of the harmonic series, whole or in so many equal divisions: as `Columns::create_harmonics`, and never 12.
     pub fn harmonics(otonal: bool, start: u16, size: u16, divisions: Option<u16>) -> Result<Scale, Refusal> {
         let mut scale = Scale::empty(divisions.unwrap_or(size).into());
         scale.count = scale.columns().create_harmonics(otonal, start, size, divisions)?;
         Ok(scale)
     }
 
-    /// A rank-2 temperament.
+    /// A rank-2 temperament: as `Columns::create_rank2`, and never 12.
     ///
     /// ```
     /// let scale = telbijan::Scale::rank2(1.5, 5, 1, 2.0)?;
@@ -110,7 +123,7 @@ impl Scale {
         Ok(scale)
     }
 
-    /// What the file said above its notes.
+    /// What the file said above its notes; empty where there was no file.
     pub fn description(&self) -> &str {
         &self.description
     }
@@ -129,7 +142,7 @@ impl Scale {
         }
     }
 
-    /// The text of the scale.
+    /// The text of the scale under a description.
     pub fn export(&self, description: &str) -> Result<String, Refusal> {
         let mut out = vec![0; self.view().room_for_export(description)];
         let written = self.view().export(description, &mut out)?;
@@ -146,7 +159,7 @@ pub struct Mapping {
 }
 
 impl Mapping {
-    /// Reads a mapping file.
+    /// Reads a mapping file. There is always room: over 65,535 entries give 13, never 12.
     ///
     /// ```
     /// let mapping = telbijan::Mapping::read(b"3\n0\n127\n60\n60\n261.6256\n3\n0\nx\n2\n")?;
@@ -156,10 +169,51 @@ impl Mapping {
     /// ```
     pub fn read(text: &[u8]) -> Result<Mapping, Refusal> {
         // a map may be larger than the entries that the file writes, up to its size, which is at most 65,535
-        let mut map = vec![0; 65_535];
+        let mut map = vec![0; lines(text).max(65_535)];
         let numbers = read_mapping(text, &mut map)?;
         map.truncate(numbers.count.into());
         map.shrink_to_fit();
+        Ok(Mapping { map, numbers })
+    }
+
+    /// Builds a mapping of at most so many entries above a root, for the keys of a range, from what `push` pushes into the builder that it
+    /// is given; 10 where it puts another in its place. Only a mapping without entries needs no formal octave.
+    ///
+    /// ```
+    /// use telbijan::{Mapping, Root};
+    ///
+    /// let root = Root { reference: 60, hz: 261.6256, offset: 0 };
+    /// let mapping = Mapping::build(3, root, 0..128, Some(5), |b| {
+    ///     b.push(0)?;
+    ///     b.push_unmapped()?;
+    ///     b.push(2)
+    /// })?;
+    /// assert_eq!(mapping.view().degree_of(63)?, 5);
+    /// assert_eq!(mapping.export()?, "3\n0\n127\n60\n60\n261.626\n5\n0\nx\n2\n");
+    ///
+    /// let linear = Mapping::build(0, root, 0..128, None, |_| Ok(()))?;
+    /// assert_eq!(linear.view().degree_of(72)?, 12);
+    /// let refusal = Mapping::build(1, root, 0..128, None, |b| b.push(0)).unwrap_err();
+    /// assert_eq!(refusal.number(), 15);
+    /// # Ok::<(), telbijan::Refusal>(())
+    /// ```
+    pub fn build(
+        entries: usize,
+        root: Root,
+        keys: Range<i32>,
+        octave: Option<i16>,
+        push: impl FnOnce(&mut MappingBuilder<'_>) -> Result<(), Refusal>,
+    ) -> Result<Mapping, Refusal> {
+        let mut map = vec![0; entries.min(MOST)];
+        let own = (map.as_ptr(), map.len());
+        let mut builder = MappingBuilder::new(&mut map, root, keys)?;
+        push(&mut builder)?;
+        let built = builder.build(octave)?;
+        if (built.map.as_ptr(), built.map.len()) != own {
+            return Err(Refusal::UNUSABLE);
+        }
+        let numbers = built.numbers;
+        map.truncate(numbers.count.into());
         Ok(Mapping { map, numbers })
     }
 
@@ -168,7 +222,7 @@ impl Mapping {
         MappingRef { map: &self.map, numbers: self.numbers }
     }
 
-    /// The text of the mapping.
+    /// The text of the mapping; 11 where its last or its middle key passes 32 bits.
     pub fn export(&self) -> Result<String, Refusal> {
         let mut out = vec![0; self.view().room_for_export()];
         let written = self.view().export(&mut out)?;

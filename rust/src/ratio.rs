@@ -1,4 +1,5 @@
-//! Ratios and pitches as numbers: E, L, and what the Rust's `Ratio` and `Pitch` compute, the same bits on every machine.
+//! Ratios and pitches as numbers: E, L, and what the Rust's `Ratio` and `Pitch` compute, the same bits on every machine. But for `exp2`, `log2` and
+//! the three `from_`, a ratio or pitch that is given outside 2^-900..2^900 is refused by 10; one that is computed outside it by 18.
 
 use crate::Refusal;
 
@@ -28,7 +29,7 @@ numbers! {
     exp2 = telbijan_exp2(x);
     /// The base 2 logarithm; 18 outside 2^-900..2^900.
     log2 = telbijan_log2(x);
-    /// The ratio of so many octaves.
+    /// The ratio of so many octaves; 18 outside -900..900.
     from_octaves = telbijan_ratio_from_octaves(octaves);
     /// The ratio of so many semitones.
     from_semitones = telbijan_ratio_from_semitones(semitones);
@@ -83,7 +84,7 @@ pub struct NearestFraction {
     pub octaves: i32,
 }
 
-/// The fraction within an odd limit that the Rust's walk finds.
+/// The fraction within an odd limit that the Rust's walk finds; 10 for a ratio outside 2^-64..2^64. Odd limit 0 answers 0/0, infinitely far.
 ///
 /// ```
 /// let f = telbijan::ratio::nearest_fraction(0.75, 11)?;

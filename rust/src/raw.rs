@@ -76,6 +76,13 @@ extern "C" {
         map: *const i32, map_length: usize, count: u16, start: i32, end: i32, reference: i32, hz: f64, offset: i32, octave: i16, out: *mut u8, out_length: usize,
         written: *mut usize,
     ) -> u64;
+    pub fn telbijan_kbm_root(reference: i32, hz: f64, offset: i32) -> u64;
+    pub fn telbijan_push_mapped_key(map: *mut i32, map_length: usize, room: usize, count: usize, degree: i16, after: *mut usize) -> u64;
+    pub fn telbijan_push_unmapped_key(map: *mut i32, map_length: usize, room: usize, count: usize, after: *mut usize) -> u64;
+    pub fn telbijan_build_kbm(
+        map: *const i32, map_length: usize, room: usize, count: usize, start: i32, end: i32, reference: i32, hz: f64, offset: i32, given: bool, octave: i16,
+        entries: *mut u16, formal: *mut i16,
+    ) -> u64;
     with_items!(telbijan_period(count: u16, period: *mut f64));
     with_items!(telbijan_relative_pitch_of(count: u16, degree: i32, relative: *mut f64));
     with_items!(telbijan_pitch_of(count: u16, reference: i32, hz: f64, offset: i32, degree: i32, pitch: *mut f64));

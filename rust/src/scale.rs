@@ -79,7 +79,9 @@ macro_rules! write_columns {
 
 pub(crate) use {ask_items, items};
 
+/// Each call but `count` and `room_for_export` gives 10 where the columns are no scale of this count, or not usable.
 impl<'a> ScaleRef<'a> {
+    /// How many items it has, place 0 not counted.
     pub fn count(self) -> u16 {
         self.count
     }
@@ -90,7 +92,7 @@ impl<'a> ScaleRef<'a> {
         ask_items!(telbijan_period, self, self.count, &mut x).map(|()| x)
     }
 
-    /// The ratio of a degree to degree 0.
+    /// The ratio of a degree to degree 0; 18 outside 2^-900..2^900.
     pub fn relative_pitch_of(self, degree: i32) -> Result<f64, Refusal> {
         let mut x = 0.0;
         ask_items!(telbijan_relative_pitch_of, self, self.count, degree, &mut x).map(|()| x)
@@ -102,7 +104,8 @@ impl<'a> ScaleRef<'a> {
         ask_scale!(telbijan_sorted_relative_pitch_of, self, self.count, degree, &mut x).map(|()| x)
     }
 
-    /// The degree that comes nearest to a ratio.
+    /// The degree that comes nearest to a ratio; 10 for a ratio outside 2^-64..2^64, 18 in a scale of one item with period 1.0, 11 where the
+    /// degree passes 32 bits.
     pub fn find(self, target: f64) -> Result<Found, Refusal> {
         let mut found = Found { number: 0, deviation: 0.0 };
         ask_scale!(telbijan_find_by_relative_pitch, self, self.count, target, &mut found.number, &mut found.deviation).map(|()| found)
@@ -114,25 +117,27 @@ impl<'a> ScaleRef<'a> {
         ask_scale!(telbijan_find_by_relative_pitch_sorted, self, self.count, target, &mut found.number, &mut found.deviation).map(|()| found)
     }
 
-    /// The pitch of a degree above a root, in Hz.
+    /// The pitch of a degree above a root, in Hz; 10 for a root's pitch outside 2^-10..2^20, 11 for the root offset -2147483648, 18 for a pitch
+    /// or ratio outside 2^-900..2^900.
     pub fn pitch_of(self, root: Root, degree: i32) -> Result<f64, Refusal> {
         let mut x = 0.0;
         ask_items!(telbijan_pitch_of, self, self.count, root.reference, root.hz, root.offset, degree, &mut x).map(|()| x)
     }
 
-    /// The pitch of a key, whose degree is its distance from the root's reference key.
+    /// The pitch of a key, whose degree is its distance from the root's reference key: as `pitch_of`, and 11 where the distance passes 32 bits.
     pub fn pitch_of_key(self, root: Root, key: i32) -> Result<f64, Refusal> {
         let mut x = 0.0;
         ask_items!(telbijan_pitch_of_key, self, self.count, root.reference, root.hz, root.offset, key, &mut x).map(|()| x)
     }
 
-    /// The pitch of a degree in ascending order.
+    /// As `pitch_of`, the degree counted in ascending order.
     pub fn sorted_pitch_of(self, root: Root, degree: i32) -> Result<f64, Refusal> {
         let mut x = 0.0;
         ask_scale!(telbijan_sorted_pitch_of, self, self.count, root.reference, root.hz, root.offset, degree, &mut x).map(|()| x)
     }
 
-    /// The degree whose pitch comes nearest.
+    /// The degree whose pitch above a root comes nearest; 10 for either pitch outside 2^-10..2^20, 11 for the root offset -2147483648, 18 for a
+    /// ratio between them outside 2^-64..2^64, and as `find`.
     pub fn find_by_pitch(self, root: Root, hz: f64) -> Result<Found, Refusal> {
         let mut found = Found { number: 0, deviation: 0.0 };
         ask_scale!(telbijan_find_by_pitch, self, self.count, root.reference, root.hz, root.offset, hz, &mut found.number, &mut found.deviation).map(|()| found)
@@ -144,13 +149,14 @@ impl<'a> ScaleRef<'a> {
         ask_scale!(telbijan_find_by_pitch_sorted, self, self.count, root.reference, root.hz, root.offset, hz, &mut found.number, &mut found.deviation).map(|()| found)
     }
 
-    /// The key whose pitch comes nearest.
+    /// The key whose pitch comes nearest, that degree above the reference key; 11 where the key passes 32 bits too.
     pub fn find_key_by_pitch(self, root: Root, hz: f64) -> Result<Found, Refusal> {
         let mut found = Found { number: 0, deviation: 0.0 };
         ask_scale!(telbijan_find_key_by_pitch, self, self.count, root.reference, root.hz, root.offset, hz, &mut found.number, &mut found.deviation).map(|()| found)
     }
 
-    /// The text of the scale, written into the first bytes of `out`: how many they are. `room_for_export` bytes are always enough.
+    /// The text of the scale, written into the first bytes of `out`: how many they are; the others stay. 12 where the text is longer than `out`;
+    /// `room_for_export` bytes are always enough.
     pub fn export(self, description: &str, out: &mut [u8]) -> Result<usize, Refusal> {
         let mut written = 0;
         let (a, b, c, d, e, f, g, h) = items!(self);
@@ -170,25 +176,28 @@ impl<'a> ScaleRef<'a> {
 }
 
 impl<'a> Columns<'a> {
-    /// Reads a scale file into the columns: the count of its items, and where its description stands in the text.
+    /// Reads a scale file into the columns: the count of its items, and where its description stands in the text. The places behind keep their
+    /// values; 12 where a column has no place for an item or place 0.
     pub fn read(&mut self, text: &[u8]) -> Result<(u16, Range<usize>), Refusal> {
         let (mut count, mut start, mut end) = (0, 0, 0);
         write_columns!(telbijan_read_scl, (text.as_ptr(), text.len()), self, &mut count, &mut start, &mut end).map(|()| (count, start..end))
     }
 
-    /// A segment of the harmonic series, whole or in so many equal divisions: the count of its items.
+    /// A segment of the harmonic series, whole or in so many equal divisions: the count of its items. 10 for start 0, 12 where the columns are
+    /// too short, 18 for 0 divisions and where two or more items have the period 1.0.
     pub fn create_harmonics(&mut self, otonal: bool, start: u16, size: u16, divisions: Option<u16>) -> Result<u16, Refusal> {
         let mut count = 0;
         write_columns!(telbijan_create_harmonics_scale, (otonal, start, size, divisions.is_some(), divisions.unwrap_or(0)), self, &mut count).map(|()| count)
     }
 
-    /// A rank-2 temperament: the count of its items.
+    /// A rank-2 temperament, the period and so many generations of the generator up and down: the count of its items. 13 for over 65,535, 10 for
+    /// a generator or a period outside 2^-32..2^32 or a period of 1.0, 12 where the columns are too short, 18 as above.
     pub fn create_rank2(&mut self, generator: f64, positive: u16, negative: u16, period: f64) -> Result<u16, Refusal> {
         let mut count = 0;
         write_columns!(telbijan_create_rank2_temperament_scale, (generator, positive, negative, period), self, &mut count).map(|()| count)
     }
 
-    /// A builder on these columns; what they hold is lost.
+    /// A builder on these columns; what they hold is lost. 12 where one has no place.
     pub fn builder(mut self) -> Result<Builder<'a>, Refusal> {
         let mut room = 0;
         write_columns!(telbijan_new_scl, (), &mut self, &mut room).map(|()| Builder { columns: self, room, count: 0 })
@@ -200,7 +209,7 @@ impl<'a> Columns<'a> {
     }
 }
 
-/// Items pushed one by one.
+/// Items pushed one by one. A push gives 10 for a number that cannot be used, 12 with no place left, and then pushes nothing.
 #[derive(Debug)]
 pub struct Builder<'a> {
     columns: Columns<'a>,
@@ -225,24 +234,28 @@ macro_rules! push {
 }
 
 impl<'a> Builder<'a> {
+    /// Cents, from -38,400 to 38,400.
     pub fn push_cents(&mut self, cents: f64) -> Result<(), Refusal> {
         push!(self, telbijan_push_cents, cents)
     }
 
-    /// A ratio, kept as its cents.
+    /// A ratio, kept as its cents, which are within the same limits.
     pub fn push_ratio(&mut self, ratio: f64) -> Result<(), Refusal> {
         push!(self, telbijan_push_ratio, ratio)
     }
 
+    /// An integer, at least 1: a fraction whose denominator is lacking.
     pub fn push_int(&mut self, number: u32) -> Result<(), Refusal> {
         push!(self, telbijan_push_int, number)
     }
 
+    /// A fraction, both numbers at least 1.
     pub fn push_fraction(&mut self, numer: u32, denom: u32) -> Result<(), Refusal> {
         push!(self, telbijan_push_fraction, numer, denom)
     }
 
-    /// The sorted list of what was pushed: the columns, and the count of their items.
+    /// The sorted list of what was pushed: the columns, and the count of their items. 13 over 65,535 items, 18 where two or more have the
+    /// period 1.0.
     pub fn build(self) -> Result<(Columns<'a>, u16), Refusal> {
         let (mut count, c) = (0, self.columns);
         // Safety: as in `push!`.

@@ -1,4 +1,4 @@
--- Where a number near P rounds as P does, and what the code's steps ask for. Assumes nothing.
+-- Where a number near P rounds as P does, and what the code's steps ask for; that E's call has one result. Assumes nothing.
 use mathlib.Core.Path.{_≡_}
 use mathlib.Core.Bool.{false, not}
 use Prim.Native.Nat.{ℕ, _+_, _-_, _*_, _/_, _%_, _^_, _≤_, _<_}
@@ -6,6 +6,7 @@ use native.Mathlib.Omega.{arith}
 use lib.Count.{ones, ones-le}
 use lib.Dec.{T, lit≤}
 use lib.Ieee.{binary64, round, ofBits, nanBits}
+use Rattle.base.proofs.Said.{One, one-result}
 use Rattle.powers.specs.Exp.{pOf}
 use Rattle.powers.proofs.Bound.{powers, power-below}
 use Rattle.rounding.proofs.Assemble.{no-nan}
@@ -28,3 +29,7 @@ ones-few = ones-le 64
 -- the bits are no NaN's
 pub no-nan-there : (r u n : ℕ) → r < 2 ^ 63 → u ≤ 1024 → n ≤ 1924 → T (not (nanBits binary64 ((n - 2) * 2 ^ 52 + (r + u) / 1024)))
 no-nan-there r u n h l to = no-nan _ (omega arith)
+
+-- two results of one input are equal, for the call that E makes; `near_power` may answer any number within what it says
+pub nearest-to-power-one : (b n : ℕ) → One (λ r. r) (round binary64 false (pOf b 52 * 2 ^ n) (2 ^ 1086))
+nearest-to-power-one b n = one-result (round binary64 false (pOf b 52 * 2 ^ n) (2 ^ 1086))

@@ -5,8 +5,19 @@
 // and L, `rules` for a refusal that the Rust lacks. A float is 16 hex digits of its bits, a text the hex digits of its bytes (`-`
 // for none), a refusal `!NUMBER DETAIL`.
 use base::Refusal;
+use integers::I16;
 use integers::I32;
 use integers::U32;
+use libc::STDOUT_FILENO;
+
+pub mod after;
+pub mod given;
+
+// The place of no field: where a line goes on after a field that differs.
+pub const LOST: usize = 18446744073709551615;
+
+// The most names of calls.
+const NAMES: usize = 16;
 
 pub enum Bits {
     Is(u64),
@@ -71,20 +82,21 @@ pub fn field(line: &[u8], at: usize) -> &[u8] {
     part
 }
 
-// Where the next field starts; the line's length after the last.
+// Where the next field starts; the line's length after the last. From there on there is no next.
 pub fn next(line: &[u8], at: usize) -> usize {
     let end = text::line::token_end(rest(line, at));
-    if at < line.len() {
-        if end < line.len() - at {
-            return at + end + 1;
-        }
+    if line.len() <= at {
+        return at;
+    }
+    if end < line.len() - at {
+        return at + end + 1;
     }
     line.len()
 }
 
-// Whether a line has no field left.
+// Whether a place is a line's end.
 pub fn is_end(line: &[u8], at: usize) -> bool {
-    line.len() <= at
+    line.len() == at
 }
 
 // Whether a field that is the same is the line's last.
@@ -192,6 +204,13 @@ pub fn is_i32(z: i32, line: &[u8], at: usize) -> bool {
     }
 }
 
+pub fn is_i16(z: i16, line: &[u8], at: usize) -> bool {
+    match integers::read_i16(field(line, at)) {
+        I16::Is(n) => z == n,
+        I16::IsNot => false,
+    }
+}
+
 pub fn is_u32(n: u32, line: &[u8], at: usize) -> bool {
     match integers::read_u32(field(line, at)) {
         U32::Is(m) => n == m,
@@ -242,26 +261,17 @@ pub fn is_refused(refusal: Refusal, line: &[u8], at: usize) -> bool {
     false
 }
 
-// Where the field after this refusal starts; the line's end where another stands there.
-pub fn after_refusal(refusal: Refusal, line: &[u8], at: usize) -> usize {
-    if is_refusal(refusal, line, at) {
-        return later(line, at, 2);
-    }
-    line.len()
-}
-
-// Where the field after this size starts; the line's end where another stands there.
-pub fn after_size(size: usize, line: &[u8], at: usize) -> usize {
-    if is_size(size, line, at) {
-        return next(line, at);
-    }
-    line.len()
-}
-
 // The first bytes, so many; all where there are fewer.
 pub fn first(bytes: &[u8], length: usize) -> &[u8] {
     if length <= bytes.len() {
         return &bytes[..length];
+    }
+    bytes
+}
+
+pub fn first_mut(bytes: &mut [u8], length: usize) -> &mut [u8] {
+    if length <= bytes.len() {
+        return &mut bytes[..length];
     }
     bytes
 }
@@ -341,7 +351,7 @@ pub fn is_hex(bytes: &[u8], room: usize, line: &[u8], at: usize) -> bool {
 }
 
 // Whether the first field of a line is one that says whose the answer is.
-pub fn is_who(line: &[u8]) -> bool {
+fn is_who(line: &[u8]) -> bool {
     let who = field(line, 0);
     if check::same(who, b"rust") {
         return true;
@@ -352,17 +362,45 @@ pub fn is_who(line: &[u8]) -> bool {
     check::same(who, b"rules")
 }
 
-// The counts with one line more.
-pub fn counted(counts: Counts, same: bool) -> Counts {
+// The number of a line's call among the names of calls, which stand as fields; for another name as many as there are, or more.
+pub fn call_of(line: &[u8], names: &[u8]) -> usize {
+    let name = field(line, next(line, 0));
+    let mut k = 0;
+    while k < NAMES {
+        if check::same(name, field(names, later(names, 0, k))) {
+            return k;
+        }
+        k += 1;
+    }
+    k
+}
+
+// Whether a line says whose the answer is, and the answer is the same.
+fn is_counted(line: &[u8], same: bool) -> bool {
     if same {
-        Counts {
+        return is_who(line);
+    }
+    false
+}
+
+// The counts with one line more, whose answer is the same or is not.
+pub fn counted(counts: Counts, line: &[u8], same: bool) -> Counts {
+    if is_counted(line, same) {
+        return Counts {
             same: std::num::wrapping_add_u64(counts.same, 1),
             differ: counts.differ,
-        }
-    } else {
-        Counts {
-            same: counts.same,
-            differ: std::num::wrapping_add_u64(counts.differ, 1),
-        }
+        };
     }
+    Counts {
+        same: counts.same,
+        differ: std::num::wrapping_add_u64(counts.differ, 1),
+    }
+}
+
+// Writes how many lines are the same and how many differ.
+pub fn print(counts: Counts) {
+    io::print_decimal(STDOUT_FILENO, counts.same);
+    io::write_all(STDOUT_FILENO, b" same, ");
+    io::print_decimal(STDOUT_FILENO, counts.differ);
+    io::write_all(STDOUT_FILENO, b" differ\n");
 }

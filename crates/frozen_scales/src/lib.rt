@@ -1,10 +1,5 @@
 // Scales in frozen lines (the crate `frozen` says how a line is written): seven columns of 16 places, held by value, each place seven fields
 // of a line: kind, cents, numerator, denominator, place, ratio, wraparounds.
-use frozen::Float;
-use frozen::Size;
-use integers::I32;
-use integers::U32;
-
 // How many places each column has.
 pub const PLACES: usize = 16;
 
@@ -33,12 +28,7 @@ pub struct Row {
     pub wraps: i32,
 }
 
-pub enum RowField {
-    Is(Row),
-    IsNot,
-}
-
-// Columns of a line, and where the next field starts: the line's end where they cannot be read.
+// Columns of a line, and where the next field starts.
 pub struct Table {
     pub items: Items,
     pub list: List,
@@ -141,32 +131,15 @@ fn with_entry(list: List, k: usize, row: Row) -> List {
     }
 }
 
-fn is_item(row: Row, line: &[u8], at: usize) -> bool {
-    if frozen::is_u32(row.kind as u32, line, at) {
-        if frozen::is_float(row.cents, line, frozen::later(line, at, 1)) {
-            if frozen::is_u32(row.numer, line, frozen::later(line, at, 2)) {
-                return frozen::is_u32(row.denom, line, frozen::later(line, at, 3));
-            }
-        }
-    }
-    false
-}
-
-fn is_entry(row: Row, line: &[u8], at: usize) -> bool {
-    if frozen::is_u32(row.place, line, at) {
-        if frozen::is_float(row.ratio, line, frozen::later(line, at, 1)) {
-            return frozen::is_i32(row.wraps, line, frozen::later(line, at, 2));
-        }
-    }
-    false
-}
-
-// Whether seven fields are this row.
-fn is_row(row: Row, line: &[u8], at: usize) -> bool {
-    if is_item(row, line, at) {
-        return is_entry(row, line, frozen::later(line, at, 4));
-    }
-    false
+// Where a line goes on after the seven fields of this row.
+fn after_row(row: Row, line: &[u8], at: usize) -> usize {
+    let cents = frozen::after::natural(row.kind as u32, line, at);
+    let numer = frozen::after::float(row.cents, line, cents);
+    let denom = frozen::after::natural(row.numer, line, numer);
+    let place = frozen::after::natural(row.denom, line, denom);
+    let ratio = frozen::after::natural(row.place, line, place);
+    let wraps = frozen::after::float(row.ratio, line, ratio);
+    frozen::after::int(row.wraps, line, wraps)
 }
 
 fn is_lent(row: Row) -> bool {
@@ -194,21 +167,12 @@ fn are_lent(items: Items, list: List, from: usize) -> bool {
 
 // Whether the first places are the last fields of a line, after their number, and those behind them are as lent.
 pub fn are_places(items: Items, list: List, line: &[u8], at: usize) -> bool {
-    let Size::Is(places) = frozen::size_of(line, at) else {
-        return false;
-    };
-    if PLACES < places {
-        return false;
-    }
-    let mut after = frozen::next(line, at);
+    let places = frozen::given::at_most(PLACES, line, at, 0);
+    let mut after = frozen::after::size(places, line, at);
     let mut k: usize = 0;
     while k < places {
-        if is_row(row_at(items, list, k), line, after) {
-            after = frozen::later(line, after, 7);
-            k += 1;
-        } else {
-            return false;
-        }
+        after = after_row(row_at(items, list, k), line, after);
+        k += 1;
     }
     if frozen::is_end(line, after) {
         return are_lent(items, list, places);
@@ -217,63 +181,31 @@ pub fn are_places(items: Items, list: List, line: &[u8], at: usize) -> bool {
 }
 
 // The row of seven fields.
-fn read_row(line: &[u8], at: usize) -> RowField {
-    let U32::Is(kind) = integers::read_u32(frozen::field(line, at)) else {
-        return RowField::IsNot;
-    };
-    let Float::Is(cents) = frozen::float_of(frozen::field(line, frozen::later(line, at, 1))) else {
-        return RowField::IsNot;
-    };
-    let U32::Is(numer) = integers::read_u32(frozen::field(line, frozen::later(line, at, 2))) else {
-        return RowField::IsNot;
-    };
-    let U32::Is(denom) = integers::read_u32(frozen::field(line, frozen::later(line, at, 3))) else {
-        return RowField::IsNot;
-    };
-    let U32::Is(place) = integers::read_u32(frozen::field(line, frozen::later(line, at, 4))) else {
-        return RowField::IsNot;
-    };
-    let Float::Is(ratio) = frozen::float_of(frozen::field(line, frozen::later(line, at, 5))) else {
-        return RowField::IsNot;
-    };
-    let I32::Is(wraps) = integers::read_i32(frozen::field(line, frozen::later(line, at, 6))) else {
-        return RowField::IsNot;
-    };
-    RowField::Is(Row {
+fn read_row(line: &[u8], at: usize) -> Row {
+    let kind = frozen::given::natural(line, at, 0);
+    Row {
         kind: (kind % 256) as u8,
-        cents,
-        numer,
-        denom,
-        place,
-        ratio,
-        wraps,
-    })
+        cents: frozen::given::float(line, at, 1),
+        numer: frozen::given::natural(line, at, 2),
+        denom: frozen::given::natural(line, at, 3),
+        place: frozen::given::natural(line, at, 4),
+        ratio: frozen::given::float(line, at, 5),
+        wraps: frozen::given::int(line, at, 6),
+    }
 }
 
 // Columns whose first places stand in a line, after their number; the others are as lent.
 pub fn read_columns(line: &[u8], at: usize) -> Table {
     let mut items = lent_items();
     let mut list = lent_list();
-    let Size::Is(places) = frozen::size_of(line, at) else {
-        return Table {
-            items,
-            list,
-            after: line.len(),
-        };
-    };
-    let mut after = frozen::next(line, at);
+    let places = frozen::given::at_most(PLACES, line, at, 0);
+    let mut after = frozen::after::size(places, line, at);
     let mut k: usize = 0;
     while k < places {
-        let RowField::Is(row) = read_row(line, after) else {
-            return Table {
-                items,
-                list,
-                after: line.len(),
-            };
-        };
+        let row = read_row(line, after);
         items = with_item(items, k, row);
         list = with_entry(list, k, row);
-        after = frozen::later(line, after, 7);
+        after = after_row(row, line, after);
         k += 1;
     }
     Table { items, list, after }

@@ -1,4 +1,4 @@
-// Refusals in words: the sentences of the crate `base`.
+// Refusals in words: the sentences of the crate `base`; that of 12 says how much room this program has.
 use libc::STDERR_FILENO;
 
 // The refusals of texts.
@@ -25,11 +25,11 @@ fn say_text(fd: i32, number: u32) {
 // The others.
 fn say_value(fd: i32, number: u32) {
     if number == base::UNUSABLE {
-        io::write_all(fd, b"a value that cannot be used");
+        io::write_all(fd, b"a value, a state or a lent table that cannot be used");
     } else if number == base::OVERFLOW {
         io::write_all(fd, b"a number leaves its type");
     } else if number == base::NO_ROOM {
-        io::write_all(fd, b"more than 8192 entries");
+        io::write_all(fd, b"more than 8191 items or 8192 entries");
     } else if number == base::TOO_LARGE {
         io::write_all(fd, b"over 65,535 entries");
     } else if number == base::INCONSISTENT_COUNT {

@@ -1,1 +1,2 @@
 pub mod Printable
+pub mod Theorems

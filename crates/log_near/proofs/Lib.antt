@@ -1,3 +1,4 @@
 pub mod Squares
 pub mod Crown
 pub mod Close
+pub mod Theorems

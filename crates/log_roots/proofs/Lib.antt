@@ -1,3 +1,5 @@
 pub mod Ratio
 pub mod Roots
 pub mod Rows
+pub mod One
+pub mod Theorems

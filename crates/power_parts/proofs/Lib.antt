@@ -1,3 +1,4 @@
 pub mod Bits
 pub mod Floors
 pub mod Groups
+pub mod One

@@ -3,3 +3,4 @@ pub mod Factors
 pub mod Entries
 pub mod Bound
 pub mod Turns
+pub mod Theorems

@@ -11,7 +11,6 @@ use frozen::Float;
 use frozen::Size;
 use integers::U16;
 use libc::STDIN_FILENO;
-use libc::STDOUT_FILENO;
 use pitch::Ratio;
 use scl::Scl;
 use scl::SclAnswer;
@@ -187,14 +186,10 @@ fn counted_all(list: &[u8]) -> Counts {
     let mut at: usize = 0;
     while at < list.len() {
         let line = frozen::line(list, at);
-        if frozen::is_who(line) {
-            counts = frozen::counted(counts, is_same(line));
-        } else {
-            counts = frozen::counted(counts, false);
-        }
+        counts = frozen::counted(counts, line, is_same(line));
         let following = frozen::following(list, at);
         if following <= at {
-            return frozen::counted(counts, false);
+            return frozen::counted(counts, line, false);
         }
         at = following;
     }
@@ -204,9 +199,5 @@ fn counted_all(list: &[u8]) -> Counts {
 fn main() {
     let mut list = io::large_buffer();
     let n = io::read_full(STDIN_FILENO, &mut list);
-    let counts = counted_all(&list[..n]);
-    io::print_decimal(STDOUT_FILENO, counts.same);
-    io::write_all(STDOUT_FILENO, b" same, ");
-    io::print_decimal(STDOUT_FILENO, counts.differ);
-    io::write_all(STDOUT_FILENO, b" differ\n");
+    frozen::print(counted_all(&list[..n]));
 }

@@ -4,13 +4,9 @@
 // Each call is lent seven columns of 16 places (the crate `frozen_scales`). An answer of a read or a build ends with a number of places, and
 // what stands in each of them after the call. All places behind them must be as before.
 use frozen::Counts;
-use frozen::Float;
-use frozen::Size;
 use frozen_scales::Items;
 use frozen_scales::List;
-use integers::U32;
 use libc::STDIN_FILENO;
-use libc::STDOUT_FILENO;
 use pitch::RatioAnswer;
 use scl_read::SclRead;
 use scl_read::SclReadAnswer;
@@ -18,54 +14,49 @@ use scl_read::SclReadAnswer;
 mod builders;
 mod exports;
 
-// The columns after a call, and where the line goes on after its answer.
-pub struct Done {
-    pub items: Items,
-    pub list: List,
-    pub after: usize,
-}
-
 // `ratio KIND CENTS NUMERATOR DENOMINATOR`: the ratio of the item, or a refusal.
 fn is_same_ratio(line: &[u8], at: usize) -> bool {
-    let U32::Is(kind) = integers::read_u32(frozen::field(line, at)) else {
-        return false;
+    let kind = frozen::given::at_most(255, line, at, 0);
+    let second = frozen::after::size(kind, line, at);
+    let cents = frozen::given::float(line, second, 0);
+    let third = frozen::after::float(cents, line, second);
+    let numer = frozen::given::natural(line, third, 0);
+    let last = frozen::after::natural(numer, line, third);
+    let denom = frozen::given::natural(line, last, 0);
+    let answer = frozen::after::natural(denom, line, last);
+    let item = scl::item_of((kind % 256) as u8, cents, numer, denom);
+    let after = match item.as_ratio() {
+        RatioAnswer::Is(ratio) => frozen::after::float(ratio.0, line, answer),
+        RatioAnswer::Refused(refusal) => frozen::after::refusal(refusal, line, answer),
     };
-    let Float::Is(cents) = frozen::float_of(frozen::field(line, frozen::later(line, at, 1))) else {
-        return false;
-    };
-    let U32::Is(numer) = integers::read_u32(frozen::field(line, frozen::later(line, at, 2))) else {
-        return false;
-    };
-    let U32::Is(denom) = integers::read_u32(frozen::field(line, frozen::later(line, at, 3))) else {
-        return false;
-    };
-    let answer = frozen::later(line, at, 4);
-    match scl::item_of((kind % 256) as u8, cents, numer, denom).as_ratio() {
-        RatioAnswer::Is(ratio) => {
-            frozen::is_last(frozen::is_float(ratio.0, line, answer), line, answer)
-        }
-        RatioAnswer::Refused(refusal) => frozen::is_refused(refusal, line, answer),
-    }
+    frozen::is_end(line, after)
 }
 
 // Where the field after a scale that was read starts: its count, and the start and end of its description.
-fn after_read(read: SclRead, line: &[u8], at: usize) -> usize {
+fn after_scale(read: SclRead, line: &[u8], at: usize) -> usize {
     let scl = read.scl;
     let description = read.description;
-    let count = frozen::after_size(scl.count as usize, line, at);
-    let start = frozen::after_size(description.start, line, count);
-    frozen::after_size(description.end, line, start)
+    let start = frozen::after::natural(scl.count as u32, line, at);
+    let end = frozen::after::size(description.start, line, start);
+    frozen::after::size(description.end, line, end)
 }
 
-// The text read into these columns, beside its answer.
-fn read(items: Items, list: List, text: &[u8], line: &[u8], answer: usize) -> Done {
-    let mut kind = items.kind;
-    let mut cents = items.cents;
-    let mut numer = items.numer;
-    let mut denom = items.denom;
-    let mut place = list.place;
-    let mut ratio = list.ratio;
-    let mut wraps = list.wraps;
+fn after_read(said: SclReadAnswer, line: &[u8], at: usize) -> usize {
+    match said {
+        SclReadAnswer::Is(scale) => after_scale(scale, line, at),
+        SclReadAnswer::Refused(refusal) => frozen::after::refusal(refusal, line, at),
+    }
+}
+
+// The text read into columns, beside its answer, and the places.
+fn is_read(text: &[u8], line: &[u8], answer: usize) -> bool {
+    let mut kind = [9u8; 16];
+    let mut cents = [2.0; 16];
+    let mut numer = [7u32; 16];
+    let mut denom = [7u32; 16];
+    let mut place = [8u32; 16];
+    let mut ratio = [0.5; 16];
+    let mut wraps = [8; 16];
     let said = scl_read::read_scl(
         text,
         &mut kind,
@@ -76,10 +67,6 @@ fn read(items: Items, list: List, text: &[u8], line: &[u8], answer: usize) -> Do
         &mut ratio,
         &mut wraps,
     );
-    let after = match said {
-        SclReadAnswer::Is(scale) => after_read(scale, line, answer),
-        SclReadAnswer::Refused(refusal) => frozen::after_refusal(refusal, line, answer),
-    };
     let items = Items {
         kind,
         cents,
@@ -91,50 +78,30 @@ fn read(items: Items, list: List, text: &[u8], line: &[u8], answer: usize) -> Do
         ratio,
         wraps,
     };
-    Done { items, list, after }
+    frozen_scales::are_places(items, list, line, after_read(said, line, answer))
 }
 
 // `read TEXT`: count, start and end of the description, or a refusal; then the places.
 fn is_same_read(line: &[u8], at: usize) -> bool {
     let mut text = [238u8; 512];
-    let Size::Is(length) = frozen::unhex(line, at, &mut text) else {
-        return false;
-    };
-    let done = read(
-        frozen_scales::lent_items(),
-        frozen_scales::lent_list(),
-        frozen::first(&text, length),
-        line,
-        frozen::next(line, at),
-    );
-    let items = done.items;
-    let list = done.list;
-    frozen_scales::are_places(items, list, line, done.after)
+    let length = frozen::given::bytes(line, at, &mut text);
+    let answer = frozen::after::bytes(&text, length, line, at);
+    is_read(frozen::first(&text, length), line, answer)
 }
 
 // Whether a call gives the answer of its line.
 fn is_same(line: &[u8]) -> bool {
-    let name = frozen::field(line, frozen::next(line, 0));
+    let call = frozen::call_of(line, b"ratio read export build push finish");
     let at = frozen::later(line, 0, 2);
-    if check::same(name, b"ratio") {
-        return is_same_ratio(line, at);
+    match call {
+        0 => is_same_ratio(line, at),
+        1 => is_same_read(line, at),
+        2 => exports::is_same_export(line, at),
+        3 => builders::is_same_build(line, at),
+        4 => builders::is_same_push(line, at),
+        5 => builders::is_same_finish(line, at),
+        _ => false,
     }
-    if check::same(name, b"read") {
-        return is_same_read(line, at);
-    }
-    if check::same(name, b"export") {
-        return exports::is_same_export(line, at);
-    }
-    if check::same(name, b"build") {
-        return builders::is_same_build(line, at);
-    }
-    if check::same(name, b"push") {
-        return builders::is_same_push(line, at);
-    }
-    if check::same(name, b"finish") {
-        return builders::is_same_finish(line, at);
-    }
-    false
 }
 
 // The counts of all lines.
@@ -143,14 +110,10 @@ fn counted_all(list: &[u8]) -> Counts {
     let mut at: usize = 0;
     while at < list.len() {
         let line = frozen::line(list, at);
-        if frozen::is_who(line) {
-            counts = frozen::counted(counts, is_same(line));
-        } else {
-            counts = frozen::counted(counts, false);
-        }
+        counts = frozen::counted(counts, line, is_same(line));
         let following = frozen::following(list, at);
         if following <= at {
-            return frozen::counted(counts, false);
+            return frozen::counted(counts, line, false);
         }
         at = following;
     }
@@ -160,9 +123,5 @@ fn counted_all(list: &[u8]) -> Counts {
 fn main() {
     let mut list = io::large_buffer();
     let n = io::read_full(STDIN_FILENO, &mut list);
-    let counts = counted_all(&list[..n]);
-    io::print_decimal(STDOUT_FILENO, counts.same);
-    io::write_all(STDOUT_FILENO, b" same, ");
-    io::print_decimal(STDOUT_FILENO, counts.differ);
-    io::write_all(STDOUT_FILENO, b" differ\n");
+    frozen::print(counted_all(&list[..n]));
 }

@@ -5,7 +5,6 @@
 // a key, a ratio or a pitch, and the scale's columns (the crate `frozen_scales`). What a call does not take is 0.
 use frozen::Counts;
 use libc::STDIN_FILENO;
-use libc::STDOUT_FILENO;
 
 mod asked;
 mod computed;
@@ -14,24 +13,19 @@ mod scaled;
 
 // Whether a call gives the answer of its line.
 fn is_same(line: &[u8]) -> bool {
-    let name = frozen::field(line, frozen::next(line, 0));
+    let call = frozen::call_of(
+        line,
+        b"harmonics rank2 maybe_key maybe_degree run period relative degree key sorted_relative sorted_pitch find find_sorted find_pitch find_pitch_sorted find_key",
+    );
     let at = frozen::later(line, 0, 2);
-    if check::same(name, b"harmonics") {
-        return computed::is_same_segment(line, at);
+    match call {
+        0 => computed::is_same_segment(line, at),
+        1 => computed::is_same_temperament(line, at),
+        2 => mapped::is_same_mapped(line, at, true),
+        3 => mapped::is_same_mapped(line, at, false),
+        4 => mapped::is_same_run(line, at),
+        _ => scaled::is_same_scaled(call, line, at),
     }
-    if check::same(name, b"rank2") {
-        return computed::is_same_temperament(line, at);
-    }
-    if check::same(name, b"maybe_key") {
-        return mapped::is_same_key(line, at);
-    }
-    if check::same(name, b"maybe_degree") {
-        return mapped::is_same_degree(line, at);
-    }
-    if check::same(name, b"run") {
-        return mapped::is_same_run(line, at);
-    }
-    scaled::is_same_scaled(name, line, at)
 }
 
 // The counts of all lines.
@@ -40,14 +34,10 @@ fn counted_all(list: &[u8]) -> Counts {
     let mut at: usize = 0;
     while at < list.len() {
         let line = frozen::line(list, at);
-        if frozen::is_who(line) {
-            counts = frozen::counted(counts, is_same(line));
-        } else {
-            counts = frozen::counted(counts, false);
-        }
+        counts = frozen::counted(counts, line, is_same(line));
         let following = frozen::following(list, at);
         if following <= at {
-            return frozen::counted(counts, false);
+            return frozen::counted(counts, line, false);
         }
         at = following;
     }
@@ -57,9 +47,5 @@ fn counted_all(list: &[u8]) -> Counts {
 fn main() {
     let mut list = io::large_buffer();
     let n = io::read_full(STDIN_FILENO, &mut list);
-    let counts = counted_all(&list[..n]);
-    io::print_decimal(STDOUT_FILENO, counts.same);
-    io::write_all(STDOUT_FILENO, b" same, ");
-    io::print_decimal(STDOUT_FILENO, counts.differ);
-    io::write_all(STDOUT_FILENO, b" differ\n");
+    frozen::print(counted_all(&list[..n]));
 }

@@ -1,14 +1,7 @@
 // Pitches through a mapping. A line is `WHO CALL COUNT REFERENCE HZ OFFSET NUMBER X SIZE START END OCTAVE ENTRIES .. PLACES .. ANSWER`; that
 // of a run has the number of keys before PLACES, and ends with all 8 places of its pitches and numbers. The table has 8 places.
 use crate::asked::Asked;
-use crate::asked::AskedFields;
-use crate::asked::Outcome;
-use frozen::Size;
 use frozen_scales::Items;
-use integers::I16;
-use integers::I32;
-use integers::U16;
-use integers::U32;
 use kbm::Kbm;
 use key::Degree;
 use key::PianoKey;
@@ -18,12 +11,15 @@ use scl::Scl;
 // How many places a mapping's table and a run have.
 const PLACES: usize = 8;
 
-enum Numbers {
-    Is(Kbm),
-    IsNot,
+// What a line asks of a mapping, and where the next field starts.
+struct Mapped {
+    of: Asked,
+    kbm: Kbm,
+    map: [i32; 8],
+    after: usize,
 }
 
-// A table of a line, and where the next field starts: the line's end where it cannot be read.
+// A table of a line, and where the next field starts.
 struct Map {
     map: [i32; 8],
     after: usize,
@@ -37,113 +33,114 @@ struct Sounds {
 }
 
 // The mapping of a root and four fields.
-fn read_numbers(of: Asked, line: &[u8], at: usize) -> Numbers {
-    let U16::Is(count) = integers::read_u16(frozen::field(line, at)) else {
-        return Numbers::IsNot;
-    };
-    let I32::Is(start) = integers::read_i32(frozen::field(line, frozen::later(line, at, 1))) else {
-        return Numbers::IsNot;
-    };
-    let I32::Is(end) = integers::read_i32(frozen::field(line, frozen::later(line, at, 2))) else {
-        return Numbers::IsNot;
-    };
-    let I16::Is(octave) = integers::read_i16(frozen::field(line, frozen::later(line, at, 3))) else {
-        return Numbers::IsNot;
-    };
+fn read_numbers(of: Asked, line: &[u8], at: usize) -> Kbm {
     let root = of.root;
-    Numbers::Is(Kbm {
+    Kbm {
         root,
-        start: PianoKey(start),
-        end: PianoKey(end),
-        octave,
-        count,
-    })
+        start: PianoKey(frozen::given::int(line, at, 1)),
+        end: PianoKey(frozen::given::int(line, at, 2)),
+        octave: frozen::given::short(line, at, 3),
+        count: frozen::given::count(line, at, 0),
+    }
+}
+
+// Where the line goes on after the four fields of this mapping.
+fn after_numbers(kbm: Kbm, line: &[u8], at: usize) -> usize {
+    let start = kbm.start;
+    let end = kbm.end;
+    let second = frozen::after::natural(kbm.count as u32, line, at);
+    let third = frozen::after::int(start.0, line, second);
+    let last = frozen::after::int(end.0, line, third);
+    frozen::after::short(kbm.octave, line, last)
 }
 
 fn read_map(line: &[u8], at: usize) -> Map {
     let mut map = [0; 8];
-    let Size::Is(entries) = frozen::size_of(line, at) else {
-        return Map {
-            map,
-            after: line.len(),
-        };
-    };
-    let mut after = frozen::next(line, at);
+    let entries = frozen::given::at_most(PLACES, line, at, 0);
+    let mut after = frozen::after::size(entries, line, at);
     let mut k: usize = 0;
     while k < entries {
-        let I32::Is(entry) = integers::read_i32(frozen::field(line, after)) else {
-            return Map {
-                map,
-                after: line.len(),
-            };
-        };
+        let entry = frozen::given::int(line, after, 0);
+        after = frozen::after::int(entry, line, after);
         if k < PLACES {
             map[k] = entry;
         }
-        after = frozen::next(line, after);
         k += 1;
     }
     Map { map, after }
 }
 
-// The pitch of a key, or of a degree of the mapping.
-fn pitch(items: Items, m: Map, of: Asked, kbm: Kbm, by_key: bool) -> Outcome {
+fn read_mapped(line: &[u8], at: usize) -> Mapped {
+    let of = crate::asked::read_asked(line, at);
+    let size = crate::asked::after_asked(of, line, at);
+    let kbm = read_numbers(of, line, size);
+    let table = read_map(line, after_numbers(kbm, line, size));
+    let map = table.map;
+    Mapped {
+        of,
+        kbm,
+        map,
+        after: table.after,
+    }
+}
+
+// Where the line goes on after the pitch of a key, or of a degree of the mapping.
+fn after_pitch(
+    k: &[u8],
+    e: &[f64],
+    n: &[u32],
+    d: &[u32],
+    kbm: Kbm,
+    map: &[i32],
+    of: Asked,
+    by_key: bool,
+    line: &[u8],
+    at: usize,
+) -> usize {
+    let scl = Scl { count: of.count };
+    let number = of.number;
+    let said = if by_key {
+        tuning::maybe_pitch_of(scl, k, e, n, d, kbm, map, PianoKey(number))
+    } else {
+        tuning::maybe_pitch_of_degree(scl, k, e, n, d, kbm, map, Degree(number))
+    };
+    crate::asked::after_pitch(said, line, at)
+}
+
+// The same on these columns.
+fn after_mapped(items: Items, m: Mapped, by_key: bool, line: &[u8], at: usize) -> usize {
     let k = items.kind;
     let e = items.cents;
     let n = items.numer;
     let d = items.denom;
     let map = m.map;
-    let scl = Scl { count: of.count };
-    if by_key {
-        let key = PianoKey(of.number);
-        return crate::asked::of_pitch(tuning::maybe_pitch_of(scl, &k, &e, &n, &d, kbm, &map, key));
-    }
-    let degree = Degree(of.number);
-    crate::asked::of_pitch(tuning::maybe_pitch_of_degree(scl, &k, &e, &n, &d, kbm, &map, degree))
+    after_pitch(&k, &e, &n, &d, m.kbm, &map, m.of, by_key, line, at)
 }
 
-fn is_same_mapped(line: &[u8], at: usize, by_key: bool) -> bool {
-    let AskedFields::Is(of) = crate::asked::read_asked(line, at) else {
-        return false;
-    };
-    let Numbers::Is(kbm) = read_numbers(of, line, frozen::later(line, at, 6)) else {
-        return false;
-    };
-    let map = read_map(line, frozen::later(line, at, 10));
-    let table = frozen_scales::read_columns(line, map.after);
+// Of `maybe_key`, and of `maybe_degree`.
+pub fn is_same_mapped(line: &[u8], at: usize, by_key: bool) -> bool {
+    let mapped = read_mapped(line, at);
+    let table = frozen_scales::read_columns(line, mapped.after);
     let items = table.items;
-    let said = pitch(items, map, of, kbm, by_key);
-    crate::asked::is_outcome(said, line, table.after)
-}
-
-pub fn is_same_key(line: &[u8], at: usize) -> bool {
-    is_same_mapped(line, at, true)
-}
-
-pub fn is_same_degree(line: &[u8], at: usize) -> bool {
-    is_same_mapped(line, at, false)
+    frozen::is_end(line, after_mapped(items, mapped, by_key, line, table.after))
 }
 
 // Where the line goes on after the answer of a run, `done` or a refusal.
 fn after_run(said: RunAnswer, line: &[u8], at: usize) -> usize {
     match said {
-        RunAnswer::Done => {
-            if check::same(frozen::field(line, at), b"done") {
-                return frozen::next(line, at);
-            }
-            line.len()
-        }
-        RunAnswer::Refused(refusal) => frozen::after_refusal(refusal, line, at),
+        RunAnswer::Done => frozen::after::word(b"done", line, at),
+        RunAnswer::Refused(refusal) => frozen::after::refusal(refusal, line, at),
     }
 }
 
 // A run of so many keys into places of these rooms, beside its answer.
-fn run(items: Items, m: Map, of: Asked, kbm: Kbm, keys: u32, line: &[u8], answer: usize) -> Sounds {
+fn run(items: Items, m: Mapped, keys: u32, line: &[u8], answer: usize) -> Sounds {
     let k = items.kind;
     let e = items.cents;
     let n = items.numer;
     let d = items.denom;
     let map = m.map;
+    let of = m.of;
     let mut hz = [0.5; 8];
     let mut numbers = [99u32; 8];
     let said = key_pitches::pitches_of(
@@ -152,7 +149,7 @@ fn run(items: Items, m: Map, of: Asked, kbm: Kbm, keys: u32, line: &[u8], answer
         &e,
         &n,
         &d,
-        kbm,
+        m.kbm,
         &map,
         PianoKey(of.number),
         keys,
@@ -170,34 +167,18 @@ fn are_sounds(done: Sounds, line: &[u8]) -> bool {
     let mut at = done.after;
     let mut k: usize = 0;
     while k < PLACES {
-        if frozen::is_float(hz[k], line, at) {
-            at = frozen::next(line, at);
-        } else {
-            return false;
-        }
-        if frozen::is_u32(numbers[k], line, at) {
-            at = frozen::next(line, at);
-        } else {
-            return false;
-        }
+        at = frozen::after::float(hz[k], line, at);
+        at = frozen::after::natural(numbers[k], line, at);
         k += 1;
     }
     frozen::is_end(line, at)
 }
 
 pub fn is_same_run(line: &[u8], at: usize) -> bool {
-    let AskedFields::Is(of) = crate::asked::read_asked(line, at) else {
-        return false;
-    };
-    let Numbers::Is(kbm) = read_numbers(of, line, frozen::later(line, at, 6)) else {
-        return false;
-    };
-    let map = read_map(line, frozen::later(line, at, 10));
-    let U32::Is(keys) = integers::read_u32(frozen::field(line, map.after)) else {
-        return false;
-    };
-    let table = frozen_scales::read_columns(line, frozen::next(line, map.after));
+    let mapped = read_mapped(line, at);
+    let keys = frozen::given::natural(line, mapped.after, 0);
+    let after = frozen::after::natural(keys, line, mapped.after);
+    let table = frozen_scales::read_columns(line, after);
     let items = table.items;
-    let done = run(items, map, of, kbm, keys, line, table.after);
-    are_sounds(done, line)
+    are_sounds(run(items, mapped, keys, line, table.after), line)
 }

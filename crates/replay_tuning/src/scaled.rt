@@ -1,7 +1,5 @@
-// Pitches and searches in a scale.
+// Pitches and searches in a scale. A call goes by its number among the names of `main.rt`.
 use crate::asked::Asked;
-use crate::asked::AskedFields;
-use crate::asked::Outcome;
 use frozen_scales::Items;
 use frozen_scales::List;
 use key::Degree;
@@ -10,106 +8,41 @@ use pitch::Pitch;
 use pitch::Ratio;
 use scl::Scl;
 
-enum Call {
-    Period,
-    Relative,
-    Degree,
-    Key,
-    SortedRelative,
-    SortedPitch,
-    Find,
-    FindSorted,
-    FindPitch,
-    FindPitchSorted,
-    FindKey,
-    Unknown,
-}
-
-fn call_of(name: &[u8]) -> Call {
-    if check::same(name, b"period") {
-        return Call::Period;
-    }
-    if check::same(name, b"relative") {
-        return Call::Relative;
-    }
-    if check::same(name, b"degree") {
-        return Call::Degree;
-    }
-    if check::same(name, b"key") {
-        return Call::Key;
-    }
-    if check::same(name, b"sorted_relative") {
-        return Call::SortedRelative;
-    }
-    if check::same(name, b"sorted_pitch") {
-        return Call::SortedPitch;
-    }
-    search_of(name)
-}
-
-fn search_of(name: &[u8]) -> Call {
-    if check::same(name, b"find") {
-        return Call::Find;
-    }
-    if check::same(name, b"find_sorted") {
-        return Call::FindSorted;
-    }
-    if check::same(name, b"find_pitch") {
-        return Call::FindPitch;
-    }
-    if check::same(name, b"find_pitch_sorted") {
-        return Call::FindPitchSorted;
-    }
-    if check::same(name, b"find_key") {
-        return Call::FindKey;
-    }
-    Call::Unknown
-}
-
-// The calls that take the items alone; for another an answer that no line has.
-fn of_items(
-    kind: &[u8],
-    cents: &[f64],
-    numer: &[u32],
-    denom: &[u32],
-    call: Call,
+// Where the line goes on after the answer of a call that takes the items alone: `period`, `relative`, `degree`, `key`.
+fn after_items(
+    k: &[u8],
+    e: &[f64],
+    n: &[u32],
+    d: &[u32],
+    call: usize,
     of: Asked,
-) -> Outcome {
+    line: &[u8],
+    at: usize,
+) -> usize {
     let scl = Scl { count: of.count };
+    let degree = Degree(of.number);
     match call {
-        Call::Period => crate::asked::of_ratio(relative::period(scl, kind, cents, numer, denom)),
-        Call::Relative => crate::asked::of_ratio(relative::relative_pitch_of(
-            scl,
-            kind,
-            cents,
-            numer,
-            denom,
-            Degree(of.number),
-        )),
-        Call::Degree => crate::asked::of_pitch(tuning::pitch_of(
-            scl,
-            kind,
-            cents,
-            numer,
-            denom,
-            of.root,
-            Degree(of.number),
-        )),
-        Call::Key => crate::asked::of_pitch(tuning::pitch_of_key(
-            scl,
-            kind,
-            cents,
-            numer,
-            denom,
-            of.root,
-            PianoKey(of.number),
-        )),
-        _ => Outcome::Refused(frozen::NO_SUCH),
+        5 => crate::asked::after_ratio(relative::period(scl, k, e, n, d), line, at),
+        6 => crate::asked::after_ratio(
+            relative::relative_pitch_of(scl, k, e, n, d, degree),
+            line,
+            at,
+        ),
+        7 => crate::asked::after_pitch(
+            tuning::pitch_of(scl, k, e, n, d, of.root, degree),
+            line,
+            at,
+        ),
+        _ => crate::asked::after_pitch(
+            tuning::pitch_of_key(scl, k, e, n, d, of.root, PianoKey(of.number)),
+            line,
+            at,
+        ),
     }
 }
 
-// Those that take the list too.
-fn of_scale(
+// Of a search: `find`, `find_sorted`, `find_pitch`, `find_pitch_sorted`, `find_key`. After another call no field is there.
+fn after_search(
     k: &[u8],
     e: &[f64],
     n: &[u32],
@@ -117,102 +50,62 @@ fn of_scale(
     p: &[u32],
     r: &[f64],
     w: &[i32],
-    call: Call,
+    call: usize,
     of: Asked,
-) -> Outcome {
+    line: &[u8],
+    at: usize,
+) -> usize {
     let scl = Scl { count: of.count };
-    let at = Degree(of.number);
-    let root = of.root;
     let x = Ratio(of.x);
     let hz = Pitch(of.x);
+    let said = match call {
+        11 => finding::find_by_relative_pitch(scl, k, e, n, d, p, r, w, x),
+        12 => finding::find_by_relative_pitch_sorted(scl, k, e, n, d, p, r, w, x),
+        13 => finding::find_by_pitch(scl, k, e, n, d, p, r, w, of.root, hz),
+        14 => finding::find_by_pitch_sorted(scl, k, e, n, d, p, r, w, of.root, hz),
+        15 => {
+            let key = finding::find_key_by_pitch(scl, k, e, n, d, p, r, w, of.root, hz);
+            return crate::asked::after_key(key, line, at);
+        }
+        _ => return frozen::LOST,
+    };
+    crate::asked::after_degree(said, line, at)
+}
+
+// Of any of these and of `sorted_relative`, `sorted_pitch`.
+fn after_call(
+    k: &[u8],
+    e: &[f64],
+    n: &[u32],
+    d: &[u32],
+    p: &[u32],
+    r: &[f64],
+    w: &[i32],
+    call: usize,
+    of: Asked,
+    line: &[u8],
+    at: usize,
+) -> usize {
+    let scl = Scl { count: of.count };
+    let degree = Degree(of.number);
     match call {
-        Call::SortedRelative => crate::asked::of_ratio(relative::sorted_relative_pitch_of(
-            scl,
-            k,
-            e,
-            n,
-            d,
-            p,
-            r,
-            w,
+        9 => crate::asked::after_ratio(
+            relative::sorted_relative_pitch_of(scl, k, e, n, d, p, r, w, degree),
+            line,
             at,
-        )),
-        Call::SortedPitch => crate::asked::of_pitch(tuning::sorted_pitch_of(
-            scl,
-            k,
-            e,
-            n,
-            d,
-            p,
-            r,
-            w,
-            root,
+        ),
+        10 => crate::asked::after_pitch(
+            tuning::sorted_pitch_of(scl, k, e, n, d, p, r, w, of.root, degree),
+            line,
             at,
-        )),
-        Call::Find => crate::asked::of_degree(finding::find_by_relative_pitch(
-            scl,
-            k,
-            e,
-            n,
-            d,
-            p,
-            r,
-            w,
-            x,
-        )),
-        Call::FindSorted => crate::asked::of_degree(finding::find_by_relative_pitch_sorted(
-            scl,
-            k,
-            e,
-            n,
-            d,
-            p,
-            r,
-            w,
-            x,
-        )),
-        Call::FindPitch => crate::asked::of_degree(finding::find_by_pitch(
-            scl,
-            k,
-            e,
-            n,
-            d,
-            p,
-            r,
-            w,
-            root,
-            hz,
-        )),
-        Call::FindPitchSorted => crate::asked::of_degree(finding::find_by_pitch_sorted(
-            scl,
-            k,
-            e,
-            n,
-            d,
-            p,
-            r,
-            w,
-            root,
-            hz,
-        )),
-        Call::FindKey => crate::asked::of_key(finding::find_key_by_pitch(
-            scl,
-            k,
-            e,
-            n,
-            d,
-            p,
-            r,
-            w,
-            root,
-            hz,
-        )),
-        _ => of_items(k, e, n, d, call, of),
+        ),
+        5..=8 => after_items(k, e, n, d, call, of, line, at),
+        _ => after_search(k, e, n, d, p, r, w, call, of, line, at),
     }
 }
 
-// What a call answers on these columns.
-fn said(items: Items, list: List, call: Call, of: Asked) -> Outcome {
+// The same on these columns.
+fn after_scaled(items: Items, list: List, call: usize, of: Asked, line: &[u8], at: usize) -> usize {
     let kind = items.kind;
     let cents = items.cents;
     let numer = items.numer;
@@ -220,7 +113,7 @@ fn said(items: Items, list: List, call: Call, of: Asked) -> Outcome {
     let place = list.place;
     let ratio = list.ratio;
     let wraps = list.wraps;
-    of_scale(
+    after_call(
         &kind,
         &cents,
         &numer,
@@ -230,16 +123,15 @@ fn said(items: Items, list: List, call: Call, of: Asked) -> Outcome {
         &wraps,
         call,
         of,
+        line,
+        at,
     )
 }
 
-pub fn is_same_scaled(name: &[u8], line: &[u8], at: usize) -> bool {
-    let AskedFields::Is(of) = crate::asked::read_asked(line, at) else {
-        return false;
-    };
-    let table = frozen_scales::read_columns(line, frozen::later(line, at, 6));
+pub fn is_same_scaled(call: usize, line: &[u8], at: usize) -> bool {
+    let of = crate::asked::read_asked(line, at);
+    let table = frozen_scales::read_columns(line, crate::asked::after_asked(of, line, at));
     let items = table.items;
     let list = table.list;
-    let outcome = said(items, list, call_of(name), of);
-    crate::asked::is_outcome(outcome, line, table.after)
+    frozen::is_end(line, after_scaled(items, list, call, of, line, table.after))
 }

@@ -16,20 +16,11 @@ lent-items-requires c κs = search needs
 lent-list-requires : tie.Need-lent-list-requires Inv-loop μ-loop
 lent-list-requires c κs = search needs
 
-size-of-requires : tie.Need-size-of-requires Inv-loop μ-loop
-size-of-requires c κs = search needs
+at-most-requires : tie.Need-at-most-requires Inv-loop μ-loop
+at-most-requires c κs = search needs
 
-enum-known-places : tie.Need-enum-known-places Inv-loop μ-loop
-enum-known-places c = search needs
-
-enum-told : tie.Need-enum-told Inv-loop μ-loop
-enum-told c = search needs
-
-returns : tie.Need-returns Inv-loop μ-loop
-returns c = search needs
-
-next-requires : tie.Need-next-requires Inv-loop μ-loop
-next-requires c κs = search needs
+size-requires : tie.Need-size-requires Inv-loop μ-loop
+size-requires c κs = search needs
 
 loop-holds : tie.Need-loop-holds Inv-loop μ-loop
 loop-holds c = tt
@@ -37,23 +28,14 @@ loop-holds c = tt
 read-row-requires : tie.Need-read-row-requires Inv-loop μ-loop
 read-row-requires c κs = search needs
 
-enum-known-row : tie.Need-enum-known-row Inv-loop μ-loop
-enum-known-row c = search needs
-
-enum-told-2 : tie.Need-enum-told-2 Inv-loop μ-loop
-enum-told-2 c = search needs
-
-returns-2 : tie.Need-returns-2 Inv-loop μ-loop
-returns-2 c = search needs
-
 with-item-requires : tie.Need-with-item-requires Inv-loop μ-loop
 with-item-requires c κs = search needs
 
 with-entry-requires : tie.Need-with-entry-requires Inv-loop μ-loop
 with-entry-requires c κs = search needs
 
-later-requires : tie.Need-later-requires Inv-loop μ-loop
-later-requires c κs = search needs
+after-row-requires : tie.Need-after-row-requires Inv-loop μ-loop
+after-row-requires c κs = search needs
 
 add-k : tie.Need-add-k Inv-loop μ-loop
 add-k c = search needs
@@ -64,8 +46,8 @@ loop-less c = search needs
 loop-again : tie.Need-loop-again Inv-loop μ-loop
 loop-again c = tt
 
-returns-3 : tie.Need-returns-3 Inv-loop μ-loop
-returns-3 c = search needs
+returns : tie.Need-returns Inv-loop μ-loop
+returns c = search needs
 
 pub read-columns-spec : {M : Type 1} → statement M
 read-columns-spec =
@@ -75,20 +57,14 @@ read-columns-spec =
     μ-loop
     lent-items-requires
     lent-list-requires
-    size-of-requires
-    enum-known-places
-    enum-told
-    returns
-    next-requires
+    at-most-requires
+    size-requires
     loop-holds
     read-row-requires
-    enum-known-row
-    enum-told-2
-    returns-2
     with-item-requires
     with-entry-requires
-    later-requires
+    after-row-requires
     add-k
     loop-less
     loop-again
-    returns-3)
+    returns)

@@ -5,31 +5,22 @@ use Rattle.replay_scl.proofs.builders.run.Statement.{statement}
 use Rattle.replay_scl.proofs.builders.run.Tie as tie
 
 abbrev Inv-loop : tie.InvT-loop
-Inv-loop steps line from answers items₀ list₀ builder₀ at₀ answer₀ k₀ items list builder at answer k = Unit {0}
+Inv-loop steps line from answer done₀ at₀ k₀ done at k = Unit {0}
 
 abbrev μ-loop : tie.MeasureT-loop
-μ-loop steps line from answers items₀ list₀ builder₀ at₀ answer₀ k₀ items list builder at answer k = steps - k
+μ-loop steps line from answer done₀ at₀ k₀ done at k = steps - k
 
 lent-items-requires : tie.Need-lent-items-requires Inv-loop μ-loop
 lent-items-requires c κs = search needs
 
-lent-list-requires : tie.Need-lent-list-requires Inv-loop μ-loop
-lent-list-requires c κs = search needs
+after-steps-requires : tie.Need-after-steps-requires Inv-loop μ-loop
+after-steps-requires c κs = search needs
 
 loop-holds : tie.Need-loop-holds Inv-loop μ-loop
 loop-holds c = tt
 
-read-step-requires : tie.Need-read-step-requires Inv-loop μ-loop
-read-step-requires c κs = search needs
-
-step-on-requires : tie.Need-step-on-requires Inv-loop μ-loop
-step-on-requires c κs = search needs
-
-after-push-requires : tie.Need-after-push-requires Inv-loop μ-loop
-after-push-requires c κs = search needs
-
-kept-requires : tie.Need-kept-requires Inv-loop μ-loop
-kept-requires c κs = search needs
+with-step-requires : tie.Need-with-step-requires Inv-loop μ-loop
+with-step-requires c κs = search needs
 
 later-requires : tie.Need-later-requires Inv-loop μ-loop
 later-requires c κs = search needs
@@ -43,9 +34,6 @@ loop-less c = search needs
 loop-again : tie.Need-loop-again Inv-loop μ-loop
 loop-again c = tt
 
-built-requires : tie.Need-built-requires Inv-loop μ-loop
-built-requires c κs = search needs
-
 returns : tie.Need-returns Inv-loop μ-loop
 returns c = search needs
 
@@ -56,15 +44,11 @@ run-spec =
     Inv-loop
     μ-loop
     lent-items-requires
-    lent-list-requires
+    after-steps-requires
     loop-holds
-    read-step-requires
-    step-on-requires
-    after-push-requires
-    kept-requires
+    with-step-requires
     later-requires
     add-k
     loop-less
     loop-again
-    built-requires
     returns)

@@ -13,35 +13,23 @@ abbrev μ-loop : tie.MeasureT-loop
 loop-holds : tie.Need-loop-holds Inv-loop μ-loop
 loop-holds c = tt
 
-mul-is-float : tie.Need-mul-is-float Inv-loop μ-loop
-mul-is-float c = search needs
+mul-float : tie.Need-mul-float Inv-loop μ-loop
+mul-float c = search needs
 
-array-read-is-float : tie.Need-array-read-is-float Inv-loop μ-loop
-array-read-is-float c = search needs
+array-read-float : tie.Need-array-read-float Inv-loop μ-loop
+array-read-float c = search needs
 
-is-float-requires : tie.Need-is-float-requires Inv-loop μ-loop
-is-float-requires c κs = search needs
+float-requires : tie.Need-float-requires Inv-loop μ-loop
+float-requires c κs = search needs
 
-next-requires : tie.Need-next-requires Inv-loop μ-loop
-next-requires c κs = search needs
+mul-natural : tie.Need-mul-natural Inv-loop μ-loop
+mul-natural c = search needs
 
-returns : tie.Need-returns Inv-loop μ-loop
-returns c = search needs
+array-read-natural : tie.Need-array-read-natural Inv-loop μ-loop
+array-read-natural c = search needs
 
-mul-is-u32 : tie.Need-mul-is-u32 Inv-loop μ-loop
-mul-is-u32 c = search needs
-
-array-read-is-u32 : tie.Need-array-read-is-u32 Inv-loop μ-loop
-array-read-is-u32 c = search needs
-
-is-u32-requires : tie.Need-is-u32-requires Inv-loop μ-loop
-is-u32-requires c κs = search needs
-
-next-requires-2 : tie.Need-next-requires-2 Inv-loop μ-loop
-next-requires-2 c κs = search needs
-
-returns-2 : tie.Need-returns-2 Inv-loop μ-loop
-returns-2 c = search needs
+natural-requires : tie.Need-natural-requires Inv-loop μ-loop
+natural-requires c κs = search needs
 
 add-k : tie.Need-add-k Inv-loop μ-loop
 add-k c = search needs
@@ -55,8 +43,8 @@ loop-again c = tt
 is-end-requires : tie.Need-is-end-requires Inv-loop μ-loop
 is-end-requires c κs = search needs
 
-returns-3 : tie.Need-returns-3 Inv-loop μ-loop
-returns-3 c = search needs
+returns : tie.Need-returns Inv-loop μ-loop
+returns c = search needs
 
 pub are-sounds-spec : {M : Type 1} → statement M
 are-sounds-spec =
@@ -65,18 +53,14 @@ are-sounds-spec =
     Inv-loop
     μ-loop
     loop-holds
-    mul-is-float
-    array-read-is-float
-    is-float-requires
-    next-requires
-    returns
-    mul-is-u32
-    array-read-is-u32
-    is-u32-requires
-    next-requires-2
-    returns-2
+    mul-float
+    array-read-float
+    float-requires
+    mul-natural
+    array-read-natural
+    natural-requires
     add-k
     loop-less
     loop-again
     is-end-requires
-    returns-3)
+    returns)
