@@ -12,6 +12,7 @@ use Rattle.kbm.specs.Answers.{saysDegree}
 use Rattle.key.specs.Answers.{saysMidi, saysKey}
 use Rattle.math.specs.Answers.{saysU32}
 use Rattle.pitch.specs.Answers.{saysRatio, saysPitch, saysBool}
+use Rattle.scl.specs.Answers.{saysScl}
 use Rattle.floats.specs.declared.FloatAnswer.{FloatAnswer}
 use Rattle.integer_math.specs.declared.I32Answer.{I32Answer}
 use Rattle.kbm.specs.declared.DegreeAnswer.{DegreeAnswer}
@@ -21,6 +22,7 @@ use Rattle.math.specs.declared.U32Answer.{U32Answer}
 use Rattle.pitch.specs.declared.BoolAnswer.{BoolAnswer}
 use Rattle.pitch.specs.declared.PitchAnswer.{PitchAnswer}
 use Rattle.pitch.specs.declared.RatioAnswer.{RatioAnswer}
+use Rattle.scl.specs.declared.SclAnswer.{SclAnswer}
 use Rattle.telbijan_answers.specs.Interface.{code, result, kept, fieldOf}
 
 pub code-of-one : (refusal : Refusal) → One (λ r. r) (code (refusal .number) (refusal .detail))
@@ -52,3 +54,6 @@ store-bool-one answer old = (one-result (result (saysBool answer)), one-result (
 
 pub store-degree-one : (answer : DegreeAnswer) (old : ℤ) → One (λ r. r) (result (saysDegree answer)) × One (λ v. v) (kept (saysDegree answer) old)
 store-degree-one answer old = (one-result (result (saysDegree answer)), one-result (kept (saysDegree answer) old))
+
+pub store-scl-one : (answer : SclAnswer) (old : ℕ) → One (λ r. r) (result (saysScl answer)) × One (λ v. v) (kept (saysScl answer) old)
+store-scl-one answer old = (one-result (result (saysScl answer)), one-result (kept (saysScl answer) old))

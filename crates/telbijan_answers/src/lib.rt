@@ -10,6 +10,7 @@ use math::U32Answer;
 use pitch::BoolAnswer;
 use pitch::PitchAnswer;
 use pitch::RatioAnswer;
+use scl::SclAnswer;
 ghost use mathlib.Core.Path.{_≡_};
 ghost use Rattle.floats.specs.Answers.{saysFloat};
 ghost use Rattle.kbm.specs.Answers.{saysDegree};
@@ -17,6 +18,7 @@ ghost use Rattle.key.specs.Answers.{saysMidi, saysKey};
 ghost use Rattle.integer_math.specs.Answers.{saysI32};
 ghost use Rattle.math.specs.Answers.{saysU32};
 ghost use Rattle.pitch.specs.Answers.{saysRatio, saysPitch, saysBool};
+ghost use Rattle.scl.specs.Answers.{saysScl};
 ghost use Rattle.telbijan_answers.specs.Interface.{code, result, kept, fieldOf};
 
 // detail * 256 + number.
@@ -146,5 +148,20 @@ pub fn store_degree(answer: DegreeAnswer, out: &mut i32) -> u64
             0
         }
         DegreeAnswer::Refused(refusal) => code_of(refusal),
+    }
+}
+
+// The count of items of a scale.
+pub fn store_scl(answer: SclAnswer, out: &mut u16) -> u64
+    ensures { λ r. ⌜ r ≡ result (saysScl answer) ⌝ }
+    ensures { λ _. ⌜ now (out .exit) ≡ kept (saysScl answer) (now (out .entry)) ⌝ }
+{
+    match answer {
+        SclAnswer::Is(scl) => {
+            let count = scl.count;
+            *out = count;
+            0
+        }
+        SclAnswer::Refused(refusal) => code_of(refusal),
     }
 }

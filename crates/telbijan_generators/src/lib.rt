@@ -1,6 +1,5 @@
 // Scales that are computed, for C: segments of the harmonic series and rank-2 temperaments. They are written into a scale's seven lent columns.
 use pitch::Ratio;
-use scl::SclAnswer;
 use segment::Divisions;
 use segment::SegmentType;
 ghost use mathlib.Core.Path.{_≡_};
@@ -61,7 +60,7 @@ pub extern "C" fn telbijan_create_harmonics_scale(
 {
     let segment = segment_of(otonal);
     let into = divisions_of(divided, divisions);
-    match harmonics::create_harmonics_scale(
+    let said = harmonics::create_harmonics_scale(
         segment,
         start,
         size,
@@ -73,14 +72,8 @@ pub extern "C" fn telbijan_create_harmonics_scale(
         place,
         ratio,
         wraps,
-    ) {
-        SclAnswer::Is(scl) => {
-            let items = scl.count;
-            *count = items;
-            0
-        }
-        SclAnswer::Refused(refusal) => telbijan_answers::code_of(refusal),
-    }
+    );
+    telbijan_answers::store_scl(said, count)
 }
 
 // A scale from a rank-2 temperament: the period, and so many generations of the generator up and down, each within the period, in
@@ -107,7 +100,7 @@ pub extern "C" fn telbijan_create_rank2_temperament_scale(
     ensures { λ _. ⌜ listTable (now (place .exit)) (now (ratio .exit)) (now (wraps .exit)) ≡ listLeft (madeRank2 (itemTable (now (kind .entry)) (now (cents .entry)) (now (numer .entry)) (now (denom .entry))) (listTable (now (place .entry)) (now (ratio .entry)) (now (wraps .entry))) generator positive negative period) (itemTable (now (kind .entry)) (now (cents .entry)) (now (numer .entry)) (now (denom .entry))) (listTable (now (place .entry)) (now (ratio .entry)) (now (wraps .entry))) ⌝ }
     ensures { λ _. ⌜ now (count .exit) ≡ kept (countedOf (madeRank2 (itemTable (now (kind .entry)) (now (cents .entry)) (now (numer .entry)) (now (denom .entry))) (listTable (now (place .entry)) (now (ratio .entry)) (now (wraps .entry))) generator positive negative period)) (now (count .entry)) ⌝ }
 {
-    match rank2::create_rank2_temperament_scale(
+    let said = rank2::create_rank2_temperament_scale(
         Ratio(generator),
         positive,
         negative,
@@ -119,12 +112,6 @@ pub extern "C" fn telbijan_create_rank2_temperament_scale(
         place,
         ratio,
         wraps,
-    ) {
-        SclAnswer::Is(scl) => {
-            let items = scl.count;
-            *count = items;
-            0
-        }
-        SclAnswer::Refused(refusal) => telbijan_answers::code_of(refusal),
-    }
+    );
+    telbijan_answers::store_scl(said, count)
 }

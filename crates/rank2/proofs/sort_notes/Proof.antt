@@ -25,13 +25,13 @@ sort-entries-requires c κs =
     (filled-length v h ∙ sym (s .pre .1) ∙ sym l, s .pre .2 ∙ sym (s .pre .1) ∙ sym l, rw e (from-ascends (length (s .args .place .now))), filled-positive v h)
 
 same-length : tie.Need-same-length
-same-length c = search needs
+same-length c = c .before .before .before .before .place2 .given ∙ c .before .before .before .before .before .before .before .before .before .before .place .given
 
 same-length-2 : tie.Need-same-length-2
-same-length-2 c = search needs
+same-length-2 c = c .before .before .ratio2 .given ∙ c .before .before .before .before .before .before .before .before .before .before .before .before .before .before .ratio .given
 
 same-length-3 : tie.Need-same-length-3
-same-length-3 c = search needs
+same-length-3 c = c .wraps .given
 
 returns : tie.Need-returns
 returns c =
