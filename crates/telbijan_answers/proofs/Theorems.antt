@@ -13,6 +13,7 @@ use Rattle.key.specs.Answers.{saysMidi, saysKey}
 use Rattle.math.specs.Answers.{saysU32}
 use Rattle.pitch.specs.Answers.{saysRatio, saysPitch, saysBool}
 use Rattle.scl.specs.Answers.{saysScl}
+use Rattle.writing.specs.Answers.{saysSize}
 use Rattle.floats.specs.declared.FloatAnswer.{FloatAnswer}
 use Rattle.integer_math.specs.declared.I32Answer.{I32Answer}
 use Rattle.kbm.specs.declared.DegreeAnswer.{DegreeAnswer}
@@ -23,6 +24,7 @@ use Rattle.pitch.specs.declared.BoolAnswer.{BoolAnswer}
 use Rattle.pitch.specs.declared.PitchAnswer.{PitchAnswer}
 use Rattle.pitch.specs.declared.RatioAnswer.{RatioAnswer}
 use Rattle.scl.specs.declared.SclAnswer.{SclAnswer}
+use Rattle.writing.specs.declared.SizeAnswer.{SizeAnswer}
 use Rattle.telbijan_answers.specs.Interface.{code, result, kept, fieldOf}
 
 pub code-of-one : (refusal : Refusal) → One (λ r. r) (code (refusal .number) (refusal .detail))
@@ -57,3 +59,6 @@ store-degree-one answer old = (one-result (result (saysDegree answer)), one-resu
 
 pub store-scl-one : (answer : SclAnswer) (old : ℕ) → One (λ r. r) (result (saysScl answer)) × One (λ v. v) (kept (saysScl answer) old)
 store-scl-one answer old = (one-result (result (saysScl answer)), one-result (kept (saysScl answer) old))
+
+pub store-size-one : (answer : SizeAnswer) (old : ℕ) → One (λ r. r) (result (saysSize answer)) × One (λ v. v) (kept (saysSize answer) old)
+store-size-one answer old = (one-result (result (saysSize answer)), one-result (kept (saysSize answer) old))

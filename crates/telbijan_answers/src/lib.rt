@@ -11,6 +11,7 @@ use pitch::BoolAnswer;
 use pitch::PitchAnswer;
 use pitch::RatioAnswer;
 use scl::SclAnswer;
+use writing::SizeAnswer;
 ghost use mathlib.Core.Path.{_≡_};
 ghost use Rattle.floats.specs.Answers.{saysFloat};
 ghost use Rattle.kbm.specs.Answers.{saysDegree};
@@ -19,6 +20,7 @@ ghost use Rattle.integer_math.specs.Answers.{saysI32};
 ghost use Rattle.math.specs.Answers.{saysU32};
 ghost use Rattle.pitch.specs.Answers.{saysRatio, saysPitch, saysBool};
 ghost use Rattle.scl.specs.Answers.{saysScl};
+ghost use Rattle.writing.specs.Answers.{saysSize};
 ghost use Rattle.telbijan_answers.specs.Interface.{code, result, kept, fieldOf};
 
 // detail * 256 + number.
@@ -163,5 +165,19 @@ pub fn store_scl(answer: SclAnswer, out: &mut u16) -> u64
             0
         }
         SclAnswer::Refused(refusal) => code_of(refusal),
+    }
+}
+
+// How many bytes an export has written.
+pub fn store_size(answer: SizeAnswer, out: &mut usize) -> u64
+    ensures { λ r. ⌜ r ≡ result (saysSize answer) ⌝ }
+    ensures { λ _. ⌜ now (out .exit) ≡ kept (saysSize answer) (now (out .entry)) ⌝ }
+{
+    match answer {
+        SizeAnswer::Is(size) => {
+            *out = size;
+            0
+        }
+        SizeAnswer::Refused(refusal) => code_of(refusal),
     }
 }

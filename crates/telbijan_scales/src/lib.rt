@@ -1,11 +1,9 @@
 // Scales for C: seven lent columns, the items' four and the sorted list's three, and beside them the count of items.
 use pitch::Ratio;
 use scl::Scl;
-use scl::SclAnswer;
 use scl_build::SclBuilder;
 use scl_build::SclBuilderAnswer;
 use scl_read::SclReadAnswer;
-use writing::SizeAnswer;
 ghost use mathlib.Core.Path.{_≡_};
 ghost use mathlib.Core.Bool.{true};
 ghost use lib.ListN.{length};
@@ -19,7 +17,7 @@ ghost use Rattle.scl_tables.specs.Build.{afterList};
 ghost use Rattle.scl_tables.specs.Room.{roomOf};
 ghost use Rattle.scl_build.specs.Answers.{saysBuilder};
 ghost use Rattle.scl_build.specs.Builder.{state, builderOf, afterNew, pushed, afterPush, pushedRatio, afterRatio, built, counted, Comes};
-ghost use Rattle.scl_read.specs.Reader.{readOf, afterItems, afterSorted};
+ghost use Rattle.scl_read.specs.Reader.{saysRead, readOf, afterItems, afterSorted};
 ghost use Rattle.writing.specs.Fitted.{textLength};
 ghost use Rattle.scl_write.specs.Export.{exportOf, NeverFull};
 ghost use Rattle.telbijan_answers.specs.Interface.{result, kept, fieldOf};
@@ -38,6 +36,29 @@ pub extern "C" fn telbijan_item_as_ratio(
     ensures { λ r. ⌜ (isUsable (itemOf kind cents numer denom) ≡ true → r ≡ 0) ⌝ }
 {
     telbijan_answers::store_ratio(scl::item_of(kind, cents, numer, denom).as_ratio(), ratio)
+}
+
+// Stores the count of a scale that was read, and where its description starts and ends.
+fn store_read(answer: SclReadAnswer, count: &mut u16, start: &mut usize, end: &mut usize) -> u64
+    ensures { λ r. ⌜ r ≡ result (saysRead answer) ⌝ }
+    ensures { λ _. ⌜ now (count .exit) ≡ kept (fieldOf (λ s. s .scl .count) (saysRead answer)) (now (count .entry)) ⌝ }
+    ensures { λ _. ⌜ now (start .exit) ≡ kept (fieldOf (λ s. s .description .start) (saysRead answer)) (now (start .entry)) ⌝ }
+    ensures { λ _. ⌜ now (end .exit) ≡ kept (fieldOf (λ s. s .description .end) (saysRead answer)) (now (end .entry)) ⌝ }
+{
+    match answer {
+        SclReadAnswer::Is(read) => {
+            let scl = read.scl;
+            let size = scl.count;
+            let description = read.description;
+            let from = description.start;
+            let to = description.end;
+            *count = size;
+            *start = from;
+            *end = to;
+            0
+        }
+        SclReadAnswer::Refused(refusal) => telbijan_answers::code_of(refusal),
+    }
 }
 
 // A scale file, read: its items go to the places after place 0, which gets the implicit 0.0 cents, and their sorted list to the
@@ -67,19 +88,22 @@ pub extern "C" fn telbijan_read_scl(
     ensures { λ _. ⌜ now (start .exit) ≡ kept (fieldOf (λ s. s .description .start) (readOf (roomOf (itemTable (now (kind .entry)) (now (cents .entry)) (now (numer .entry)) (now (denom .entry))) (listTable (now (place .entry)) (now (ratio .entry)) (now (wraps .entry)))) (now (text .entry)))) (now (start .entry)) ⌝ }
     ensures { λ _. ⌜ now (end .exit) ≡ kept (fieldOf (λ s. s .description .end) (readOf (roomOf (itemTable (now (kind .entry)) (now (cents .entry)) (now (numer .entry)) (now (denom .entry))) (listTable (now (place .entry)) (now (ratio .entry)) (now (wraps .entry)))) (now (text .entry)))) (now (end .entry)) ⌝ }
 {
-    match scl_read::read_scl(text, kind, cents, numer, denom, place, ratio, wraps) {
-        SclReadAnswer::Is(read) => {
-            let scl = read.scl;
-            let size = scl.count;
-            let description = read.description;
-            let from = description.start;
-            let to = description.end;
-            *count = size;
-            *start = from;
-            *end = to;
+    let said = scl_read::read_scl(text, kind, cents, numer, denom, place, ratio, wraps);
+    store_read(said, count, start, end)
+}
+
+// Stores the room of a builder.
+fn store_room(answer: SclBuilderAnswer, room: &mut usize) -> u64
+    ensures { λ r. ⌜ r ≡ result (saysBuilder answer) ⌝ }
+    ensures { λ _. ⌜ now (room .exit) ≡ kept (fieldOf (λ b. b .room) (saysBuilder answer)) (now (room .entry)) ⌝ }
+{
+    match answer {
+        SclBuilderAnswer::Is(builder) => {
+            let places = builder.room;
+            *room = places;
             0
         }
-        SclReadAnswer::Refused(refusal) => telbijan_answers::code_of(refusal),
+        SclBuilderAnswer::Refused(refusal) => telbijan_answers::code_of(refusal),
     }
 }
 
@@ -101,14 +125,10 @@ pub extern "C" fn telbijan_new_scl(
         ≡ afterNew (itemTable (now (kind .entry)) (now (cents .entry)) (now (numer .entry)) (now (denom .entry))) (listTable (now (place .entry)) (now (ratio .entry)) (now (wraps .entry))) ⌝ }
     ensures { λ _. ⌜ now (room .exit) ≡ kept (fieldOf (λ b. b .room) (builderOf (itemTable (now (kind .entry)) (now (cents .entry)) (now (numer .entry)) (now (denom .entry))) (listTable (now (place .entry)) (now (ratio .entry)) (now (wraps .entry))))) (now (room .entry)) ⌝ }
 {
-    match SclBuilder::new(kind, cents, numer, denom, place, ratio, wraps) {
-        SclBuilderAnswer::Is(builder) => {
-            let places = builder.room;
-            *room = places;
-            0
-        }
-        SclBuilderAnswer::Refused(refusal) => telbijan_answers::code_of(refusal),
-    }
+    store_room(
+        SclBuilder::new(kind, cents, numer, denom, place, ratio, wraps),
+        room,
+    )
 }
 
 // Stores the count of a builder.
@@ -241,14 +261,8 @@ pub extern "C" fn telbijan_build_scl(
     ensures { λ _. ⌜ Comes (state room count) (itemTable (now (kind .entry)) (now (cents .entry)) (now (numer .entry)) (now (denom .entry))) (listTable (now (place .entry)) (now (ratio .entry)) (now (wraps .entry))) (counted (state room count) (built (state room count) (itemTable (now (kind .entry)) (now (cents .entry)) (now (numer .entry)) (now (denom .entry))) (listTable (now (place .entry)) (now (ratio .entry)) (now (wraps .entry))))) (listTable (now (place .exit)) (now (ratio .exit)) (now (wraps .exit))) ⌝ }
 {
     let builder = SclBuilder { room, count };
-    match builder.build(kind, cents, numer, denom, place, ratio, wraps) {
-        SclAnswer::Is(scl) => {
-            let size = scl.count;
-            *items = size;
-            0
-        }
-        SclAnswer::Refused(refusal) => telbijan_answers::code_of(refusal),
-    }
+    let said = builder.build(kind, cents, numer, denom, place, ratio, wraps);
+    telbijan_answers::store_scl(said, items)
 }
 
 // The text of a scale, written into the lent bytes: the description as it is, the count, the items. The number of bytes is stored, and
@@ -271,11 +285,6 @@ pub extern "C" fn telbijan_export_scl(
     ensures { λ _. ⌜ NeverFull (record { count = count }) (now (description .entry)) (length (now (out .entry))) (textLength (exportOf (record { count = count }) (itemTable (now (kind .entry)) (now (cents .entry)) (now (numer .entry)) (now (denom .entry))) (now (description .entry)) (length (now (out .entry))))) ⌝ }
 {
     let scl = Scl { count };
-    match scl_write::export_scl(scl, description, kind, cents, numer, denom, out) {
-        SizeAnswer::Is(size) => {
-            *written = size;
-            0
-        }
-        SizeAnswer::Refused(refusal) => telbijan_answers::code_of(refusal),
-    }
+    let said = scl_write::export_scl(scl, description, kind, cents, numer, denom, out);
+    telbijan_answers::store_size(said, written)
 }

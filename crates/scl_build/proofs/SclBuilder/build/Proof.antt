@@ -1,7 +1,7 @@
 -- `SclBuilder::build` meets its contract: 10, then 13, then 18, then the list; a refusal writes nothing.
 -- Assumes nothing.
 use borrow.Author.Needs.{needs}
-use mathlib.Core.Path.{sym, _∙_, ap}
+use mathlib.Core.Path.{sym, _∙_, ap, refl}
 use native.Mathlib.Omega.{arith}
 use Rattle.sorted.specs.Lent.{listTable}
 use Rattle.scl.specs.Items.{isUsable}
@@ -22,13 +22,13 @@ is-ready-requires : tie.Need-is-ready-requires
 is-ready-requires c κs = search needs
 
 same-length : tie.Need-same-length
-same-length c = search needs
+same-length c = refl
 
 same-length-2 : tie.Need-same-length-2
-same-length-2 c = search needs
+same-length-2 c = refl
 
 same-length-3 : tie.Need-same-length-3
-same-length-3 c = search needs
+same-length-3 c = refl
 
 returns : tie.Need-returns
 returns c =
@@ -47,13 +47,13 @@ is-beyond-requires c κs =
     ap isUsable (c .item-at .ensures ∙ sym (ready-last (args .self) (itemTable (args .kind .now) (args .cents .now) (args .numer .now) (args .denom .now)) (listTable (args .place .now) (args .ratio .now) (args .wraps .now)) (sym (c .before .before .before .is-ready .ensures) ∙ c .before .before .if1 .taken))) ∙ last-usable (args .self) (itemTable (args .kind .now) (args .cents .now) (args .numer .now) (args .denom .now)) (listTable (args .place .now) (args .ratio .now) (args .wraps .now)) (sym (c .before .before .before .is-ready .ensures) ∙ c .before .before .if1 .taken)
 
 same-length-4 : tie.Need-same-length-4
-same-length-4 c = search needs
+same-length-4 c = refl
 
 same-length-5 : tie.Need-same-length-5
-same-length-5 c = search needs
+same-length-5 c = refl
 
 same-length-6 : tie.Need-same-length-6
-same-length-6 c = search needs
+same-length-6 c = refl
 
 returns-2 : tie.Need-returns-2
 returns-2 c =
@@ -71,13 +71,13 @@ cast-t29 : tie.Need-cast-t29
 cast-t29 c = search needs
 
 same-length-7 : tie.Need-same-length-7
-same-length-7 c = search needs
+same-length-7 c = c .before .before .before .before .place .given
 
 same-length-8 : tie.Need-same-length-8
-same-length-8 c = search needs
+same-length-8 c = c .before .before .ratio .given
 
 same-length-9 : tie.Need-same-length-9
-same-length-9 c = search needs
+same-length-9 c = c .wraps .given
 
 returns-3 : tie.Need-returns-3
 returns-3 c =
@@ -87,13 +87,13 @@ returns-3 c =
     (build-given (args .self) (itemTable (args .kind .now) (args .cents .now) (args .numer .now) (args .denom .now)) (listTable (args .place .now) (args .ratio .now) (args .wraps .now)) (within (args .self) (itemTable (args .kind .now) (args .cents .now) (args .numer .now) (args .denom .now)) (listTable (args .place .now) (args .ratio .now) (args .wraps .now)) (sym (c .before .before .before .before .before .before .before .before .before .before .before .before .before .before .is-ready .ensures) ∙ c .before .before .before .before .before .before .before .before .before .before .before .before .before .if1 .taken) (c .before .before .before .before .before .before .before .before .before .before .before .before .if2 .left) (c .before .before .before .before .before .before .before .before .before .before .before .item-at .ensures) (sym (c .before .before .before .before .before .before .before .before .before .before .is-beyond .ensures) ∙ c .before .before .before .before .before .before .before .before .before .if3 .left)) (list .ensures .0) (list .ensures .1))
 
 same-length-10 : tie.Need-same-length-10
-same-length-10 c = search needs
+same-length-10 c = refl
 
 same-length-11 : tie.Need-same-length-11
-same-length-11 c = search needs
+same-length-11 c = refl
 
 same-length-12 : tie.Need-same-length-12
-same-length-12 c = search needs
+same-length-12 c = refl
 
 returns-4 : tie.Need-returns-4
 returns-4 c =
