@@ -9,8 +9,8 @@ a `&mut` holds after the call. Terms are compared as they are written, but for m
 those that stand for a relation in the crate's specs."""
 import re
 
-VALUES = {"ℕ", "ℤ", "Float", "Bool", "ItemTable", "ListTable", "Entry"}  # and each struct and enum of the sources; lists, answers and functions of these
-RECORDS = {"itemTable", "listTable"}  # records of columns: equal where these are
+TABLES = {"ItemTable": "itemTable", "ListTable": "listTable"}  # records of columns, and what makes them: equal where their columns are
+VALUES = {"ℕ", "ℤ", "Float", "Bool", "Entry", *TABLES}  # and each struct and enum of the sources; lists, answers and functions of these
 ONE = "abbrev pub One : {A B : Type 0} → (A → B) → B → Type 0\nOne {A} {B} says s = (x y : A) → says x ≡ s → says y ≡ s → x ≡ y\n"
 IMPORTED = re.compile(r"^use Rattle\.base\.proofs\.Said\.\{(?:[^}]*, )?One[,}]", re.M)
 
@@ -60,6 +60,13 @@ def replaced(term, by):
 
 def words(term):
     return {word for each in term for word in words(each)} if isinstance(term, tuple) else {term}
+
+
+def by_columns(term, table):
+    """A term with each column of a table, (TABLE .COLUMN), as one word."""
+    if isinstance(term, tuple) and len(term) == 2 and term[0] == table and term[1][0] == ".":
+        return f"{table}{term[1]}"
+    return tuple(by_columns(each, table) for each in term) if isinstance(term, tuple) else term
 
 
 def abbreviations(text, kind=""):
@@ -114,13 +121,14 @@ class Line:
         self.inputs, self.results, self.facts, self.fault = set(), set(), [], None
         meant = meant | abbreviations(text)
         *premises, conclusion = split(parse(statement), "→")
-        asked = []
+        asked, tables = [], set()
         for premise in [*modules_around(text, at), *premises]:
             groups = binders(premise)
             if groups is None:
                 asked.append(unfolded(premise, meant))
             for names, kind in groups or []:
                 self.inputs |= words(names)
+                tables |= words(names) if kind in TABLES else set()
                 if not is_data(kind, types):
                     self.wrong(f"asks for {shown(names)} : {shown(kind)}")
         ends = factors(unfolded(conclusion, meant))
@@ -129,6 +137,8 @@ class Line:
         else:
             for end in ends:
                 self.one(end, bool(IMPORTED.search(text)))
+        for table in tables:
+            self.take_apart(table)
 
     def wrong(self, said):
         self.fault = self.fault or said
@@ -151,6 +161,13 @@ class Line:
         self.inputs -= self.results | others
         self.facts = [split(factor, "≡") for factor in factors(asked[0])]
 
+    def take_apart(self, table):
+        """A table that is named by its columns alone is as many variables: it is made of any columns."""
+        facts = [[by_columns(side, table) for side in sides] for sides in self.facts]
+        found = {word for sides in facts for side in sides for word in words(side)}
+        if table not in found:
+            self.facts, self.inputs = facts, self.inputs | {word for word in found if word.startswith(f"{table}.")}
+
 
 # ---- a line against a contract
 def ensured(contract, meant):
@@ -166,7 +183,7 @@ def outputs(term):
         return set()
     if term[0] == "now" and term[1][1:] == (".exit",):
         return {term[1][0]}
-    parts = [outputs(part) for part in term[1:]] if term[0] in RECORDS else [set()]
+    parts = [outputs(part) for part in term[1:]] if term[0] in TABLES.values() else [set()]
     return set().union(*parts) if all(parts) else set()
 
 
