@@ -132,9 +132,11 @@ class Line:
                 if not is_data(kind, types):
                     self.wrong(f"asks for {shown(names)} : {shown(kind)}")
         ends = factors(unfolded(conclusion, meant))
-        if asked:
+        if asked and "One" not in words(conclusion):
             self.written_out(asked, [split(end, "≡") for end in ends])
         else:
+            for premise in asked:
+                self.wrong(f"asks for {shown(premise)}")
             for end in ends:
                 self.one(end, bool(IMPORTED.search(text)))
         for table in tables:
