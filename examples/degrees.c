@@ -43,6 +43,14 @@ static void report(uint32_t number, uint64_t detail) {
         printf("refused: number %" PRIu32 ", %s %" PRIu64 "\n", number, what, detail);
 }
 
+/* What the program ends with: 2, with a line on standard error, where standard output could not be written. */
+static int finish(int status) {
+    if (fflush(stdout) == 0 && !ferror(stdout))
+        return status;
+    fprintf(stderr, "degrees: standard output cannot be written\n");
+    return 2;
+}
+
 int main(int argc, char **argv) {
     if (argc != 2) {
         fprintf(stderr, "usage: degrees FILE.kbm\n");
@@ -59,7 +67,7 @@ int main(int argc, char **argv) {
     uint64_t result = telbijan_read_kbm((const uint8_t *)text, length, map, PLACES, &count, &start, &end, &reference, &hz, &offset, &octave);
     if (result != TELBIJAN_ACCEPTED) {
         report(TELBIJAN_NUMBER(result), TELBIJAN_DETAIL(result));
-        return 1;
+        return finish(1);
     }
     for (int32_t key = 60; key <= 72; key++) {
         int32_t degree;
@@ -69,5 +77,5 @@ int main(int argc, char **argv) {
         else
             printf("key %" PRId32 ": none (%" PRIu32 ")\n", key, TELBIJAN_NUMBER(result));
     }
-    return 0;
+    return finish(0);
 }

@@ -111,6 +111,14 @@ static void reload(const char *scl, const char *kbm) {
     }
 }
 
+/* What the program ends with: 2, with a line on standard error, where standard output could not be written. */
+static int finish(int status) {
+    if (fflush(stdout) == 0 && !ferror(stdout))
+        return status;
+    fprintf(stderr, "reload: standard output cannot be written\n");
+    return 2;
+}
+
 int main(int argc, char **argv) {
     pthread_t player;
     double sum = 0;
@@ -119,16 +127,18 @@ int main(int argc, char **argv) {
         return 2;
     }
     if (!load(&memory[0], argv[1], argv[2]))
-        return 1;
+        return finish(1);
     atomic_store(&current, &memory[0]);
     atomic_store(&played, &memory[0]);
     printf("%s is in use", argv[1]);
     tell(&memory[0]);
-    if (pthread_create(&player, NULL, play, &sum) != 0)
+    if (pthread_create(&player, NULL, play, &sum) != 0) {
+        fprintf(stderr, "reload: no second thread\n");
         return 2;
+    }
     for (int i = 3; i < argc; i++)
         reload(argv[i], argv[2]);
     atomic_store(&stop, true);
     pthread_join(player, NULL);
-    return 0;
+    return finish(0);
 }

@@ -2,8 +2,9 @@
  *
  * Every function is total: no argument stops it or draws a made-up answer, but for the three things that C leaves to the
  * caller: pointers point to as many elements as their lengths say, no pointer is null (one with length 0 may point anywhere
- * else), and no two lent parts of memory overlap. Nothing is allocated, and there are no globals: calls may run on any number
- * of threads, each with its own memory to write to. What an out-pointer points to needs no value before the call.
+ * else; the calls on structs take NULL for 0 bytes), and no two lent parts of memory overlap. Nothing is allocated, and there
+ * are no globals: calls may run on any number of threads, each with its own memory to write to. What an out-pointer points to
+ * needs no value before the call.
  *
  * A result is 0, or a refusal: its low byte is the number, and the rest the detail, which is a line of the text (from 1),
  * the number of a required line, or 0. A refusal leaves all lent memory, and every value behind a pointer, as it was.
@@ -420,14 +421,26 @@ typedef struct telbijan_mapping_builder {
 #define TELBIJAN_ROOT(r) (r).reference, (r).hz, (r).offset
 #define TELBIJAN_MAPPING(m) (m)->map, (m)->room, (m)->count, (m)->start, (m)->end, TELBIJAN_ROOT((m)->root), (m)->octave
 
-/* ---- Scales. */
-
-static inline telbijan_refusal telbijan_scale_read(telbijan_scale *scale, const char *text, size_t length, telbijan_span *description) {
-    return telbijan_refusal_of(telbijan_read_scl((const uint8_t *)text, length, TELBIJAN_COLUMNS(scale), &scale->count, &description->start, &description->end));
+/* Lent bytes as the calls above take them, which want an address even of 0 bytes: of these the one that is given, NULL or any other, is not
+ * handed on, but that of something real. */
+static inline const uint8_t *telbijan_bytes(const char *bytes, size_t length) {
+    return (const uint8_t *)(length == 0 ? "" : bytes);
 }
 
+static inline uint8_t *telbijan_room(char *bytes, size_t length, size_t *real) {
+    return length == 0 ? (uint8_t *)real : (uint8_t *)bytes;
+}
+
+/* ---- Scales. */
+
+/* `text` may be NULL where `length` is 0. */
+static inline telbijan_refusal telbijan_scale_read(telbijan_scale *scale, const char *text, size_t length, telbijan_span *description) {
+    return telbijan_refusal_of(telbijan_read_scl(telbijan_bytes(text, length), length, TELBIJAN_COLUMNS(scale), &scale->count, &description->start, &description->end));
+}
+
+/* `description` may be NULL where `length` is 0, and `out` where `room` is 0. */
 static inline telbijan_refusal telbijan_scale_export(const telbijan_scale *scale, const char *description, size_t length, char *out, size_t room, size_t *written) {
-    return telbijan_refusal_of(telbijan_export_scl((const uint8_t *)description, length, TELBIJAN_ITEMS(scale), scale->count, (uint8_t *)out, room, written));
+    return telbijan_refusal_of(telbijan_export_scl(telbijan_bytes(description, length), length, TELBIJAN_ITEMS(scale), scale->count, telbijan_room(out, room, written), room, written));
 }
 
 static inline telbijan_refusal telbijan_scale_harmonics(telbijan_scale *scale, bool otonal, uint16_t start, uint16_t size) {
@@ -502,13 +515,15 @@ static inline telbijan_refusal telbijan_scale_build(const telbijan_scale_builder
 
 /* ---- Mappings. */
 
+/* `text` may be NULL where `length` is 0. */
 static inline telbijan_refusal telbijan_mapping_read(telbijan_mapping *mapping, const char *text, size_t length) {
-    return telbijan_refusal_of(telbijan_read_kbm((const uint8_t *)text, length, mapping->map, mapping->room, &mapping->count, &mapping->start, &mapping->end,
+    return telbijan_refusal_of(telbijan_read_kbm(telbijan_bytes(text, length), length, mapping->map, mapping->room, &mapping->count, &mapping->start, &mapping->end,
         &mapping->root.reference, &mapping->root.hz, &mapping->root.offset, &mapping->octave));
 }
 
+/* `out` may be NULL where `room` is 0. */
 static inline telbijan_refusal telbijan_mapping_export(const telbijan_mapping *mapping, char *out, size_t room, size_t *written) {
-    return telbijan_refusal_of(telbijan_export_kbm(TELBIJAN_MAPPING(mapping), (uint8_t *)out, room, written));
+    return telbijan_refusal_of(telbijan_export_kbm(TELBIJAN_MAPPING(mapping), telbijan_room(out, room, written), room, written));
 }
 
 static inline telbijan_refusal telbijan_mapping_degree_of(const telbijan_mapping *mapping, int32_t key, int32_t *degree) {

@@ -142,6 +142,23 @@ static void exports(void) {
     export_mapping(strlen(text) - 1), SAID(12, 0);
 }
 
+/* NULL for 0 bytes, by the calls on structs alone. */
+static void no_bytes(void) {
+    const char *text = "\n4\n5/3\n150.500\n7\n1203.250\n";
+    char bytes[1] = "";
+    size_t real = 7;
+    SAME(telbijan_bytes(NULL, 0) == NULL, false), SAME(telbijan_bytes(text, 1), (const uint8_t *)text);
+    SAME(telbijan_room(NULL, 0, &real), (uint8_t *)&real), SAME(telbijan_room(bytes, 1, &real), (uint8_t *)bytes);
+    filled(SCALE, 5, 4);
+    ALIKE(telbijan_scale_read(&ours.scale, NULL, 0, &ours.out.span), telbijan_read_scl(BYTES(""), COLUMNS(theirs), &theirs.scale.count, &theirs.out.span.start, &theirs.out.span.end)), SAID(2, 1);
+    ALIKE(telbijan_mapping_read(&ours.mapping, NULL, 0), telbijan_read_kbm(BYTES(""), theirs.m.map, theirs.mapping.room, &theirs.mapping.count, &theirs.mapping.start, &theirs.mapping.end,
+        &theirs.mapping.root.reference, &theirs.mapping.root.hz, &theirs.mapping.root.offset, &theirs.mapping.octave)), SAID(2, 1);
+    ALIKE(telbijan_scale_export(&ours.scale, NULL, 0, ours.out.text, strlen(text), &ours.out.written), telbijan_export_scl(BYTES(""), ITEMS(theirs), theirs.scale.count, OUT(theirs, strlen(text))));
+    SAID(0, 0), SAME(seen.out.written, strlen(text)), SAME(memcmp(seen.out.text, text, strlen(text)), 0);
+    ALIKE(telbijan_scale_export(&ours.scale, NULL, 0, NULL, 0, &ours.out.written), telbijan_export_scl(BYTES(""), ITEMS(theirs), theirs.scale.count, OUT(theirs, 0))), SAID(12, 0);
+    ALIKE(telbijan_mapping_export(&ours.mapping, NULL, 0, &ours.out.written), telbijan_export_kbm(KEYS(theirs), OUT(theirs, 0))), SAID(12, 0);
+}
+
 /* ---- Builders. */
 
 /* One of the four pushes. */
@@ -330,6 +347,7 @@ int main(void) {
     readers();
     generators();
     exports();
+    no_bytes();
     scale_builders();
     mapping_builders();
     lookups(SCALE, 5, 4, 0, 0);

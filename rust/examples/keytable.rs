@@ -1,51 +1,73 @@
-//! Prints, for each key of a mapping, its degree, its pitch in Hz and its cents from the reference pitch, or why it has none: of the files in
-//! examples/ what the program `keytable` prints.
+//! Prints, for each key of a mapping, its degree, its pitch in Hz and its cents from the reference pitch, or why it has none: what the program
+//! `keytable` prints. The program's own limits (65,536 bytes, 8,191 items, 8,192 entries) are not here: `Scale` and `Mapping` own as much as the text needs.
 //!
 //!     cargo run --manifest-path rust/Cargo.toml --example keytable -- examples/just.scl examples/linear.kbm
 
+use std::io::{self, BufWriter, Write};
 use std::process::ExitCode;
 use telbijan::{ratio, Mapping, Refusal, Scale};
 
 /// The most keys that are shown.
 const MOST: i64 = 1024;
 
+/// 2^53, the largest number that is written with decimals.
+const LARGEST: f64 = 9007199254740992.0;
+
 fn read<T>(name: &str, parse: impl FnOnce(&[u8]) -> Result<T, Refusal>) -> Result<T, String> {
     let text = std::fs::read(name).map_err(|error| format!("{name}: {error}"))?;
     parse(&text).map_err(|refusal| match refusal.line() {
         Some(line) => format!("{name}:{line}: {}", refusal.reason()),
-        None => format!("{name}: {refusal}"),
+        None if refusal.number() == 2 => format!("{name}: required line {} is missing", refusal.detail()),
+        None => format!("{name}: {}", refusal.reason()),
     })
+}
+
+/// A number with three decimals, or a word for one above 2^53.
+fn three(x: f64) -> String {
+    if x.abs() <= LARGEST {
+        format!("{x:.3}")
+    } else {
+        "above-2^53".to_string()
+    }
+}
+
+/// What stands beside a key: degree, pitch, and cents or why these cannot be said.
+fn line(scale: &Scale, mapping: &Mapping, key: i32) -> Result<String, Refusal> {
+    let hz = mapping.over(scale).pitch_of(key)?;
+    let degree = mapping.view().degree_of(key)?;
+    let cents = ratio::between_pitches(mapping.view().numbers.root.hz, hz).and_then(ratio::as_cents);
+    Ok(format!("{degree} {} {}", three(hz), cents.map_or_else(|refusal| refusal.reason().to_string(), three)))
+}
+
+fn print(out: &mut impl Write, scale: &Scale, mapping: &Mapping) -> io::Result<()> {
+    let numbers = mapping.view().numbers;
+    let (first, end) = (i64::from(numbers.start), i64::from(numbers.end));
+    writeln!(out, "key degree Hz cents")?;
+    for key in (first..end.min(first + MOST)).map(|key| key as i32) {
+        match line(scale, mapping, key) {
+            Ok(words) => writeln!(out, "{key} {words}")?,
+            Err(refusal) if refusal.number() == 17 => writeln!(out, "{key} unmapped")?,
+            Err(refusal) => writeln!(out, "{key} {}", refusal.reason())?,
+        }
+    }
+    match end - first - MOST {
+        left if left > i64::from(i32::MAX) => writeln!(out, "over {} keys more", i32::MAX)?,
+        left if left > 0 => writeln!(out, "{left} keys more")?,
+        _ => (),
+    }
+    out.flush()
 }
 
 fn table(scl: &str, kbm: &str) -> Result<(), String> {
     let (scale, mapping) = (read(scl, Scale::read)?, read(kbm, Mapping::read)?);
-    let numbers = mapping.view().numbers;
-    println!("key degree Hz cents");
-    let (first, end) = (i64::from(numbers.start), i64::from(numbers.end));
-    for key in (first..end.min(first + MOST)).map(|key| key as i32) {
-        match line(&scale, &mapping, key) {
-            Ok((degree, hz, cents)) => println!("{key} {degree} {hz:.3} {cents:.3}"),
-            Err(refusal) if refusal.number() == 17 => println!("{key} unmapped"),
-            Err(refusal) => println!("{key} {}", refusal.reason()),
-        }
-    }
-    if end > first + MOST {
-        println!("{} keys more", end - first - MOST);
-    }
-    Ok(())
-}
-
-fn line(scale: &Scale, mapping: &Mapping, key: i32) -> Result<(i32, f64, f64), Refusal> {
-    let hz = mapping.over(scale).pitch_of(key)?;
-    let above = ratio::between_pitches(mapping.view().numbers.root.hz, hz)?;
-    Ok((mapping.view().degree_of(key)?, hz, ratio::as_cents(above)?))
+    print(&mut BufWriter::new(io::stdout().lock()), &scale, &mapping).map_err(|_| "keytable: standard output cannot be written".to_string())
 }
 
 fn main() -> ExitCode {
     let words: Vec<String> = std::env::args().skip(1).collect();
     let said = match &words[..] {
         [scl, kbm] => table(scl, kbm),
-        _ => Err("usage: keytable FILE.scl FILE.kbm".to_string()),
+        _ => Err("usage: keytable SCL KBM".to_string()),
     };
     said.map_or_else(
         |why| {
