@@ -1,14 +1,16 @@
 // P after E's first steps, from a table over the highest bits of b.
+ghost use mathlib.Core.Path.{_≡_};
+ghost use Prim.Native.Nat.{ℕ, _/_, _%_, _^_};
 ghost use Rattle.powers.specs.Inner.{Power};
 
 // How many steps the table covers.
 pub const STEPS: u64 = 7;
 
-// P after E's first 7 steps, which look at the 7 highest bits of b alone.
-pub fn first_steps(b: u64) -> u64
-    ensures { λ r. ⌜ Power b 7 r ⌝ }
+// The table of `first_steps`, by the number of those bits.
+fn first_steps_at(i: u64) -> u64
+    ensures { λ r. ⌜ ((b : ℕ) → b / 2 ^ 45 % 128 ≡ i → Power b 7 r) ⌝ }
 {
-    match b / 0x2000_0000_0000 % 128 {
+    match i {
         0 => 4611686018427387904,
         1 => 4636727017470743989,
         2 => 4661903986662671289,
@@ -139,4 +141,11 @@ pub fn first_steps(b: u64) -> u64
         127 => 9173560510430823452,
         _ => 0,
     }
+}
+
+// P after E's first 7 steps, which look at the 7 highest bits of b alone.
+pub fn first_steps(b: u64) -> u64
+    ensures { λ r. ⌜ Power b 7 r ⌝ }
+{
+    first_steps_at(b / 0x2000_0000_0000 % 128)
 }

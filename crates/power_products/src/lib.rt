@@ -1,11 +1,13 @@
 // Products of what E's middle steps multiply by, from tables over the bits of b.
+ghost use mathlib.Core.Path.{_≡_};
+ghost use Prim.Native.Nat.{ℕ, _/_, _%_, _^_};
 ghost use Rattle.power_parts.specs.Parts.{Part};
 
-// The product of T_8 to T_14, those whose bit of b is set, over the power of 2^62 that leaves it near 2^62.
-pub fn product_1(b: u64) -> u64
-    ensures { λ r. ⌜ Part b 7 7 r ⌝ }
+// The table of `product_1`, by the number of those bits.
+fn product_1_at(i: u64) -> u64
+    ensures { λ r. ⌜ ((b : ℕ) → b / 2 ^ 38 % 128 ≡ i → Part b 7 7 r) ⌝ }
 {
-    match b / 0x40_0000_0000 % 128 {
+    match i {
         0 => 4611686018427387904,
         1 => 4611881126141011235,
         2 => 4612076242109103706,
@@ -138,11 +140,18 @@ pub fn product_1(b: u64) -> u64
     }
 }
 
-// The product of T_15 to T_20, those whose bit of b is set, over the power of 2^62 that leaves it near 2^62.
-pub fn product_2(b: u64) -> u64
-    ensures { λ r. ⌜ Part b 14 6 r ⌝ }
+// The product of T_8 to T_14, those whose bit of b is set, over the power of 2^62 that leaves it near 2^62.
+pub fn product_1(b: u64) -> u64
+    ensures { λ r. ⌜ Part b 7 7 r ⌝ }
 {
-    match b / 0x1_0000_0000 % 64 {
+    product_1_at(b / 0x40_0000_0000 % 128)
+}
+
+// The table of `product_2`, by the number of those bits.
+fn product_2_at(i: u64) -> u64
+    ensures { λ r. ⌜ ((b : ℕ) → b / 2 ^ 32 % 64 ≡ i → Part b 14 6 r) ⌝ }
+{
+    match i {
         0 => 4611686018427387904,
         1 => 4611689066921934629,
         2 => 4611692115418496523,
@@ -211,11 +220,18 @@ pub fn product_2(b: u64) -> u64
     }
 }
 
-// The product of T_21 to T_26, those whose bit of b is set, over the power of 2^62 that leaves it near 2^62.
-pub fn product_3(b: u64) -> u64
-    ensures { λ r. ⌜ Part b 20 6 r ⌝ }
+// The product of T_15 to T_20, those whose bit of b is set, over the power of 2^62 that leaves it near 2^62.
+pub fn product_2(b: u64) -> u64
+    ensures { λ r. ⌜ Part b 14 6 r ⌝ }
 {
-    match b / 0x400_0000 % 64 {
+    product_2_at(b / 0x1_0000_0000 % 64)
+}
+
+// The table of `product_3`, by the number of those bits.
+fn product_3_at(i: u64) -> u64
+    ensures { λ r. ⌜ ((b : ℕ) → b / 2 ^ 26 % 64 ≡ i → Part b 20 6 r) ⌝ }
+{
+    match i {
         0 => 4611686018427387904,
         1 => 4611686066060099699,
         2 => 4611686113692811986,
@@ -284,11 +300,18 @@ pub fn product_3(b: u64) -> u64
     }
 }
 
-// The product of T_27 to T_32, those whose bit of b is set, over the power of 2^62 that leaves it near 2^62.
-pub fn product_4(b: u64) -> u64
-    ensures { λ r. ⌜ Part b 26 6 r ⌝ }
+// The product of T_21 to T_26, those whose bit of b is set, over the power of 2^62 that leaves it near 2^62.
+pub fn product_3(b: u64) -> u64
+    ensures { λ r. ⌜ Part b 20 6 r ⌝ }
 {
-    match b / 0x10_0000 % 64 {
+    product_3_at(b / 0x400_0000 % 64)
+}
+
+// The table of `product_4`, by the number of those bits.
+fn product_4_at(i: u64) -> u64
+    ensures { λ r. ⌜ ((b : ℕ) → b / 2 ^ 20 % 64 ≡ i → Part b 26 6 r) ⌝ }
+{
+    match i {
         0 => 4611686018427387904,
         1 => 4611686019171649021,
         2 => 4611686019915910139,
@@ -355,4 +378,11 @@ pub fn product_4(b: u64) -> u64
         63 => 4611686065315838569,
         _ => 0,
     }
+}
+
+// The product of T_27 to T_32, those whose bit of b is set, over the power of 2^62 that leaves it near 2^62.
+pub fn product_4(b: u64) -> u64
+    ensures { λ r. ⌜ Part b 26 6 r ⌝ }
+{
+    product_4_at(b / 0x10_0000 % 64)
 }

@@ -1,11 +1,13 @@
 // Sums of what the factors of E's last steps have beyond 2^62, from tables over the bits of b.
+ghost use mathlib.Core.Path.{_≡_};
+ghost use Prim.Native.Nat.{ℕ, _/_, _%_, _^_};
 ghost use Rattle.power_parts.specs.Parts.{Rise};
 
-// The sum of T_k - 2^62 for k from 33 to 37, those whose bit of b is set.
-pub fn sum_1(b: u64) -> u64
-    ensures { λ r. ⌜ Rise b 32 5 r ⌝ }
+// The table of `sum_1`, by the number of those bits.
+fn sum_1_at(i: u64) -> u64
+    ensures { λ r. ⌜ ((b : ℕ) → b / 2 ^ 15 % 32 ≡ i → Rise b 32 5 r) ⌝ }
 {
-    match b / 0x8000 % 32 {
+    match i {
         0 => 0,
         1 => 23258158,
         2 => 46516318,
@@ -42,11 +44,18 @@ pub fn sum_1(b: u64) -> u64
     }
 }
 
-// The sum of T_k - 2^62 for k from 38 to 42, those whose bit of b is set.
-pub fn sum_2(b: u64) -> u64
-    ensures { λ r. ⌜ Rise b 37 5 r ⌝ }
+// The sum of T_k - 2^62 for k from 33 to 37, those whose bit of b is set.
+pub fn sum_1(b: u64) -> u64
+    ensures { λ r. ⌜ Rise b 32 5 r ⌝ }
 {
-    match b / 0x400 % 32 {
+    sum_1_at(b / 0x8000 % 32)
+}
+
+// The table of `sum_2`, by the number of those bits.
+fn sum_2_at(i: u64) -> u64
+    ensures { λ r. ⌜ ((b : ℕ) → b / 2 ^ 10 % 32 ≡ i → Rise b 37 5 r) ⌝ }
+{
+    match i {
         0 => 0,
         1 => 726816,
         2 => 1453633,
@@ -83,11 +92,18 @@ pub fn sum_2(b: u64) -> u64
     }
 }
 
-// The sum of T_k - 2^62 for k from 43 to 47, those whose bit of b is set.
-pub fn sum_3(b: u64) -> u64
-    ensures { λ r. ⌜ Rise b 42 5 r ⌝ }
+// The sum of T_k - 2^62 for k from 38 to 42, those whose bit of b is set.
+pub fn sum_2(b: u64) -> u64
+    ensures { λ r. ⌜ Rise b 37 5 r ⌝ }
 {
-    match b / 0x20 % 32 {
+    sum_2_at(b / 0x400 % 32)
+}
+
+// The table of `sum_3`, by the number of those bits.
+fn sum_3_at(i: u64) -> u64
+    ensures { λ r. ⌜ ((b : ℕ) → b / 2 ^ 5 % 32 ≡ i → Rise b 42 5 r) ⌝ }
+{
+    match i {
         0 => 0,
         1 => 22712,
         2 => 45425,
@@ -124,11 +140,18 @@ pub fn sum_3(b: u64) -> u64
     }
 }
 
-// The sum of T_k - 2^62 for k from 48 to 52, those whose bit of b is set.
-pub fn sum_4(b: u64) -> u64
-    ensures { λ r. ⌜ Rise b 47 5 r ⌝ }
+// The sum of T_k - 2^62 for k from 43 to 47, those whose bit of b is set.
+pub fn sum_3(b: u64) -> u64
+    ensures { λ r. ⌜ Rise b 42 5 r ⌝ }
 {
-    match b % 32 {
+    sum_3_at(b / 0x20 % 32)
+}
+
+// The table of `sum_4`, by the number of those bits.
+fn sum_4_at(i: u64) -> u64
+    ensures { λ r. ⌜ ((b : ℕ) → b % 32 ≡ i → Rise b 47 5 r) ⌝ }
+{
+    match i {
         0 => 0,
         1 => 708,
         2 => 1418,
@@ -163,4 +186,11 @@ pub fn sum_4(b: u64) -> u64
         31 => 21996,
         _ => 0,
     }
+}
+
+// The sum of T_k - 2^62 for k from 48 to 52, those whose bit of b is set.
+pub fn sum_4(b: u64) -> u64
+    ensures { λ r. ⌜ Rise b 47 5 r ⌝ }
+{
+    sum_4_at(b % 32)
 }

@@ -1,0 +1,80 @@
+-- The result is what stands at its place of the table.
+-- No loop; each arm is an entry of the list `root-4`, by `root-4-at`, and no number below 64 is left for the last.
+use native.Mathlib.Omega.{arith}
+use lib.Dec.{lit<}
+use Rattle.base.proofs.Arms.{past}
+use mathlib.Core.Path.{_∙_}
+use Rattle.log_roots.proofs.Rows.{root-4, root-4-at}
+use Rattle.log_roots.proofs.root_4_at.Statement.{statement}
+use Rattle.log_roots.proofs.root_4_at.Tie as tie
+
+pub root-4-at-spec : {M : Type 1} → statement M
+unfolding root-4
+root-4-at-spec =
+    tie.close
+    (tie.spec
+    (λ c h e. root-4-at h 0 (e ∙ c .match .keys1) (lit< tt))
+    (λ c h e. root-4-at h 1 (e ∙ c .match .keys2) (lit< tt))
+    (λ c h e. root-4-at h 2 (e ∙ c .match .keys3) (lit< tt))
+    (λ c h e. root-4-at h 3 (e ∙ c .match .keys4) (lit< tt))
+    (λ c h e. root-4-at h 4 (e ∙ c .match .keys5) (lit< tt))
+    (λ c h e. root-4-at h 5 (e ∙ c .match .keys6) (lit< tt))
+    (λ c h e. root-4-at h 6 (e ∙ c .match .keys7) (lit< tt))
+    (λ c h e. root-4-at h 7 (e ∙ c .match .keys8) (lit< tt))
+    (λ c h e. root-4-at h 8 (e ∙ c .match .keys9) (lit< tt))
+    (λ c h e. root-4-at h 9 (e ∙ c .match .keys10) (lit< tt))
+    (λ c h e. root-4-at h 10 (e ∙ c .match .keys11) (lit< tt))
+    (λ c h e. root-4-at h 11 (e ∙ c .match .keys12) (lit< tt))
+    (λ c h e. root-4-at h 12 (e ∙ c .match .keys13) (lit< tt))
+    (λ c h e. root-4-at h 13 (e ∙ c .match .keys14) (lit< tt))
+    (λ c h e. root-4-at h 14 (e ∙ c .match .keys15) (lit< tt))
+    (λ c h e. root-4-at h 15 (e ∙ c .match .keys16) (lit< tt))
+    (λ c h e. root-4-at h 16 (e ∙ c .match .keys17) (lit< tt))
+    (λ c h e. root-4-at h 17 (e ∙ c .match .keys18) (lit< tt))
+    (λ c h e. root-4-at h 18 (e ∙ c .match .keys19) (lit< tt))
+    (λ c h e. root-4-at h 19 (e ∙ c .match .keys20) (lit< tt))
+    (λ c h e. root-4-at h 20 (e ∙ c .match .keys21) (lit< tt))
+    (λ c h e. root-4-at h 21 (e ∙ c .match .keys22) (lit< tt))
+    (λ c h e. root-4-at h 22 (e ∙ c .match .keys23) (lit< tt))
+    (λ c h e. root-4-at h 23 (e ∙ c .match .keys24) (lit< tt))
+    (λ c h e. root-4-at h 24 (e ∙ c .match .keys25) (lit< tt))
+    (λ c h e. root-4-at h 25 (e ∙ c .match .keys26) (lit< tt))
+    (λ c h e. root-4-at h 26 (e ∙ c .match .keys27) (lit< tt))
+    (λ c h e. root-4-at h 27 (e ∙ c .match .keys28) (lit< tt))
+    (λ c h e. root-4-at h 28 (e ∙ c .match .keys29) (lit< tt))
+    (λ c h e. root-4-at h 29 (e ∙ c .match .keys30) (lit< tt))
+    (λ c h e. root-4-at h 30 (e ∙ c .match .keys31) (lit< tt))
+    (λ c h e. root-4-at h 31 (e ∙ c .match .keys32) (lit< tt))
+    (λ c h e. root-4-at h 32 (e ∙ c .match .keys33) (lit< tt))
+    (λ c h e. root-4-at h 33 (e ∙ c .match .keys34) (lit< tt))
+    (λ c h e. root-4-at h 34 (e ∙ c .match .keys35) (lit< tt))
+    (λ c h e. root-4-at h 35 (e ∙ c .match .keys36) (lit< tt))
+    (λ c h e. root-4-at h 36 (e ∙ c .match .keys37) (lit< tt))
+    (λ c h e. root-4-at h 37 (e ∙ c .match .keys38) (lit< tt))
+    (λ c h e. root-4-at h 38 (e ∙ c .match .keys39) (lit< tt))
+    (λ c h e. root-4-at h 39 (e ∙ c .match .keys40) (lit< tt))
+    (λ c h e. root-4-at h 40 (e ∙ c .match .keys41) (lit< tt))
+    (λ c h e. root-4-at h 41 (e ∙ c .match .keys42) (lit< tt))
+    (λ c h e. root-4-at h 42 (e ∙ c .match .keys43) (lit< tt))
+    (λ c h e. root-4-at h 43 (e ∙ c .match .keys44) (lit< tt))
+    (λ c h e. root-4-at h 44 (e ∙ c .match .keys45) (lit< tt))
+    (λ c h e. root-4-at h 45 (e ∙ c .match .keys46) (lit< tt))
+    (λ c h e. root-4-at h 46 (e ∙ c .match .keys47) (lit< tt))
+    (λ c h e. root-4-at h 47 (e ∙ c .match .keys48) (lit< tt))
+    (λ c h e. root-4-at h 48 (e ∙ c .match .keys49) (lit< tt))
+    (λ c h e. root-4-at h 49 (e ∙ c .match .keys50) (lit< tt))
+    (λ c h e. root-4-at h 50 (e ∙ c .match .keys51) (lit< tt))
+    (λ c h e. root-4-at h 51 (e ∙ c .match .keys52) (lit< tt))
+    (λ c h e. root-4-at h 52 (e ∙ c .match .keys53) (lit< tt))
+    (λ c h e. root-4-at h 53 (e ∙ c .match .keys54) (lit< tt))
+    (λ c h e. root-4-at h 54 (e ∙ c .match .keys55) (lit< tt))
+    (λ c h e. root-4-at h 55 (e ∙ c .match .keys56) (lit< tt))
+    (λ c h e. root-4-at h 56 (e ∙ c .match .keys57) (lit< tt))
+    (λ c h e. root-4-at h 57 (e ∙ c .match .keys58) (lit< tt))
+    (λ c h e. root-4-at h 58 (e ∙ c .match .keys59) (lit< tt))
+    (λ c h e. root-4-at h 59 (e ∙ c .match .keys60) (lit< tt))
+    (λ c h e. root-4-at h 60 (e ∙ c .match .keys61) (lit< tt))
+    (λ c h e. root-4-at h 61 (e ∙ c .match .keys62) (lit< tt))
+    (λ c h e. root-4-at h 62 (e ∙ c .match .keys63) (lit< tt))
+    (λ c h e. root-4-at h 63 (e ∙ c .match .keys64) (lit< tt))
+    (λ c h e. absurd (omega (arith, past 64 _ (c .match .rest), e))))
