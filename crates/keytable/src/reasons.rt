@@ -1,61 +1,39 @@
-// Refusals in words: the sentences of the crate `base`; that of 12 says how much room this program has.
+// Refusals in words: the sentences of the crate `base`, a line for each number; that of 12 says how much room this program has.
 use libc::STDERR_FILENO;
 
-// The refusals of texts.
-fn say_text(fd: i32, number: u32) {
-    if number == base::NOT_UTF8 {
-        io::write_all(fd, b"a line is not UTF-8");
-    } else if number == base::INT_VALUE {
-        io::write_all(fd, b"not an integer of its type");
-    } else if number == base::CENTS_VALUE {
-        io::write_all(fd, b"not a cents value");
-    } else if number == base::NUMER {
-        io::write_all(fd, b"not a numerator");
-    } else if number == base::DENOM {
-        io::write_all(fd, b"not a denominator");
-    } else if number == base::FLOAT_VALUE {
-        io::write_all(fd, b"not a decimal");
-    } else if number == base::KEYBOARD_MAPPING {
-        io::write_all(fd, b"not a mapping entry");
-    } else {
-        io::write_all(fd, b"a numeral with an exponent, a word, or over 18 digits");
+// The line that starts at a place; nothing past the end.
+fn line_from(lines: &[u8], at: usize) -> &[u8] {
+    let ends = text::lines::next_line(lines, at);
+    let end = ends.end;
+    if at <= end {
+        if end <= lines.len() {
+            return &lines[at..end];
+        }
     }
+    &lines[0..0]
 }
 
-// The others.
-fn say_value(fd: i32, number: u32) {
-    if number == base::UNUSABLE {
-        io::write_all(fd, b"a value, a state or a lent table that cannot be used");
-    } else if number == base::OVERFLOW {
-        io::write_all(fd, b"a number leaves its type");
-    } else if number == base::NO_ROOM {
-        io::write_all(fd, b"more than 8191 items or 8192 entries");
-    } else if number == base::TOO_LARGE {
-        io::write_all(fd, b"over 65,535 entries");
-    } else if number == base::INCONSISTENT_COUNT {
-        io::write_all(
-            fd,
-            b"the text has another count of notes or entries than it says",
-        );
-    } else if number == base::KEY_OUT_OF_RANGE {
-        io::write_all(fd, b"the key is outside the range");
-    } else if number == base::UNMAPPED_KEY {
-        io::write_all(fd, b"the key is unmapped");
-    } else {
-        io::write_all(
-            fd,
-            b"beyond reach: a period of 1.0, 0 divisions, or a computed pitch or ratio outside its range",
-        );
+// The line with a number, from 1 on.
+fn line_of(lines: &[u8], number: u32) -> &[u8] {
+    let mut at: usize = 0;
+    let mut passed: u32 = 1;
+    while passed < number {
+        let ends = text::lines::next_line(lines, at);
+        at = ends.next;
+        passed += 1;
     }
+    line_from(lines, at)
 }
 
 // Writes why a call refused.
-pub fn say(fd: i32, number: u32) {
-    if number < base::UNUSABLE {
-        say_text(fd, number);
-    } else {
-        say_value(fd, number);
-    }
+pub fn say(fd: i32, number: u32) -> bool {
+    io::write_all(
+        fd,
+        line_of(
+            b"a line is not UTF-8\na required line is missing\nnot an integer of its type\nnot a cents value\nnot a numerator\nnot a denominator\nnot a decimal\nnot a mapping entry\na numeral with an exponent, a word, or over 18 digits\na value, a state or a lent table that cannot be used\na number leaves its type\nmore than 8191 items or 8192 entries\nover 65,535 entries\nthe text has another count of notes or entries than it says\nentries and no formal octave\nthe key is outside the range\nthe key is unmapped\nbeyond reach: a period of 1.0, 0 divisions, or a computed pitch or ratio outside its range",
+            number,
+        ),
+    )
 }
 
 // Writes `: required line N is missing` on standard error.

@@ -49,6 +49,29 @@ const NONE: Kbm = Kbm {
     count: 0,
 };
 
+// Whether a scale was read, and its count.
+struct Told {
+    is_read: bool,
+    scl: Scl,
+}
+
+// The same of an answer; where it is a refusal, says so.
+fn tell(name: &[u8], answer: SclReadAnswer) -> Told {
+    match answer {
+        SclReadAnswer::Is(read) => {
+            let scl = read.scl;
+            Told { is_read: true, scl }
+        }
+        SclReadAnswer::Refused(refusal) => {
+            crate::reasons::refuse(name, refusal.number, refusal.detail);
+            Told {
+                is_read: false,
+                scl: Scl { count: 0 },
+            }
+        }
+    }
+}
+
 // The scale of the first n bytes; where it is refused, says so.
 fn scale_of(name: &[u8], bytes: &[u8], n: usize) -> Scale {
     let text = crate::files::first(bytes, n);
@@ -69,19 +92,10 @@ fn scale_of(name: &[u8], bytes: &[u8], n: usize) -> Scale {
         &mut ratio,
         &mut wraps,
     );
-    let mut is_read = false;
-    let mut scl = Scl { count: 0 };
-    match answer {
-        SclReadAnswer::Is(read) => {
-            is_read = true;
-            scl = read.scl;
-        }
-        SclReadAnswer::Refused(refusal) => {
-            crate::reasons::refuse(name, refusal.number, refusal.detail);
-        }
-    }
+    let told = tell(name, answer);
+    let scl = told.scl;
     Scale {
-        is_read,
+        is_read: told.is_read,
         scl,
         kind,
         cents,

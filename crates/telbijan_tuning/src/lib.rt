@@ -6,7 +6,7 @@ use scl::Scl;
 ghost use mathlib.Core.Path.{_≡_};
 ghost use lib.ListN.{length};
 ghost use Rattle.key.specs.Keys.{key};
-ghost use Rattle.key_pitches.specs.Run.{keyPitches, runOf, afterHz, afterNumbers};
+ghost use Rattle.key_pitches.specs.Run.{saysRun, keyPitches, runOf, afterHz, afterNumbers};
 ghost use Rattle.scl.specs.Table.{itemTable, itemsIn};
 ghost use Rattle.sorted.specs.Lent.{listTable};
 ghost use Rattle.telbijan_answers.specs.Interface.{result, kept};
@@ -237,6 +237,16 @@ pub extern "C" fn telbijan_maybe_pitch_of_degree(
     )
 }
 
+// The result of a run of keys.
+fn code_of_run(said: RunAnswer) -> u64
+    ensures { λ r. ⌜ r ≡ result (saysRun said) ⌝ }
+{
+    match said {
+        RunAnswer::Done => 0,
+        RunAnswer::Refused(refusal) => telbijan_answers::code_of(refusal),
+    }
+}
+
 // The pitches of `keys` keys of a mapping, from key `first` on, and beside each its refusal's number, 0 for a pitch: 10 for tables or a
 // root's pitch that cannot be used, 12 where a slice is shorter than the run. Else each key answers as telbijan_maybe_pitch_of does, and
 // 11 where there is no such key; a refused key's pitch stays as it was, and so do the places behind the run. The tables are tested once.
@@ -266,7 +276,7 @@ pub extern "C" fn telbijan_pitches_of(
 {
     let scl = Scl { count };
     let kbm = telbijan_mappings::mapping_with(size, start, end, reference, hz, offset, octave);
-    match key_pitches::pitches_of(
+    let said = key_pitches::pitches_of(
         scl,
         kind,
         cents,
@@ -278,8 +288,6 @@ pub extern "C" fn telbijan_pitches_of(
         keys,
         pitches,
         numbers,
-    ) {
-        RunAnswer::Done => 0,
-        RunAnswer::Refused(refusal) => telbijan_answers::code_of(refusal),
-    }
+    );
+    code_of_run(said)
 }

@@ -24,13 +24,13 @@ build-requires : tie.Need-build-requires
 build-requires c κs = search needs
 
 same-length : tie.Need-same-length
-same-length c = search needs
+same-length c = c .before .before .before .before .place .given
 
 same-length-2 : tie.Need-same-length-2
-same-length-2 c = search needs
+same-length-2 c = c .before .before .ratio .given
 
 same-length-3 : tie.Need-same-length-3
-same-length-3 c = search needs
+same-length-3 c = c .wraps .given
 
 returns-2 : tie.Need-returns-2
 returns-2 c =

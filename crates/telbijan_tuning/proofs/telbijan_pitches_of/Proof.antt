@@ -1,9 +1,8 @@
 -- `telbijan_pitches_of` meets its contract: what `pitches_of` answers and leaves, coded. Assumes nothing.
-use mathlib.Core.Path.{refl}
+use mathlib.Core.Path.{_∙_, ap}
 use borrow.Author.Needs.{needs}
 use mir.Facts.{toZ-ofZ}
-use Rattle.key_pitches.specs.Run.{saysRun}
-use Rattle.telbijan_answers.proofs.Interface.{accepted, refused}
+use Rattle.telbijan_answers.specs.Interface.{result}
 use Rattle.telbijan_tuning.proofs.telbijan_pitches_of.Statement.{statement}
 use Rattle.telbijan_tuning.proofs.telbijan_pitches_of.Tie as tie
 
@@ -13,38 +12,20 @@ mapping-with-requires c κs = search needs
 pitches-of-requires : tie.Need-pitches-of-requires
 pitches-of-requires c κs = search needs
 
-enum-told : tie.Need-enum-told
-enum-told c = search needs
-
-enum-known-refusal : tie.Need-enum-known-refusal
-enum-known-refusal c = search needs
-
-code-of-requires : tie.Need-code-of-requires
-code-of-requires c κs = search needs
+code-of-run-requires : tie.Need-code-of-run-requires
+code-of-run-requires c κs = search needs
 
 same-length : tie.Need-same-length
-same-length c = search needs
+same-length c = c .before .before .before .before .pitches .given
 
 same-length-2 : tie.Need-same-length-2
-same-length-2 c = search needs
+same-length-2 c = c .before .before .numbers .given
 
 returns : tie.Need-returns
 returns c =
-    let told = (rw (c .before .before .before .before .before .before .before .before .before .mapping-with .ensures, toZ-ofZ (c .before .before .before .before .before .before .before .before .before .before .before .before .before .before .before .before .fits .start), toZ-ofZ (c .before .before .before .before .before .before .before .before .before .before .before .before .before .before .before .before .fits .end), toZ-ofZ (c .before .before .before .before .before .before .before .before .before .before .before .before .before .before .before .before .fits .reference), toZ-ofZ (c .before .before .before .before .before .before .before .before .before .before .before .before .before .before .before .before .fits .offset), toZ-ofZ (c .before .before .before .before .before .before .before .before .before .before .before .before .before .before .before .before .fits .octave), toZ-ofZ (c .before .before .before .before .before .before .before .before .before .before .before .before .before .before .before .before .fits .first)) at (c .before .before .before .before .before .before .pitches-of .ensures)) in
-    let is = c .enum-told .given .1 in
-    (accepted saysRun (told .0) is refl, told .1)
-
-same-length-3 : tie.Need-same-length-3
-same-length-3 c = search needs
-
-same-length-4 : tie.Need-same-length-4
-same-length-4 c = search needs
-
-returns-2 : tie.Need-returns-2
-returns-2 c =
-    let told = (rw (c .before .before .before .before .before .before .before .before .before .before .before .mapping-with .ensures, toZ-ofZ (c .before .before .before .before .before .before .before .before .before .before .before .before .before .before .before .before .before .before .fits .start), toZ-ofZ (c .before .before .before .before .before .before .before .before .before .before .before .before .before .before .before .before .before .before .fits .end), toZ-ofZ (c .before .before .before .before .before .before .before .before .before .before .before .before .before .before .before .before .before .before .fits .reference), toZ-ofZ (c .before .before .before .before .before .before .before .before .before .before .before .before .before .before .before .before .before .before .fits .offset), toZ-ofZ (c .before .before .before .before .before .before .before .before .before .before .before .before .before .before .before .before .before .before .fits .octave), toZ-ofZ (c .before .before .before .before .before .before .before .before .before .before .before .before .before .before .before .before .before .before .fits .first)) at (c .before .before .before .before .before .before .before .before .pitches-of .ensures)) in
-    let is = c .before .before .refusal .given .1 in
-    (refused saysRun (told .0) is _ refl (c .code-of .ensures), told .1)
+    let call = c .before .before .before .before .before in
+    let told = (rw (call .before .before .before .mapping-with .ensures, toZ-ofZ (call .before .before .before .before .before .before .before .before .before .before .fits .start), toZ-ofZ (call .before .before .before .before .before .before .before .before .before .before .fits .end), toZ-ofZ (call .before .before .before .before .before .before .before .before .before .before .fits .reference), toZ-ofZ (call .before .before .before .before .before .before .before .before .before .before .fits .offset), toZ-ofZ (call .before .before .before .before .before .before .before .before .before .before .fits .octave), toZ-ofZ (call .before .before .before .before .before .before .before .before .before .before .fits .first)) at (call .pitches-of .ensures)) in
+    (c .code-of-run .ensures ∙ ap result (told .0), told .1)
 
 pub telbijan-pitches-of-spec : {M : Type 1} → statement M
 telbijan-pitches-of-spec =
@@ -52,12 +33,7 @@ telbijan-pitches-of-spec =
     (tie.spec
     mapping-with-requires
     pitches-of-requires
-    enum-told
-    enum-known-refusal
-    code-of-requires
+    code-of-run-requires
     same-length
     same-length-2
-    returns
-    same-length-3
-    same-length-4
-    returns-2)
+    returns)
