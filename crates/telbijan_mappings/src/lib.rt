@@ -8,7 +8,6 @@ use kbm_build::KbmBuilder;
 use kbm_build::Octave;
 use key::PianoKey;
 use pitch::Pitch;
-use writing::SizeAnswer;
 ghost use mathlib.Core.Path.{_≡_};
 ghost use lib.ListN.{length};
 ghost use Rattle.base.specs.Tables.{after};
@@ -102,13 +101,7 @@ pub extern "C" fn telbijan_export_kbm(
     ensures { λ _. ⌜ now (written .exit) ≡ kept (textLength (exportOf (mappingWith count start end reference hz offset octave) (now (map .entry)) (length (now (out .entry))))) (now (written .entry)) ⌝ }
 {
     let kbm = mapping_with(count, start, end, reference, hz, offset, octave);
-    match kbm_write::export_kbm(kbm, map, out) {
-        SizeAnswer::Is(size) => {
-            *written = size;
-            0
-        }
-        SizeAnswer::Refused(refusal) => telbijan_answers::code_of(refusal),
-    }
+    telbijan_answers::store_size(kbm_write::export_kbm(kbm, map, out), written)
 }
 
 // Whether a mapping's root can be used: 10 for a pitch outside 2^-10..2^20.

@@ -1,5 +1,5 @@
 -- `telbijan_export_kbm` meets its contract: what `export_kbm` answers and writes. Assumes nothing.
-use mathlib.Core.Path.{_≡_, refl}
+use mathlib.Core.Path.{_≡_}
 use borrow.Author.Needs.{needs}
 use denote.Ref.{now}
 use lib.ListN.{length}
@@ -9,7 +9,8 @@ use Rattle.writing.specs.Answers.{saysSize}
 use Rattle.writing.specs.Fitted.{textLength}
 use Rattle.kbm_write.specs.Export.{exportOf}
 use Rattle.telbijan_mappings.specs.Mappings.{mappingWith}
-use Rattle.telbijan_answers.proofs.Interface.{accepted, refused, stays, stored}
+use Rattle.telbijan_answers.specs.Interface.{kept}
+use Rattle.telbijan_answers.proofs.Interface.{handed-on}
 use Rattle.telbijan_mappings.proofs.telbijan_export_kbm.Statement.{statement}
 use Rattle.telbijan_mappings.proofs.telbijan_export_kbm.Tie as tie
 
@@ -19,20 +20,11 @@ mapping-with-requires c κs = search needs
 export-kbm-requires : tie.Need-export-kbm-requires
 export-kbm-requires c κs = search needs
 
-enum-known-size : tie.Need-enum-known-size
-enum-known-size c = search needs
-
-enum-known-refusal : tie.Need-enum-known-refusal
-enum-known-refusal c = search needs
-
-code-of-requires : tie.Need-code-of-requires
-code-of-requires c κs = search needs
+store-size-requires : tie.Need-store-size-requires
+store-size-requires c κs = search needs
 
 same-length : tie.Need-same-length
-same-length c = search needs
-
-same-length-2 : tie.Need-same-length-2
-same-length-2 c = search needs
+same-length c = c .before .before .before .out .given
 
 -- the callee's contract, of this function's own arguments: its answer, and the bytes
 told : (c : tie.After-export-kbm) → saysSize (c .export-kbm .result) ≡ textLength (exportOf (mappingWith (c .before .before .before .before .args .count) (c .before .before .before .before .args .start) (c .before .before .before .before .args .end) (c .before .before .before .before .args .reference) (c .before .before .before .before .args .hz) (c .before .before .before .before .args .offset) (c .before .before .before .before .args .octave)) (now (c .before .before .before .before .args .map)) (length (now (c .before .before .before .before .args .out))))
@@ -47,26 +39,11 @@ told-bytes c =
 
 returns : tie.Need-returns
 returns c =
-    let call = c .before .before .before .before .before in
-    let is = c .before .size .given .1 in
-    (accepted saysSize (told call) is refl, (told-bytes call, stored saysSize (told call) is (now (call .before .before .before .before .args .written)) refl refl))
-
-returns-2 : tie.Need-returns-2
-returns-2 c =
-    let call = c .before .before .before .before .before .before in
-    let is = c .before .before .refusal .given .1 in
-    (refused saysSize (told call) is _ refl (c .code-of .ensures), (told-bytes call, stays saysSize (told call) is _ (now (call .before .before .before .before .args .written)) refl))
+    let call = c .before .before .before .before in
+    let handed = handed-on saysSize (λ s. kept s (now (call .before .before .before .before .args .written))) (call .export-kbm .result) (told call) (c .store-size .ensures) in
+    (handed .0, (told-bytes call, handed .1))
 
 pub telbijan-export-kbm-spec : {M : Type 1} → statement M
 telbijan-export-kbm-spec =
     tie.close
-    (tie.spec
-    mapping-with-requires
-    export-kbm-requires
-    enum-known-size
-    enum-known-refusal
-    code-of-requires
-    same-length
-    returns
-    same-length-2
-    returns-2)
+    (tie.spec mapping-with-requires export-kbm-requires store-size-requires same-length returns)
