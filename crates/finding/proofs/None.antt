@@ -8,7 +8,7 @@ use lib.IntN.{ℤ, pos, _+ℤ_, _-ℤ_, _*ℤ_, +ℤ-idr, *ℤ-zero}
 use lib.ListN.{length, getD, length-map}
 use lib.Seq.{getD-take}
 use lib.Ieee.{Float}
-use Rattle.base.specs.Integers.{held}
+use Rattle.base.specs.Integers.{inI32, held}
 use Rattle.base.specs.Numbers.{unusable, beyond-reach}
 use Rattle.base.specs.Said.{Said, gives, andThen}
 use Rattle.base.proofs.Said.{same-value}
@@ -142,3 +142,14 @@ module _ (count : ℕ) (t : ItemTable) (l : ListTable) (none : count ≡ 0) (u :
       let f = find-by-pitch-none root pitch (d .0) (d .1 .0) in
       let z : root .reference .0 +ℤ d .0 .«approx_value» ≡ root .reference .0 = ap (λ (x : Approximation). root .reference .0 +ℤ x .«approx_value») (f .answer) ∙ +ℤ-idr (root .reference .0) in
       (d .0, (f, key-of root (d .0) a (d .1 .1) ∙ ap (approximation (d .0 .deviation)) z))
+
+  -- and it is answered as soon as each of these steps is: the reference key, of 32 bits, never leaves them
+  pub find-key-by-pitch-none-answers : (root : KbmRoot) (pitch : Float) (a d : Approximation) → isRoot root ≡ true → inPitch pitch ≡ true → inI32 (root .reference .0) ≡ true
+      → FindsNone items root pitch d → a ≡ approximation (d .deviation) (root .reference .0)
+      → andThen (tested (isScale count t l && (isRoot root && inPitch pitch)) (andThen (pitchSearchOf items es root pitch) (declaredOf count))) (keyOf root) ≡ gives a
+  unfolding held
+  find-key-by-pitch-none-answers root pitch a d r p i f e =
+      let key = root .reference .0 in
+      let z : key +ℤ d .«approx_value» ≡ key = ap (λ (x : Approximation). key +ℤ x .«approx_value») (f .answer) ∙ +ℤ-idr key in
+      ap (λ (s : Said Approximation). andThen s (keyOf root)) (find-by-pitch-none-answers root pitch d r p f) ∙
+      ap (λ (x : ℤ). andThen (held x) (λ v. gives (approximation (d .deviation) v))) z ∙ (rw i (ap gives (sym e)))

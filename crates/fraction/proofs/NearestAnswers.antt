@@ -110,7 +110,7 @@ whole-value : (n : ℕ) → n ≤ 65535 → HasValue (ofInt binary64 (pos n)) fa
 unfolding ofInt
 whole-value n h = round-whole binary64 false n (le-trans h (lit≤ tt))
 
-fraction-within : (f : Fraction) → Proper f → Within 16 16 (floatOf f)
+pub fraction-within : (f : Fraction) → Proper f → Within 16 16 (floatOf f)
 fraction-within f p =
     quotient-within 16 16 (f .numer) (f .denom) (ofInt binary64 (pos (f .numer))) (ofInt binary64 (pos (f .denom))) (lit≤ tt) (lit≤ tt)
     (whole-value (f .numer) (p .numer-held)) (whole-value (f .denom) (p .denom-held)) (p .denom-some)

@@ -17,7 +17,7 @@ use Rattle.fraction.specs.NearestFraction.{fraction, widest, turns, walk
 use Rattle.pitch.specs.Ratios.{upward}
 use Rattle.fraction.specs.declared.NearestFraction.{NearestFraction}
 use Rattle.fraction.specs.declared.Walk.{Walk}
-use Rattle.fraction.proofs.NearestAnswers.{Reduced, reduced, deviation-reach, middle-proper, counted}
+use Rattle.fraction.proofs.NearestAnswers.{Reduced, reduced, fraction-within, deviation-reach, middle-proper, counted}
 use Rattle.fraction.proofs.States.{Counted, state-walked}
 use Rattle.fraction.proofs.WalkEnds.{walked-end}
 
@@ -64,6 +64,13 @@ pub walk-in-reach : {r : Float} (d : Reduced r) (limit k n m : ℕ) →
 walk-in-reach {r} d limit k n m p q h g =
     let target = div binary64 r (d .power) in
     deviation-reach target (fraction n m) (d .target-within) (middle-proper (state-walked target limit k) n m p q h g)
+
+-- and that fraction itself, as a ratio
+pub middle-in-reach : {r : Float} (d : Reduced r) (limit k n m : ℕ) →
+    (let w = walked k widest (div binary64 r (d .power)) limit in
+    n ≡ w .low .numer + w .high .numer → m ≡ w .low .denom + w .high .denom → n ≤ 65535 → m ≤ 65535 → inReach (floatOf (fraction n m)) ≡ true)
+middle-in-reach {r} d limit k n m p q h g =
+    within-reach (within-more (lit≤ tt) (lit≤ tt) (fraction-within (fraction n m) (middle-proper (state-walked (div binary64 r (d .power)) limit k) n m p q h g)))
 
 answers-best : (target : Float) (octaves : ℤ) (limit : ℕ) → 1 ≤ limit → Within 128 128 target → InLimit limit (bestFor target octaves limit)
 unfolding bestFor

@@ -154,5 +154,8 @@ module _ (t : ItemTable) (l : ListTable) (type : SegmentType) (start size : ℕ)
       first false h q = no-value q
 
 -- ---- two results of one input are equal
-pub create-harmonics-scale-one : (t : ItemTable) (l : ListTable) (made : Said (List Item)) → One saysScl (countedOf made) × One (λ r. r) (itemsLeft made t l) × One (λ r. r) (listLeft made t l)
-create-harmonics-scale-one t l made = (scl-one (countedOf made), one-result (itemsLeft made t l), one-result (listLeft made t l))
+pub create-harmonics-scale-one : (t : ItemTable) (l : ListTable) (type : SegmentType) (start size : ℕ) (divisions : Divisions) →
+    One saysScl (countedOf (madeHarmonics t l type start size divisions)) × One (λ r. r) (itemsLeft (madeHarmonics t l type start size divisions) t l) × One (λ r. r) (listLeft (madeHarmonics t l type start size divisions) t l)
+create-harmonics-scale-one t l type start size divisions =
+    let made = madeHarmonics t l type start size divisions in
+    (scl-one (countedOf made), one-result (itemsLeft made t l), one-result (listLeft made t l))

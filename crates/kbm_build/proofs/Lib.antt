@@ -2,3 +2,4 @@ pub mod Pushes
 pub mod Appends
 pub mod Plain
 pub mod Theorems
+pub mod Calls

@@ -26,11 +26,11 @@ module _ (root : KbmRoot) (map : List ℤ) where
   pub empty-fits : fitsTable (empty root map) map ≡ true
   empty-fits = fitting (empty root map) map refl (omega arith)
 
-  empty-usable : isTable 0 map ≡ true
+  pub empty-usable : isTable 0 map ≡ true
   unfolding areEntries
   empty-usable = rw (le-leb 0 (length map) (omega arith))
 
-  empty-entries : tableOf 0 map ≡ []
+  pub empty-entries : tableOf 0 map ≡ []
   unfolding entriesOf
   empty-entries = refl
 

@@ -10,3 +10,4 @@ pub mod Tables
 pub mod Theorems
 pub mod Samples
 pub mod Numbers
+pub mod Draws

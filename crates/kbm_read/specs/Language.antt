@@ -134,6 +134,10 @@ pub record MappingText (s : List ℕ) (k : Kbm) (es : List Entry) : Type 0 where
   pub mapping : k ≡ mappingFrom values
   pub entries : es ≡ added (sizeOf values) given
 
+-- the text s is a mapping file
+abbrev pub IsMapping : List ℕ → Type 0
+IsMapping s = (k : Kbm) × (es : List Entry) × MappingText s k es
+
 -- n is the first number that is drawn after the last line: 12 where the added entries have no place, 13, 14
 abbrev pub WrongEnd : ℕ → ℕ → List Entry → ℕ → Type 0
 WrongEnd room top es n =

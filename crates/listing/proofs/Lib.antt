@@ -4,3 +4,4 @@ pub mod Follows
 pub mod Language
 pub mod Given
 pub mod Details
+pub mod Ample

@@ -197,5 +197,8 @@ module _ (generator : Float) (positive negative : ℕ) (period : Float) (by-held
         go x o (Way.made y p is a q v) = (is, q)
 
 -- ---- two results of one input are equal
-pub create-rank2-temperament-scale-one : (t : ItemTable) (l : ListTable) (said : Said (List Item)) → One saysScl (countedOf said) × One (λ r. r) (itemsLeft said t l) × One (λ r. r) (listLeft said t l)
-create-rank2-temperament-scale-one t l said = (scl-one (countedOf said), one-result (itemsLeft said t l), one-result (listLeft said t l))
+pub create-rank2-temperament-scale-one : (t : ItemTable) (l : ListTable) (generator : Float) (positive negative : ℕ) (period : Float) →
+    One saysScl (countedOf (madeRank2 t l generator positive negative period)) × One (λ r. r) (itemsLeft (madeRank2 t l generator positive negative period) t l) × One (λ r. r) (listLeft (madeRank2 t l generator positive negative period) t l)
+create-rank2-temperament-scale-one t l generator positive negative period =
+    let said = madeRank2 t l generator positive negative period in
+    (scl-one (countedOf said), one-result (itemsLeft said t l), one-result (listLeft said t l))

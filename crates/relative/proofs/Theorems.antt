@@ -11,21 +11,25 @@ use lib.Ieee.{Float}
 use borrow.Author.Tests.{eqb-true, eqb-false}
 use Rattle.base.specs.Numbers.{unusable}
 use Rattle.base.specs.Said.{Said, gives, refuses, andThen}
-use Rattle.base.proofs.Said.{One, one-result, same-value}
+use Rattle.base.proofs.Said.{One, one-result, same-value, no-value, same-refuses}
 use Rattle.floats.specs.Ranges.{inReach}
 use Rattle.pitch.specs.Answers.{saysRatio}
 use Rattle.pitch.proofs.Theorems.{ratio-one}
 use Rattle.sorting.specs.Entries.{Entry}
 use Rattle.sorted.specs.Lent.{ListTable, listIn, isList}
-use Rattle.scl.specs.Items.{ratioOf}
-use Rattle.scl.specs.Table.{ItemTable, noItem, itemsIn, isItems}
+use Rattle.scl.specs.Items.{ratioOf, Reached}
+use Rattle.scl.specs.Table.{ItemTable, Typed, noItem, itemsIn, isItems}
 use Rattle.scl.specs.declared.Item.{Item}
+use Rattle.scl.proofs.Items.{ratio-reached}
+use Rattle.scl.proofs.Table.{items-usable}
+use Rattle.scl.proofs.Typed.{typed-held}
 use Rattle.scl_tables.specs.Build.{lastOf, countOf}
+use Rattle.scl_tables.proofs.Beyond.{period-ratio}
 use Rattle.relative.specs.Refusals.{ReachedOrBeyond}
 use Rattle.relative.specs.Relative.{periodsOf, placeOf, stretched, relativePitchOf, sortedRelativePitchOf}
 use Rattle.relative.specs.Scales.{noEntry, tested, isScale}
 use Rattle.relative.proofs.Opened.{place-none, place-some}
-use Rattle.relative.proofs.Places.{items-count, list-at, ratio-reach}
+use Rattle.relative.proofs.Places.{items-length, items-count, list-at, ratio-reach}
 use Rattle.relative.proofs.Refusals.{and-reached, item-reached, stretched-reached}
 
 -- the place of a degree is one of the scale's
@@ -55,6 +59,18 @@ module _ (count : ℕ) (t : ItemTable) where
 
   pub period-refusals : isItems count t ≡ true → ReachedOrBeyond (tested (isItems count t) (ratioOf (lastOf (itemsIn count t))))
   period-refusals h = rw h (item-reached (lastOf (itemsIn count t)))
+
+  -- of columns of u32, as a call lends them, the period lies in 2^-32..2^32: 10 is its one refusal, exactly for the tables
+  module _ (typed : Typed t) where
+    pub period-reached : isItems count t ≡ true → Reached (tested (isItems count t) (ratioOf (lastOf (itemsIn count t))))
+    period-reached h = rw h (ratio-reached (period-ratio (itemsIn count t) (omega (arith, items-length count t h)) (typed-held t typed count) (items-usable count t h)))
+
+    pub period-refused : (n d : ℕ) → tested (isItems count t) (ratioOf (lastOf (itemsIn count t))) ≡ refuses n d → (isItems count t ≡ false) × (n ≡ unusable) × (d ≡ 0)
+    period-refused n d e = go (isItems count t) refl
+      where
+        go : (b : Bool) → isItems count t ≡ b → (isItems count t ≡ false) × (n ≡ unusable) × (d ≡ 0)
+        go true h = no-value (sym e ∙ period-reached h .is)
+        go false h = let r = same-refuses (sym (items-refused (ratioOf (lastOf (itemsIn count t))) h) ∙ e) in (h, sym (r .0), sym (r .1))
 
   pub relative-pitch-refusals : (d : ℤ) → isItems count t ≡ true → ReachedOrBeyond (tested (isItems count t) (relativePitchOf (itemsIn count t) d))
   relative-pitch-refusals d h = rw h (relative-refusals (itemsIn count t) d)

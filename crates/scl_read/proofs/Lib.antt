@@ -9,3 +9,4 @@ pub mod Leaves
 pub mod Theorems
 pub mod Samples
 pub mod Numbers
+pub mod Draws

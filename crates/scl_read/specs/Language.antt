@@ -81,6 +81,10 @@ pub record ScaleText (s description : List ℕ) (items : List Item) (list : List
   pub described : description ≡ descriptionOf values
   pub sorted : scaleOf (implicit ∷ items) ≡ gives list
 
+-- the text s is a scale file
+abbrev pub IsScale : List ℕ → Type 0
+IsScale s = (description : List ℕ) × (items : List Item) × (list : List Entry) × ScaleText s description items list
+
 -- n is the first number that is drawn after the last line: 13, "14 unless items equal the count", 18
 abbrev pub WrongEnd : Values → List Item → ℕ → Type 0
 WrongEnd vs items n =
