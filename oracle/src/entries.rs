@@ -1,8 +1,8 @@
-//! The calls on the sorted list as a slice of structs. They are not in the C interface, so the cases go as frozen lines to the proved program
-//! `replay_entries`, which makes the calls and says how many lines have the same answer: number and detail, or value, and every place of
-//! the lent columns and of the list, those of a refused call too. What they should be is what the column call should give in that room.
+//! The calls on the sorted list as a slice of structs. They are not in the C interface, so the cases go as frozen questions to the proved program
+//! `replay_entries`, which makes the calls and writes the answers: number and detail, or value, and every place of the lent columns and of
+//! the list, those of a refused call too. What they should be is what the column call should give in that room.
 
-use crate::freeze::{List, MOST};
+use crate::freeze::{List, text};
 use crate::freeze_entries as lines;
 use crate::inputs::{Random, drawn};
 use crate::rules_scl;
@@ -14,39 +14,39 @@ use std::process::{Command, Stdio};
 /// Starts the program, which is built.
 const START: &str = concat!(env!("CARGO_MANIFEST_DIR"), "/../tools/start");
 
-/// What the program says of a list.
-fn replayed(list: &str) -> Result<String> {
+/// What the program answers to questions. It reads all of them before it writes.
+fn replayed(questions: &[String]) -> Result<String> {
     let mut program = Command::new(START).arg("replay_entries").stdin(Stdio::piped()).stdout(Stdio::piped()).spawn()?;
-    program.stdin.take().into_iter().try_for_each(|mut pipe| pipe.write_all(list.as_bytes()))?;
+    program.stdin.take().into_iter().try_for_each(|mut pipe| pipe.write_all(text(questions).as_bytes()))?;
     let said = program.wait_with_output()?;
-    Ok(String::from_utf8_lossy(&said.stdout).trim_end().to_string())
+    Ok(String::from_utf8_lossy(&said.stdout).into_owned())
 }
 
-fn is_same(list: &str, lines: usize) -> bool {
-    replayed(list).is_ok_and(|said| said == format!("{lines} same, 0 differ"))
-}
-
-/// A list counted and replayed; of one that is not the same, the lines that differ.
+/// A list counted and replayed; of one that is not the same, the questions whose answers differ.
 fn replay(tally: &mut Tally, list: &List) {
     list.said.iter().for_each(|&(who, code)| tally.count(who, code));
-    if !is_same(&list.text(), list.lines.len()) {
-        let alone = list.lines.iter().filter(|line| !is_same(&format!("{line}\n"), 1));
-        alone.for_each(|line| tally.require(false, line));
-        tally.require(false, "a list was not replayed as the same");
+    let said = replayed(&list.questions).unwrap_or_default();
+    if said != text(&list.answers) {
+        let mut answers = said.lines();
+        for (question, answer) in list.questions.iter().zip(&list.answers) {
+            let said = answers.next().unwrap_or_default();
+            tally.require(said == answer, &format!("{question}: {said}, and not {answer}"));
+        }
+        tally.require(false, "a list was not answered as it should be");
     }
 }
 
 const LISTS: usize = 12;
+const BYTES: usize = 16_384;
 
-/// Lists of as many lines as the program reads.
+/// Lists of so many bytes of questions.
 fn lists(tally: &mut Tally, stream: u64, mut line: impl FnMut(&mut Random, &mut List)) {
     let mut random = Random::new(stream);
     for _ in drawn(LISTS) {
         let (mut list, mut bytes) = (List::default(), 0);
-        // the longest line has 512 bytes of text, written with 1,024 digits, and 18 places
-        while bytes + 3_000 < MOST {
+        while bytes < BYTES {
             line(&mut random, &mut list);
-            bytes += list.lines.last().map_or(0, |line| line.len() + 1);
+            bytes += list.questions.last().map_or(0, |line| line.len() + 1);
         }
         replay(tally, &list);
     }

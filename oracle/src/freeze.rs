@@ -1,6 +1,5 @@
-//! Freezes answers into the lists that the programs `replay` and `replay_..` compare with the proved
-//! library, so that `rt ci` needs no Rust: `oracle freeze CRATES` writes stdin and stdout of each. The crate `frozen` says how a
-//! line is written, and reads it.
+//! Freezes questions and their answers for the programs `replay` and `replay_..`, which put the questions to the proved library, so that
+//! `rt ci` needs no Rust: `oracle freeze CRATES` writes stdin and stdout of each. The crate `frozen` says how a line of either is written.
 
 use crate::lent::Float;
 use crate::tally::{Code, Said, Who};
@@ -9,39 +8,47 @@ use std::fs;
 use std::io::{Error, Result};
 
 /// What one run of a program reads at most.
-pub const MOST: usize = 65_536;
+const MOST: usize = 262_144;
 
 /// Refusals that the rules alone number: there the Rust goes on or panics, and a line that holds one is the rules'.
 const ONLY_RULES: [&str; 4] = ["!9", "!10", "!11", "!12"];
 
-/// A list under way: its lines, and for each whose answer it has, and which.
+/// A list under way: its questions and their answers, and for each whose answer it is, and which.
 #[derive(Default)]
 pub struct List {
-    pub lines: Vec<String>,
+    pub questions: Vec<String>,
+    pub answers: Vec<String>,
     pub said: Vec<(Who, Code)>,
 }
 
-impl List {
-    /// What a program reads.
-    pub fn text(&self) -> String {
-        self.lines.iter().map(|line| format!("{line}\n")).collect()
-    }
+/// Lines as a file has them.
+pub fn text(lines: &[String]) -> String {
+    lines.iter().map(|line| format!("{line}\n")).collect()
+}
 
-    /// A line: who says so, the call with its arguments, and the answer, shown where it was accepted.
+impl List {
+    /// A question: who answers it, the call and its arguments; and its answer: the call, and what it says, shown where it was accepted.
     pub fn push<T>(&mut self, call: &str, said: Said<T>, shown: impl FnOnce(T) -> String) {
         self.push_with(call, said, shown, "");
     }
 
     /// The same, where more stands after the answer or the refusal.
     pub fn push_with<T>(&mut self, call: &str, said: Said<T>, shown: impl FnOnce(T) -> String, more: &str) {
+        self.push_after(call, "", said, shown, more);
+    }
+
+    /// The same, where the answers of other calls stand before it.
+    pub fn push_after<T>(&mut self, call: &str, before: &str, said: Said<T>, shown: impl FnOnce(T) -> String, more: &str) {
         let code = said.code;
         let answer = match code {
             Code::ACCEPTED => shown(said.value),
             code => refusal(code),
         };
-        let line = format!("{call} {answer} {more}");
-        let whose = if line.split(' ').any(|field| ONLY_RULES.contains(&field)) { Who::Rules } else { said.who };
-        self.lines.push(format!("{} {line}", who(whose)).trim_end().to_string());
+        let name = call.split(' ').next().unwrap_or_default();
+        let fields = [name, before, &answer, more].map(str::trim).into_iter().filter(|part| !part.is_empty()).collect::<Vec<&str>>().join(" ");
+        let whose = if fields.split(' ').any(|field| ONLY_RULES.contains(&field)) { Who::Rules } else { said.who };
+        self.questions.push(format!("{} {call}", who(whose)));
+        self.answers.push(fields);
         self.said.push((whose, code));
     }
 }
@@ -75,11 +82,15 @@ pub fn hex(bytes: &[u8]) -> String {
     if bytes.is_empty() { "-".to_string() } else { bytes.iter().map(|b| format!("{b:02x}")).collect() }
 }
 
+fn numbers_and_texts(list: &mut List) {
+    freeze_numbers::integers(list);
+    freeze_numbers::pitches(list);
+    freeze_text::texts(list);
+}
+
 pub fn freeze(crates: &str) -> Result<()> {
     for (name, fill) in [
-        ("replay", freeze_numbers::integers as fn(&mut List)),
-        ("replay_pitch", freeze_numbers::pitches),
-        ("replay_text", freeze_text::texts),
+        ("replay", numbers_and_texts as fn(&mut List)),
         ("replay_scl", freeze_scl::scales),
         ("replay_entries", freeze_entries::entry_lists),
         ("replay_kbm", freeze_kbm::mappings),
@@ -87,14 +98,14 @@ pub fn freeze(crates: &str) -> Result<()> {
     ] {
         let mut list = List::default();
         fill(&mut list);
-        let text = list.text();
-        if text.len() > MOST {
-            return Err(Error::other(format!("{name}: {} bytes are more than {MOST}", text.len())));
+        let (questions, answers) = (text(&list.questions), text(&list.answers));
+        if questions.len() > MOST {
+            return Err(Error::other(format!("{name}: {} bytes are more than {MOST}", questions.len())));
         }
-        let by = |word: &str| list.lines.iter().filter(|l| l.starts_with(word)).count();
-        fs::write(format!("{crates}/{name}/stdin"), &text)?;
-        fs::write(format!("{crates}/{name}/stdout"), format!("{} same, 0 differ\n", list.lines.len()))?;
-        println!("{name}: {} answers, {} bytes: {} of the Rust, {} on the second E and L, {} by the rules", list.lines.len(), text.len(), by("rust "), by("second "), by("rules "));
+        let by = |whose: Who| list.said.iter().filter(|(who, _)| *who == whose).count();
+        fs::write(format!("{crates}/{name}/stdin"), &questions)?;
+        fs::write(format!("{crates}/{name}/stdout"), &answers)?;
+        println!("{name}: {} answers, {} bytes: {} of the Rust, {} on the second E and L, {} by the rules", list.said.len(), questions.len() + answers.len(), by(Who::Rust), by(Who::Second), by(Who::Rules));
     }
     Ok(())
 }

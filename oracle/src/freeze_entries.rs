@@ -1,34 +1,21 @@
 //! Frozen answers on the sorted list as a slice of structs: reads, builds over the items that were read, and searches in the list that a
-//! read left. The program lends seven columns of 10 places and a list of 8 structs, and a line shows every place of them.
+//! read left. The program lends seven columns of 16 places and a list of 8 structs, and an answer shows every item and entry of them, `.`
+//! being one that is as it was lent.
 
 use crate::ffi_scl::{Columns, Entry, Item, Push, Stored};
 use crate::ffi_tuning::{Found, OLD_FOUND};
 use crate::freeze::{List, float, hex, written};
+use crate::freeze_scl::{PLACES, entry, lent, shown, unless_lent};
 use crate::lent::Float;
 use crate::rules_tuning as rules;
 use crate::tally::{Code, Said, Who};
 use crate::tuning::{self, Built};
 use crate::{scl_build, scl_read};
 
-const PLACES: usize = 10;
 const LIST: usize = 8;
 
 fn old() -> Entry {
     (8, 0.5f64.to_bits(), 8)
-}
-
-/// What the program lends.
-fn lent() -> Columns {
-    let (place, ratio, wraps) = old();
-    Columns {
-        kind: vec![9; PLACES],
-        cents: vec![2f64.to_bits(); PLACES],
-        numer: vec![7; PLACES],
-        denom: vec![7; PLACES],
-        place: vec![place; PLACES],
-        ratio: vec![ratio; PLACES],
-        wraps: vec![wraps; PLACES],
-    }
 }
 
 /// The list of structs beside the columns: the entries that were written, and behind them what was there.
@@ -38,9 +25,7 @@ fn structs(c: &Columns, entries: usize) -> Vec<Entry> {
 
 /// Every place of the columns, then every one of the list.
 fn places(c: &Columns, entries: usize) -> String {
-    let columns = (0..PLACES).map(|k| format!("{} {:016x} {} {} {} {:016x} {}", c.kind[k], c.cents[k], c.numer[k], c.denom[k], c.place[k], c.ratio[k], c.wraps[k]));
-    let list = structs(c, entries).into_iter().map(|(place, ratio, wraps)| format!("{place} {ratio:016x} {wraps}"));
-    columns.chain(list).collect::<Vec<String>>().join(" ")
+    shown(c) + &structs(c, entries).into_iter().map(|e| unless_lent(entry(e), entry(old()))).collect::<String>()
 }
 
 /// A read in the room of the shortest, which is the list.

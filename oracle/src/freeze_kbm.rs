@@ -22,6 +22,11 @@ fn table(map: &[i32]) -> String {
     format!("{}{}", map.len(), places.concat())
 }
 
+/// A degree or a formal octave that may lack: 1 and the number, or 0 and 0.
+fn optional(number: Option<i16>) -> String {
+    number.map_or("0 0".to_string(), |number| format!("1 {number}"))
+}
+
 fn reads(list: &mut List) {
     let one = |list: &mut List, text: &[u8], room: usize| {
         let said = kbm_read::said(text, room);
@@ -53,7 +58,7 @@ fn reads(list: &mut List) {
 fn degrees(list: &mut List) {
     let mut random = Random::new(105);
     let one = |list: &mut List, m: Mapping, map: &[i32], key: i32| {
-        list.push(&format!("degree {} {} {key}", table(map), fields(m)), kbm_use::degree(m, map, key), |degree| degree.to_string());
+        list.push(&format!("degree {key} {} {}", fields(m), table(map)), kbm_use::degree(m, map, key), |degree| degree.to_string());
     };
     for key in [60, 61, 63, 59, 128, -1, 0, 127] {
         one(list, SAMPLE, &[0, UNMAPPED, 2], key);
@@ -70,7 +75,7 @@ fn degrees(list: &mut List) {
     }
     for (map, count) in [(vec![0], 2), (vec![40_000], 1), (vec![0, -32_769], 2), (vec![], 1)] {
         let m = Mapping { count, ..SAMPLE };
-        list.push(&format!("degree {} {} 500", table(&map), fields(m)), Said::refused(Who::Rules, 10, 0, 0), |degree: i32| degree.to_string());
+        list.push(&format!("degree 500 {} {}", fields(m), table(&map)), Said::refused(Who::Rules, 10, 0, 0), |degree: i32| degree.to_string());
     }
 }
 
@@ -79,7 +84,7 @@ fn exports(list: &mut List) {
     let one = |list: &mut List, m: Mapping, map: &[i32], room: usize| {
         let said = kbm_use::export(m, map, room);
         let after = hex(&said.value.1);
-        list.push_with(&format!("export {} {} {room}", table(map), fields(m)), said, |(size, _)| size.to_string(), &after);
+        list.push_with(&format!("export {room} {} {}", fields(m), table(map)), said, |(size, _)| size.to_string(), &after);
     };
     for k in 0..36 {
         let (mut m, entries) = rust_kbm::random(&mut random, k % 6);
@@ -100,7 +105,7 @@ fn exports(list: &mut List) {
 
 fn pushes(list: &mut List) {
     for hz in [440.0, 2f64.powi(20), 2f64.powi(20).next_up(), 2f64.powi(-10), 2f64.powi(-10).next_down(), 0.0, -440.0, f64::NAN, f64::INFINITY] {
-        list.push(&format!("root 60 {} 2", float(hz)), kbm_build::root(60, hz, 2), |()| "usable".to_string());
+        list.push(&format!("root 60 {} 2", float(hz)), kbm_build::root(60, hz, 2), |()| format!("60 {} 2", float(hz)));
     }
     // pushes onto states that are the table's and that are not
     for (places, room, count) in [(3, 3, 0), (3, 3, 2), (3, 3, 3), (3, 4, 0), (3, 3, 4), (3, 2, 0), (0, 0, 0), (1, 1, 0)] {
@@ -112,8 +117,7 @@ fn pushes(list: &mut List) {
             if said.code == Code::ACCEPTED {
                 map[count] = degree.map_or(UNMAPPED, i32::from);
             }
-            let shown = degree.map_or("x".to_string(), |d| d.to_string());
-            list.push_with(&format!("push {before} {room} {count} {shown}"), said, |after| after.to_string(), &table(&map));
+            list.push_with(&format!("push {room} {count} {} {before}", optional(degree)), said, |after| after.to_string(), &table(&map));
         }
     }
 }
@@ -124,12 +128,11 @@ fn builds(list: &mut List) {
     for k in 0..60 {
         let run = kbm_build::random_run(&mut random, k % 7);
         let m = run.mapping;
-        let octave = run.octave.map_or("-".to_string(), |octave| octave.to_string());
-        let degrees: Vec<String> = run.pushes.iter().map(|d| d.map_or(" x".to_string(), |d| format!(" {d}"))).collect();
+        let degrees: Vec<String> = run.pushes.iter().map(|&degree| format!(" {}", optional(degree))).collect();
         let answers: Vec<String> = (0..run.pushes.len()).map(|k| kbm_build::push(&run, k)).map(|said| if said.code == Code::ACCEPTED { said.value.0.to_string() } else { refusal(said.code) }).collect();
-        let call = format!("build {} {} {} {} {} {} {octave} {}{} {}", run.room, m.reference, float(m.pitch()), m.offset, m.start, m.end, degrees.len(), degrees.concat(), answers.join(" "));
+        let call = format!("build {} {} {} {} {} {} {} {}{}", run.room, m.reference, float(m.pitch()), m.offset, m.start, m.end, optional(run.octave), degrees.len(), degrees.concat());
         let after = table(&kbm_build::table(&run, run.pushes.len().min(run.room)));
-        list.push_with(call.trim_end(), kbm_build::build(&run), |(count, octave)| fields(Mapping { count, octave, ..m }), &after);
+        list.push_after(&call, &answers.join(" "), kbm_build::build(&run), |(count, octave)| fields(Mapping { count, octave, ..m }), &after);
     }
 }
 
@@ -137,7 +140,7 @@ fn builds(list: &mut List) {
 fn finishes(list: &mut List) {
     for hz in [0.0, 2f64.powi(20).next_up(), f64::NAN] {
         let (m, after) = (Mapping { hz: Float::of(hz), ..SAMPLE }, table(&[PATTERN; 3]));
-        let call = format!("build 3 {} {} {} {} {} 5", m.reference, float(hz), m.offset, m.start, m.end);
+        let call = format!("build 3 {} {} {} {} {} 1 5 0", m.reference, float(hz), m.offset, m.start, m.end);
         list.push_with(&call, kbm_build::root(m.reference, hz, m.offset), |()| unreachable!(), &after);
     }
     let root = Mapping { reference: 0, octave: 1, ..SAMPLE };
@@ -147,7 +150,7 @@ fn finishes(list: &mut List) {
         } else {
             Said::gives(Who::Rust, rust_kbm::parts(&rust_kbm::of(root, &map[..count])).0)
         };
-        list.push_with(&format!("finish {} {room} {count}", table(&map)), said, fields, &table(&map));
+        list.push_with(&format!("finish {room} {count} {}", table(&map)), said, fields, &table(&map));
     }
 }
 

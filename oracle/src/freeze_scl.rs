@@ -1,7 +1,7 @@
-//! Frozen answers on scales: files, items, pushes, builds and exports. Each call is lent seven columns of 16 places; a line ends with all
-//! places that the call may write, and the program sees that those behind them are as before.
+//! Frozen answers on scales: files, items, pushes, builds and exports. Each call is lent seven columns of 16 places; an answer ends with every
+//! item and entry of them, `.` being one that is as it was lent.
 
-use crate::ffi_scl::{Columns, Item, Push};
+use crate::ffi_scl::{Columns, Entry, Item, Push};
 use crate::freeze::{List, float, hex, refusal, written};
 use crate::inputs::Random;
 use crate::tally::{Code, Said, Who};
@@ -22,24 +22,45 @@ pub fn lent() -> Columns {
     }
 }
 
-/// The seven fields of a place.
-fn row(c: &Columns, k: usize) -> String {
-    let (cents, ratio) = (f64::from_bits(c.cents[k]), f64::from_bits(c.ratio[k]));
-    format!(" {} {} {} {} {} {} {}", c.kind[k], float(cents), c.numer[k], c.denom[k], c.place[k], float(ratio), c.wraps[k])
+/// The four fields of an item, and the three of an entry of the sorted list.
+fn item(c: &Columns, k: usize) -> String {
+    format!(" {} {} {} {}", c.kind[k], float(f64::from_bits(c.cents[k])), c.numer[k], c.denom[k])
 }
 
-/// All places up to the last that is not as the program made it.
+pub fn entry((place, ratio, wraps): Entry) -> String {
+    format!(" {place} {} {wraps}", float(f64::from_bits(ratio)))
+}
+
+fn entry_at(c: &Columns, k: usize) -> String {
+    entry((c.place[k], c.ratio[k], c.wraps[k]))
+}
+
+/// Fields after a call; `.` for those that are as they were lent.
+pub fn unless_lent(fields: String, old: String) -> String {
+    if fields == old { " .".to_string() } else { fields }
+}
+
+/// Every place after a call.
+pub fn shown(c: &Columns) -> String {
+    let old = lent();
+    (0..PLACES).map(|k| unless_lent(item(c, k), item(&old, k)) + &unless_lent(entry_at(c, k), entry_at(&old, k))).collect()
+}
+
+/// What a question has of columns: all places up to the last that is not as the program lends it, after their number.
+fn listed(c: &Columns, row: impl Fn(&Columns, usize) -> String) -> String {
+    let old = lent();
+    let places = (0..PLACES).rposition(|k| row(c, k) != row(&old, k)).map_or(0, |last| last + 1);
+    format!("{places}{}", (0..places).map(|k| row(c, k)).collect::<String>())
+}
+
 pub fn places(c: &Columns) -> String {
-    let old = row(&lent(), 0);
-    let rows: Vec<String> = (0..PLACES).map(|k| row(c, k)).collect();
-    let shown = rows.iter().rposition(|row| *row != old).map_or(0, |last| last + 1);
-    format!("{shown}{}", rows[..shown].concat())
+    listed(c, |c, k| item(c, k) + &entry_at(c, k))
 }
 
 fn reads(list: &mut List) {
     let one = |list: &mut List, text: &[u8]| {
         let said = scl_read::said(text, &lent(), [PLACES; 7]);
-        let after = places(&said.value.1);
+        let after = shown(&said.value.1);
         list.push_with(&format!("read {}", hex(text)), said, |((count, start, end), _)| format!("{count} {start} {end}"), &after);
     };
     for file in scl_read::FILES {
@@ -76,20 +97,22 @@ fn ratios(list: &mut List) {
     list.push(&format!("ratio 3 {} 1 1", float(0.0)), Said::refused(Who::Rules, 18, 0, crate::lent::Float::Untouched), written);
 }
 
-/// The three fields of a push.
+/// The four fields of a step: 0 a new builder, 1 cents, 2 a ratio, 3 an integer, 4 a fraction. What a step does not take is 0.
+const NEW: &str = "0 0000000000000000 0 0";
+
 fn fields(push: Push) -> String {
     match push {
-        Push::Cents(x) => format!("c {} -", float(x)),
-        Push::Ratio(x) => format!("r {} -", float(x)),
-        Push::Int(n) => format!("f {n} -"),
-        Push::Fraction(n, d) => format!("f {n} {d}"),
+        Push::Cents(x) => format!("1 {} 0 0", float(x)),
+        Push::Ratio(x) => format!("2 {} 0 0", float(x)),
+        Push::Int(n) => format!("3 {} {n} 0", float(0.0)),
+        Push::Fraction(n, d) => format!("4 {} {n} {d}", float(0.0)),
     }
 }
 
 /// A run: a new builder, each push, and the build. What the columns hold at the end is the Rust's where it builds (`built`), else the
 /// rules'.
 fn build(list: &mut List, pushes: &[Push]) {
-    let call = format!("build {} n - -{}", pushes.len() + 1, pushes.iter().map(|&push| format!(" {}", fields(push))).collect::<String>());
+    let call = format!("build {} {NEW}{}", pushes.len() + 1, pushes.iter().map(|&push| format!(" {}", fields(push))).collect::<String>());
     let mut columns = lent();
     columns.put_items(0, &[Item::cents(0.0)]);
     let mut taken = Vec::new();
@@ -107,8 +130,8 @@ fn build(list: &mut List, pushes: &[Push]) {
         answers = format!("{answers} {answer}");
     }
     let said = scl_build::built(&columns, &taken);
-    let after = places(&said.value.1);
-    list.push_with(&format!("{call} {answers}"), said, |(count, _)| count.to_string(), &after);
+    let after = shown(&said.value.1);
+    list.push_after(&call, &answers, said, |(count, _)| count.to_string(), &after);
 }
 
 fn builds(list: &mut List) {
@@ -124,11 +147,11 @@ fn builds(list: &mut List) {
     build(list, &(2..19).map(Push::Int).collect::<Vec<_>>());
     // states that are not the columns'
     for (room, count, push) in [(17, 0, Push::Int(2)), (4, 4, Push::Int(2)), (0, 0, Push::Cents(1.0)), (4, 3, Push::Int(0)), (16, 15, Push::Cents(f64::INFINITY))] {
-        list.push_with(&format!("push {room} {count} {}", fields(push)), Said::refused(Who::Rules, 10, 0, ()), |()| String::new(), &places(&lent()));
+        list.push_with(&format!("push {room} {count} {}", fields(push)), Said::refused(Who::Rules, 10, 0, ()), |()| String::new(), &shown(&lent()));
     }
-    list.push_with("push 16 15 f 2 -", Said::refused(Who::Rules, 12, 0, ()), |()| String::new(), &places(&lent()));
+    list.push_with(&format!("push 16 15 {}", fields(Push::Int(2))), Said::refused(Who::Rules, 12, 0, ()), |()| String::new(), &shown(&lent()));
     for (room, count) in [(17, 1), (16, 16), (0, 0), (16, 0)] {
-        list.push_with(&format!("finish {room} {count}"), Said::refused(Who::Rules, 10, 0, ()), |()| String::new(), &places(&lent()));
+        list.push_with(&format!("finish {room} {count}"), Said::refused(Who::Rules, 10, 0, ()), |()| String::new(), &shown(&lent()));
     }
 }
 
@@ -142,7 +165,7 @@ fn export(list: &mut List, description: &[u8], items: &[Item], count: u16, room:
 fn one_export(list: &mut List, description: &[u8], columns: &Columns, count: u16, room: usize) {
     let said = scl_export::export(description, columns, count, room);
     let after = hex(&said.value.1);
-    list.push_with(&format!("export {} {count} {room} {}", hex(description), places(columns)), said, |(length, _)| length.to_string(), &after);
+    list.push_with(&format!("export {} {count} {room} {}", hex(description), listed(columns, item)), said, |(length, _)| length.to_string(), &after);
 }
 
 fn exports(list: &mut List) {

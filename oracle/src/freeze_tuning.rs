@@ -6,7 +6,7 @@ use crate::ffi_kbm::Mapping;
 use crate::ffi_scl::{Columns, Push};
 use crate::ffi_tuning::Found;
 use crate::freeze::{List, float, written};
-use crate::freeze_scl::{PLACES, lent, places};
+use crate::freeze_scl::{PLACES, lent, places, shown};
 use crate::inputs::Random;
 use crate::lent::Float;
 use crate::rules_tuning::Root;
@@ -86,10 +86,10 @@ fn unusable(list: &mut List) {
     }
 }
 
-/// The mapping's fields after those of the question.
-fn mapped(m: Mapping, map: &[i32]) -> String {
-    let entries: String = map.iter().map(|entry| format!(" {entry}")).collect();
-    format!(" {} {} {} {} {}{entries}", m.count, m.start, m.end, m.octave, map.len())
+/// The mapping's fields after those of the question, with all entries of its table, and the number of keys of a run.
+fn mapped(m: Mapping, map: &[i32], keys: usize) -> String {
+    let entries: String = (0..MAPPED).map(|k| format!(" {}", map.get(k).unwrap_or(&0))).collect();
+    format!(" {} {} {} {}{entries} {keys}", m.count, m.start, m.end, m.octave)
 }
 
 fn root_of(m: Mapping) -> Root {
@@ -112,16 +112,15 @@ fn run(list: &mut List, b: &Built, m: Mapping, map: &[i32], kbm: &Kbm, first: i3
 
 fn listed_run(list: &mut List, b: &Built, m: Mapping, map: &[i32], first: i32, keys: usize, said: Said<()>, hz: [f64; MAPPED], numbers: [u32; MAPPED]) {
     let after: String = (0..MAPPED).map(|k| format!("{} {} ", float(hz[k]), numbers[k])).collect();
-    let more = format!("{} {keys}", mapped(m, map));
-    list.push_with(&asked("run", b.count, root_of(m), first, 0.0, &more, &b.columns), said, |()| "done".to_string(), &after);
+    list.push_with(&asked("run", b.count, root_of(m), first, 0.0, &mapped(m, map, keys), &b.columns), said, |()| "done".to_string(), &after);
 }
 
 fn by_key(list: &mut List, b: &Built, m: Mapping, map: &[i32], kbm: &Kbm, key: i32) {
-    list.push(&asked("maybe_key", b.count, root_of(m), key, 0.0, &mapped(m, map), &b.columns), tuning::maybe_pitch(b, m, map, kbm, key), written);
+    list.push(&asked("maybe_key", b.count, root_of(m), key, 0.0, &mapped(m, map, 0), &b.columns), tuning::maybe_pitch(b, m, map, kbm, key), written);
 }
 
 fn by_degree(list: &mut List, b: &Built, m: Mapping, map: &[i32], kbm: &Kbm, degree: i32) {
-    list.push(&asked("maybe_degree", b.count, root_of(m), degree, 0.0, &mapped(m, map), &b.columns), tuning::maybe_degree_pitch(b, m, map, kbm, degree), written);
+    list.push(&asked("maybe_degree", b.count, root_of(m), degree, 0.0, &mapped(m, map, 0), &b.columns), tuning::maybe_degree_pitch(b, m, map, kbm, degree), written);
 }
 
 /// A mapping in which every number counts: its entries, their gap, the octave, the range, the root.
@@ -151,7 +150,7 @@ fn mappings(list: &mut List) {
     let refused = || Said::refused(Who::Rules, 10, 0, ());
     for (m, map) in [(Mapping { hz: Float::of(0.0009), ..usual }, map), (usual, [0, 40_000, 2]), (Mapping { count: 9, ..usual }, map)] {
         for name in ["maybe_key", "maybe_degree"] {
-            list.push(&asked(name, b.count, root_of(m), 60, 0.0, &mapped(m, &map), &b.columns), refused(), |()| String::new());
+            list.push(&asked(name, b.count, root_of(m), 60, 0.0, &mapped(m, &map, 0), &b.columns), refused(), |()| String::new());
         }
         listed_run(list, &b, m, &map, 60, 4, refused(), [OLD_HZ; MAPPED], [OLD_NUMBER; MAPPED]);
     }
@@ -183,9 +182,9 @@ fn segments(list: &mut List) {
     for (k, (start, size, divisions)) in named.into_iter().chain(more).enumerate() {
         let segment = Segment { otonal: k % 2 == 0, start, size, divisions };
         let said = generators::harmonics(&lent(), segment);
-        let after = places(&said.value.1);
-        let into = divisions.map_or("-".to_string(), |n| n.to_string());
-        list.push_with(&format!("harmonics {} {start} {size} {into}", if segment.otonal { "o" } else { "u" }), said, |(count, _)| count.to_string(), &after);
+        let after = shown(&said.value.1);
+        let into = divisions.map_or("0 0".to_string(), |n| format!("1 {n}"));
+        list.push_with(&format!("harmonics {} {start} {size} {into}", u8::from(segment.otonal)), said, |(count, _)| count.to_string(), &after);
     }
 }
 
@@ -196,7 +195,7 @@ fn temperaments(list: &mut List) {
     ];
     for (generator, positive, negative, period) in named {
         let said = generators::rank2(&lent(), Temperament { generator, positive, negative, period });
-        let after = places(&said.value.1);
+        let after = shown(&said.value.1);
         list.push_with(&format!("rank2 {} {positive} {negative} {}", float(generator), float(period)), said, |(count, _)| count.to_string(), &after);
     }
 }

@@ -1,148 +1,44 @@
-// Replays frozen answers on whole numbers and keys (the crate `frozen` says how a line is written): writes how many are the
-// same and how many differ. The list is made by `oracle freeze`.
-use frozen::Counts;
-use integer_math::I32Answer;
-use integers::I32;
-use integers::U16;
-use integers::U32;
-use key::KeyAnswer;
-use key::MidiAnswer;
-use key::PianoKey;
+// Answers frozen questions on whole numbers, keys, E, L, pitches, ratios, the nearest fraction, lines, tokens and numerals, in and out (the
+// crate `frozen` says how they are written). The questions and the answers are made by `oracle freeze`.
 use libc::STDIN_FILENO;
-use math::DivisionAnswer;
-use math::U32Answer;
 
-fn is_i32(answer: I32Answer, line: &[u8], at: usize) -> bool {
-    match answer {
-        I32Answer::Is(z) => frozen::is_last(frozen::is_i32(z, line, at), line, at),
-        I32Answer::Refused(refusal) => frozen::is_refused(refusal, line, at),
+mod numbers;
+mod pitches;
+mod texts;
+
+// The answer of a line. A call goes by its number, here and in the modules.
+fn answer(line: &[u8]) {
+    let call = frozen::asked(
+        line,
+        b"i32_div_u iu  i32_rem_u iu  i32_dr_u iu  num_keys_before ii  plus_steps ii  checked_midi_number i  from_midi_number i  midi_number i  odd_factors_u16 c  octave   unison   exp2 f  log2 f  from_hz f  as_hz f  from_float f  from_octaves f  from_semitones f  from_cents f  as_float f  as_octaves f  as_semitones f  as_cents f  inv f  abs f  is_negligible f  pitch_times ff  pitch_over ff  between_pitches ff  stretched_by ff  deviation_from ff  repeated ff  divided_into_equal_steps ff  num_equal_steps_of_size ff  total_cmp ff  nearest_fraction fc  line tu  says tuu  decimal t  u16 t  u32 t  i16 t  i32 t  fixed rufuy  print_i32 rui  print_u32 ruu ",
+    );
+    match call {
+        0..=2 => numbers::say_division_of(call, line),
+        3..=8 => numbers::say_key_of(call, line),
+        9..=18 => pitches::say_made(call, frozen::given::float(line, 2)),
+        19..=25 => pitches::say_method(call, frozen::given::float(line, 2)),
+        26..=35 => pitches::say_pair(call, line),
+        36..=42 => texts::say_read(call, line),
+        43..=45 => texts::say_print(call, line),
+        _ => {}
     }
 }
 
-fn is_u32(answer: U32Answer, line: &[u8], at: usize) -> bool {
-    match answer {
-        U32Answer::Is(n) => frozen::is_last(frozen::is_u32(n, line, at), line, at),
-        U32Answer::Refused(refusal) => frozen::is_refused(refusal, line, at),
-    }
-}
-
-fn is_division(answer: DivisionAnswer, line: &[u8], at: usize) -> bool {
-    match answer {
-        DivisionAnswer::Is(found) => {
-            if frozen::is_i32(found.quotient, line, at) {
-                let second = frozen::next(line, at);
-                return frozen::is_last(frozen::is_u32(found.remainder, line, second), line, second);
-            }
-            false
-        }
-        DivisionAnswer::Refused(refusal) => frozen::is_refused(refusal, line, at),
-    }
-}
-
-fn is_key(answer: KeyAnswer, line: &[u8], at: usize) -> bool {
-    match answer {
-        KeyAnswer::Is(reached) => frozen::is_last(frozen::is_i32(reached.0, line, at), line, at),
-        KeyAnswer::Refused(refusal) => frozen::is_refused(refusal, line, at),
-    }
-}
-
-fn is_midi(answer: MidiAnswer, line: &[u8], at: usize) -> bool {
-    match answer {
-        MidiAnswer::Is(number) => {
-            frozen::is_last(frozen::is_u32(number as u32, line, at), line, at)
-        }
-        MidiAnswer::Refused(refusal) => frozen::is_refused(refusal, line, at),
-    }
-}
-
-// Whether a division of a by the number at a place gives the answer of its line.
-fn is_same_division(name: &[u8], a: i32, line: &[u8], at: usize) -> bool {
-    let U32::Is(b) = integers::read_u32(frozen::field(line, at)) else {
-        return false;
-    };
-    let answer = frozen::next(line, at);
-    if check::same(name, b"i32_div_u") {
-        return is_i32(math::i32_div_u(a, b), line, answer);
-    }
-    if check::same(name, b"i32_rem_u") {
-        return is_u32(math::i32_rem_u(a, b), line, answer);
-    }
-    if check::same(name, b"i32_dr_u") {
-        return is_division(math::i32_dr_u(a, b), line, answer);
-    }
-    false
-}
-
-// Whether a call of the key a and the number at a place gives the answer of its line.
-fn is_same_key(name: &[u8], a: i32, line: &[u8], at: usize) -> bool {
-    let I32::Is(b) = integers::read_i32(frozen::field(line, at)) else {
-        return false;
-    };
-    let answer = frozen::next(line, at);
-    if check::same(name, b"num_keys_before") {
-        return is_i32(PianoKey(a).num_keys_before(PianoKey(b)), line, answer);
-    }
-    is_key(PianoKey(a).plus_steps(b), line, answer)
-}
-
-fn is_same_odd(line: &[u8], at: usize) -> bool {
-    let U16::Is(n) = integers::read_u16(frozen::field(line, at)) else {
-        return false;
-    };
-    let answer = frozen::next(line, at);
-    let odd = math::odd_factors_u16(n);
-    frozen::is_last(frozen::is_u32(odd as u32, line, answer), line, answer)
-}
-
-// Whether a call gives the answer of its line.
-fn is_same(line: &[u8]) -> bool {
-    let name = frozen::field(line, frozen::next(line, 0));
-    let at = frozen::later(line, 0, 2);
-    if check::same(name, b"odd_factors_u16") {
-        return is_same_odd(line, at);
-    }
-    let I32::Is(a) = integers::read_i32(frozen::field(line, at)) else {
-        return false;
-    };
-    let after = frozen::next(line, at);
-    if check::same(name, b"from_midi_number") {
-        let key = PianoKey::from_midi_number(a);
-        return frozen::is_last(frozen::is_i32(key.0, line, after), line, after);
-    }
-    if check::same(name, b"midi_number") {
-        let number = PianoKey(a).midi_number();
-        return frozen::is_last(frozen::is_i32(number, line, after), line, after);
-    }
-    if check::same(name, b"checked_midi_number") {
-        return is_midi(PianoKey(a).checked_midi_number(), line, after);
-    }
-    if check::same(name, b"num_keys_before") {
-        return is_same_key(name, a, line, after);
-    }
-    if check::same(name, b"plus_steps") {
-        return is_same_key(name, a, line, after);
-    }
-    is_same_division(name, a, line, after)
-}
-
-// The counts of all lines.
-fn counted_all(list: &[u8]) -> Counts {
-    let mut counts = Counts { same: 0, differ: 0 };
+fn answer_all(list: &[u8]) {
     let mut at: usize = 0;
     while at < list.len() {
-        let line = frozen::line(list, at);
-        counts = frozen::counted(counts, line, is_same(line));
+        answer(frozen::line(list, at));
+        frozen::say::end();
         let following = frozen::following(list, at);
         if following <= at {
-            return frozen::counted(counts, line, false);
+            return;
         }
         at = following;
     }
-    counts
 }
 
 fn main() {
-    let mut list = io::large_buffer();
+    let mut list = [0u8; 262144];
     let n = io::read_full(STDIN_FILENO, &mut list);
-    frozen::print(counted_all(&list[..n]));
+    answer_all(&list[..n]);
 }

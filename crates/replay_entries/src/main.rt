@@ -1,24 +1,22 @@
-// Replays frozen answers on the sorted list as a slice of structs (the crate `frozen` says how a line is written): writes how many are
-// the same and how many differ. The list is made by `oracle freeze`.
+// Answers frozen questions on the sorted list as a slice of structs (the crate `frozen` says how they are written). The questions and the answers
+// are made by `oracle freeze`.
 //
-// A line's text is read into seven columns of 10 places and a list of 8 structs; a search or a build goes on from there. What stands in a
-// place after a call: kind, cents, numerator, denominator, place, ratio and wraparounds of the columns, then place, ratio and
-// wraparounds of the list, for every place.
+// A question's text is read into seven columns of 16 places and a list of 8 structs; a search or a build goes on from there. The answer of a
+// read or a build ends with every place of the columns, then of the list.
 use approximation::DegreeSearch;
 use entries::SortedEntry;
-use frozen::Counts;
-use frozen::Float;
-use frozen::Size;
-use integers::U16;
+use frozen::given;
+use frozen::say;
+use lent::Reading;
 use libc::STDIN_FILENO;
 use pitch::Ratio;
 use scl::Scl;
 use scl::SclAnswer;
 use scl_build::SclBuilder;
+use scl_read::SclRead;
 use scl_read::SclReadAnswer;
 
 mod lent;
-mod shown;
 
 // An entry that no call has written.
 const OLD: SortedEntry = SortedEntry {
@@ -27,34 +25,72 @@ const OLD: SortedEntry = SortedEntry {
     wraps: 8,
 };
 
-// `read TEXT`: where the places stand, after the count, start and end of the description, or a refusal.
-fn after_read(said: SclReadAnswer, line: &[u8], at: usize) -> usize {
-    match said {
-        SclReadAnswer::Is(read) => shown::after_read(read, line, at),
-        SclReadAnswer::Refused(refusal) => shown::after_refusal(refusal, line, at),
+fn say_list(list: [SortedEntry; 8]) {
+    let mut k: usize = 0;
+    while k < 8 {
+        let e = list[k];
+        say::entry(e.place, e.ratio, e.wraps);
+        k += 1;
     }
 }
 
-// `build TEXT ROOM COUNT`, the build of a state over the items read, beside a list and columns that are new: the count or a refusal, then
-// the places.
-fn is_built<'i>(
-    kind: &'i [u8],
-    cents: &'i [f64],
-    numer: &'i [u32],
-    denom: &'i [u32],
+// Count, and start and end of the description.
+fn say_scale(read: SclRead) {
+    let scl = read.scl;
+    let description = read.description;
+    say::size(scl.count as usize);
+    say::size(description.start);
+    say::size(description.end);
+}
+
+fn say_answer(answer: SclReadAnswer) {
+    match answer {
+        SclReadAnswer::Is(read) => say_scale(read),
+        SclReadAnswer::Refused(refusal) => say::refusal(refusal),
+    }
+}
+
+// `read TEXT`: count, start and end of the description, or a refusal; then the places.
+fn say_read(
+    done: Reading,
+    kind: &[u8; 16],
+    cents: &[f64; 16],
+    numer: &[u32; 16],
+    denom: &[u32; 16],
+    place: &[u32; 16],
+    ratio: &[f64; 16],
+    wraps: &[i32; 16],
+) {
+    let said = done.answer;
+    let list = done.list;
+    say_answer(said);
+    say::places(kind, cents, numer, denom, place, ratio, wraps);
+    say_list(list);
+}
+
+fn say_count(answer: SclAnswer) {
+    match answer {
+        SclAnswer::Is(scl) => say::size(scl.count as usize),
+        SclAnswer::Refused(refusal) => say::refusal(refusal),
+    }
+}
+
+// `build TEXT ROOM COUNT`, the build of a state over the items read, beside a list and columns that are new: the count or a refusal, then the
+// places.
+fn say_built<'i>(
+    kind: &'i [u8; 16],
+    cents: &'i [f64; 16],
+    numer: &'i [u32; 16],
+    denom: &'i [u32; 16],
     line: &[u8],
-    at: usize,
-) -> bool {
-    let mut place = [8u32; 10];
-    let mut ratio = [0.5; 10];
-    let mut wraps = [8; 10];
-    let Size::Is(room) = frozen::size_of(line, at) else {
-        return false;
+) {
+    let mut place = [8u32; 16];
+    let mut ratio = [0.5; 16];
+    let mut wraps = [8; 16];
+    let state = SclBuilder {
+        room: given::size(line, 3),
+        count: given::size(line, 4),
     };
-    let Size::Is(count) = frozen::size_of(line, frozen::later(line, at, 1)) else {
-        return false;
-    };
-    let state = SclBuilder { room, count };
     let done = lent::build(
         state,
         kind,
@@ -68,73 +104,65 @@ fn is_built<'i>(
     );
     let said = done.answer;
     let list = done.list;
-    let answer = frozen::later(line, at, 2);
-    let after = match said {
-        SclAnswer::Is(scl) => shown::after_size(scl.count as usize, line, answer),
-        SclAnswer::Refused(refusal) => shown::after_refusal(refusal, line, answer),
-    };
-    shown::are_places(
-        kind,
-        cents,
-        numer,
-        denom,
-        &place,
-        &ratio,
-        &wraps,
-        list,
-        line,
-        after,
-    )
+    say_count(said);
+    say::places(kind, cents, numer, denom, &place, &ratio, &wraps);
+    say_list(list);
 }
 
 // `find TEXT COUNT SORTED TARGET`, SORTED being 1 for the ascending degree: the degree and the deviation, or a refusal.
-fn is_found<'i>(
-    kind: &'i [u8],
-    cents: &'i [f64],
-    numer: &'i [u32],
-    denom: &'i [u32],
+fn say_found<'i>(
+    kind: &'i [u8; 16],
+    cents: &'i [f64; 16],
+    numer: &'i [u32; 16],
+    denom: &'i [u32; 16],
     list: [SortedEntry; 8],
     line: &[u8],
-    at: usize,
-) -> bool {
-    let U16::Is(count) = integers::read_u16(frozen::field(line, at)) else {
-        return false;
+) {
+    let scl = Scl {
+        count: given::count(line, 3),
     };
-    let Float::Is(x) = frozen::float_of(frozen::field(line, frozen::later(line, at, 2))) else {
-        return false;
-    };
-    let sorted = frozen::is_u32(1, line, frozen::later(line, at, 1));
-    let answer = frozen::later(line, at, 3);
-    match lent::find(
-        Scl { count },
-        kind,
-        cents,
-        numer,
-        denom,
-        list,
-        Ratio(x),
-        sorted,
-    ) {
-        DegreeSearch::Degree(a) => shown::is_approximation(a, line, answer),
-        DegreeSearch::Refused(refusal) => frozen::is_refused(refusal, line, answer),
+    let sorted = given::flag(line, 4);
+    let target = Ratio(given::float(line, 5));
+    match lent::find(scl, kind, cents, numer, denom, list, target, sorted) {
+        DegreeSearch::Degree(found) => {
+            say::int(found.approx_value);
+            say::float(found.deviation);
+        }
+        DegreeSearch::Refused(refusal) => say::refusal(refusal),
     }
 }
 
-// Whether the calls on the first bytes of a text give the answer of a line, from its place on.
-fn is_answer(text: &[u8], length: usize, line: &[u8], answer: usize) -> bool {
-    let mut kind = [9u8; 10];
-    let mut cents = [2.0; 10];
-    let mut numer = [7u32; 10];
-    let mut denom = [7u32; 10];
-    let mut place = [8u32; 10];
-    let mut ratio = [0.5; 10];
-    let mut wraps = [8; 10];
-    let name = frozen::field(line, frozen::next(line, 0));
-    if text.len() < length {
-        return false;
+// What a line asks for after a read.
+fn say_after<'i>(
+    call: usize,
+    done: Reading,
+    kind: &'i [u8; 16],
+    cents: &'i [f64; 16],
+    numer: &'i [u32; 16],
+    denom: &'i [u32; 16],
+    place: &[u32; 16],
+    ratio: &[f64; 16],
+    wraps: &[i32; 16],
+    line: &[u8],
+) {
+    let list = done.list;
+    match call {
+        0 => say_read(done, kind, cents, numer, denom, place, ratio, wraps),
+        1 => say_built(kind, cents, numer, denom, line),
+        _ => say_found(kind, cents, numer, denom, list, line),
     }
+}
+
+fn say_of(call: usize, text: &[u8], line: &[u8]) {
+    let mut kind = [9u8; 16];
+    let mut cents = [2.0; 16];
+    let mut numer = [7u32; 16];
+    let mut denom = [7u32; 16];
+    let mut place = [8u32; 16];
+    let mut ratio = [0.5; 16];
+    let mut wraps = [8; 16];
     let done = lent::read(
-        &text[..length],
+        text,
         &mut kind,
         &mut cents,
         &mut numer,
@@ -144,60 +172,51 @@ fn is_answer(text: &[u8], length: usize, line: &[u8], answer: usize) -> bool {
         &mut wraps,
         [OLD; 8],
     );
-    let said = done.answer;
-    let list = done.list;
-    if check::same(name, b"read") {
-        let after = after_read(said, line, answer);
-        return shown::are_places(
-            &kind,
-            &cents,
-            &numer,
-            &denom,
-            &place,
-            &ratio,
-            &wraps,
-            list,
-            line,
-            after,
-        );
-    }
-    if check::same(name, b"find") {
-        return is_found(&kind, &cents, &numer, &denom, list, line, answer);
-    }
-    if check::same(name, b"build") {
-        return is_built(&kind, &cents, &numer, &denom, line, answer);
-    }
-    false
+    say_after(
+        call,
+        done,
+        &kind,
+        &cents,
+        &numer,
+        &denom,
+        &place,
+        &ratio,
+        &wraps,
+        line,
+    );
 }
 
-// Whether a call gives the answer of its line.
-fn is_same(line: &[u8]) -> bool {
+// `NAME TEXT ..`.
+fn say_text(call: usize, line: &[u8]) {
     let mut text = [238u8; 512];
-    let at = frozen::later(line, 0, 2);
-    let Size::Is(length) = frozen::unhex(line, at, &mut text) else {
-        return false;
-    };
-    is_answer(&text, length, line, frozen::next(line, at))
+    let length = given::bytes(line, 2, &mut text);
+    say_of(call, frozen::first(&text, length), line);
 }
 
-// The counts of all lines.
-fn counted_all(list: &[u8]) -> Counts {
-    let mut counts = Counts { same: 0, differ: 0 };
+// The answer of a line.
+fn answer(line: &[u8]) {
+    let call = frozen::asked(line, b"read t  build tuu  find tcyf ");
+    match call {
+        0..=2 => say_text(call, line),
+        _ => {}
+    }
+}
+
+fn answer_all(list: &[u8]) {
     let mut at: usize = 0;
     while at < list.len() {
-        let line = frozen::line(list, at);
-        counts = frozen::counted(counts, line, is_same(line));
+        answer(frozen::line(list, at));
+        say::end();
         let following = frozen::following(list, at);
         if following <= at {
-            return frozen::counted(counts, line, false);
+            return;
         }
         at = following;
     }
-    counts
 }
 
 fn main() {
-    let mut list = io::large_buffer();
+    let mut list = [0u8; 262144];
     let n = io::read_full(STDIN_FILENO, &mut list);
-    frozen::print(counted_all(&list[..n]));
+    answer_all(&list[..n]);
 }

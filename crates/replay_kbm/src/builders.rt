@@ -1,6 +1,6 @@
-// Runs of a builder, each push beside its answer.
-use frozen_mappings::PATTERN;
-use frozen_mappings::PLACES;
+// Runs of a builder. A degree or a formal octave that may lack is two fields: 1 and the number, or 0 and 0.
+use frozen::given;
+use frozen::say;
 use kbm::KbmRoot;
 use kbm_build::BuilderAnswer;
 use kbm_build::KbmBuilder;
@@ -8,33 +8,22 @@ use kbm_build::Octave;
 use key::PianoKey;
 use pitch::Pitch;
 
-// The most pushes of a line.
-const PUSHES: usize = 16;
-
-// A builder after its pushes, its table, and where the next answer stands.
-struct Done {
-    builder: KbmBuilder,
-    map: [i32; 16],
-    answer: usize,
-}
-
-// One push of a field, `x` or a degree. For another field the answer is one that no line has.
+// One push of two fields.
 fn pushed(builder: KbmBuilder, map: &mut [i32], line: &[u8], at: usize) -> BuilderAnswer {
-    let degree = frozen::given::short(line, at, 0);
-    if frozen::is_i16(degree, line, at) {
-        return builder.push_mapped_key(map, degree);
+    if given::flag(line, at) {
+        return builder.push_mapped_key(
+            map,
+            given::short(line, std::num::wrapping_add_usize(at, 1)),
+        );
     }
-    if check::same(frozen::field(line, at), b"x") {
-        return builder.push_unmapped_key(map);
-    }
-    BuilderAnswer::Refused(frozen::NO_SUCH)
+    builder.push_unmapped_key(map)
 }
 
-// Where the answers of a push go on: the new count, or a refusal.
-fn after_push(answer: BuilderAnswer, line: &[u8], at: usize) -> usize {
+// The new count, or a refusal.
+fn say_pushed(answer: BuilderAnswer) {
     match answer {
-        BuilderAnswer::Is(builder) => frozen::after::size(builder.count, line, at),
-        BuilderAnswer::Refused(refusal) => frozen::after::refusal(refusal, line, at),
+        BuilderAnswer::Is(builder) => say::size(builder.count),
+        BuilderAnswer::Refused(refusal) => say::refusal(refusal),
     }
 }
 
@@ -46,103 +35,60 @@ fn kept(answer: BuilderAnswer, old: KbmBuilder) -> KbmBuilder {
     }
 }
 
-// One push more, into the first places of the table, beside its answer.
-fn with_push(done: Done, room: usize, line: &[u8], at: usize) -> Done {
-    let builder = done.builder;
-    let mut map = done.map;
-    let said = pushed(
-        builder,
-        frozen_mappings::first_mut(&mut map, room),
-        line,
-        at,
-    );
-    Done {
-        builder: kept(said, builder),
-        map,
-        answer: after_push(said, line, done.answer),
-    }
-}
-
-// All pushes of a line.
-fn run(builder: KbmBuilder, room: usize, pushes: usize, line: &[u8], from: usize) -> Done {
-    let map = [PATTERN; PLACES];
-    let answer = frozen::later(line, from, pushes);
-    let mut done = Done {
-        builder,
-        map,
-        answer,
-    };
-    let mut k = 0;
+// All pushes of a line, each answered, then the build of the table.
+fn say_run(start: KbmBuilder, map: &mut [i32], line: &[u8]) {
+    let pushes = given::size(line, 10);
+    let mut builder = start;
+    let mut at: usize = 11;
+    let mut k: usize = 0;
     while k < pushes {
-        done = with_push(done, room, line, frozen::later(line, from, k));
+        let said = pushed(builder, map, line, at);
+        say_pushed(said);
+        builder = kept(said, builder);
+        at = std::num::wrapping_add_usize(at, 2);
         k += 1;
     }
-    done
+    crate::say_mapping(builder.build(map));
 }
 
-// A builder with the formal octave of a field; with none for `-`.
-fn with_octave(builder: KbmBuilder, line: &[u8], at: usize) -> KbmBuilder {
-    let octave = frozen::given::short(line, at, 0);
-    if frozen::is_i16(octave, line, at) {
-        return builder.formal_octave(octave);
+// A builder with the formal octave of a line, or with none.
+fn with_octave(builder: KbmBuilder, line: &[u8]) -> KbmBuilder {
+    if given::flag(line, 8) {
+        return builder.formal_octave(given::short(line, 9));
     }
     builder
 }
 
-// Where a line goes on after a formal octave or `-`.
-fn after_octave(line: &[u8], at: usize) -> usize {
-    if check::same(frozen::field(line, at), b"-") {
-        return frozen::next(line, at);
+// The builder of a line, with its range and formal octave.
+fn begun(map: &[i32], line: &[u8]) -> BuilderAnswer {
+    match KbmBuilder::new(crate::root_at_3(line), map) {
+        BuilderAnswer::Is(builder) => BuilderAnswer::Is(with_octave(
+            builder.range(PianoKey(given::int(line, 6)), PianoKey(given::int(line, 7))),
+            line,
+        )),
+        BuilderAnswer::Refused(refusal) => BuilderAnswer::Refused(refusal),
     }
-    frozen::after::short(frozen::given::short(line, at, 0), line, at)
 }
 
-// The build of the first places of a table: the mapping or a refusal, then the table.
-fn is_built(builder: KbmBuilder, map: [i32; 16], places: usize, line: &[u8], at: usize) -> bool {
-    let answer = builder.build(frozen_mappings::first(&map, places));
-    let after = frozen_mappings::after_answer(answer, line, at);
-    frozen_mappings::is_table(map, places, line, after)
-}
-
-// The pushes and the build, from the formal octave on.
-fn is_build(builder: KbmBuilder, room: usize, line: &[u8], at: usize) -> bool {
-    let size = after_octave(line, at);
-    let pushes = frozen::given::at_most(PUSHES, line, size, 0);
-    let from = frozen::after::size(pushes, line, size);
-    let done = run(with_octave(builder, line, at), room, pushes, line, from);
-    let map = done.map;
-    is_built(done.builder, map, room, line, done.answer)
-}
-
-// `build ROOM REFERENCE PITCH OFFSET START END OCTAVE PUSHES ..`: the answer of each push, the mapping or a refusal, then the table.
-// Where no builder starts, its refusal and the table follow the octave.
-pub fn is_same_build(line: &[u8], at: usize) -> bool {
-    let map = [PATTERN; PLACES];
-    let room = frozen::given::at_most(PLACES, line, at, 0);
-    let second = frozen::after::size(room, line, at);
-    let root = frozen_mappings::read_root(line, second);
-    let range = frozen_mappings::after_root(root, line, second);
-    let start = frozen::given::int(line, range, 0);
-    let end = frozen::given::int(line, range, 1);
-    let octave = frozen::after::int(end, line, frozen::after::int(start, line, range));
-    match KbmBuilder::new(root, frozen_mappings::first(&map, room)) {
-        BuilderAnswer::Is(builder) => {
-            is_build(
-                builder.range(PianoKey(start), PianoKey(end)),
-                room,
-                line,
-                octave,
-            )
-        }
-        BuilderAnswer::Refused(refusal) => {
-            let after = frozen::after::refusal(refusal, line, frozen::next(line, octave));
-            frozen_mappings::is_table(map, room, line, after)
-        }
+// What a line builds, or why no builder starts.
+fn say_begun(map: &mut [i32], line: &[u8]) {
+    match begun(map, line) {
+        BuilderAnswer::Is(builder) => say_run(builder, map, line),
+        BuilderAnswer::Refused(refusal) => say::refusal(refusal),
     }
+}
+
+// `build ROOM ROOT START END OCTAVE PUSHES ..`: the answer of each push, the mapping or a refusal, then the table; where no builder starts,
+// its refusal and the table.
+pub fn say_build(line: &[u8]) {
+    let mut map = [crate::PATTERN; 16];
+    let room = given::size(line, 2);
+    say_begun(crate::first_mut(&mut map, room), line);
+    say::table(crate::first(&map, room));
 }
 
 // A state of two fields, ROOM and COUNT, which need not be a table's.
-fn read_state(line: &[u8], at: usize) -> KbmBuilder {
+fn state(line: &[u8]) -> KbmBuilder {
     let root = KbmRoot {
         reference: PianoKey(0),
         pitch: Pitch(440.0),
@@ -153,34 +99,25 @@ fn read_state(line: &[u8], at: usize) -> KbmBuilder {
         start: PianoKey(0),
         end: PianoKey(128),
         octave: Octave::Missing,
-        room: frozen::given::size(line, at, 0),
-        count: frozen::given::size(line, at, 1),
+        room: given::size(line, 2),
+        count: given::size(line, 3),
     }
 }
 
-// Where a line goes on after this state.
-fn after_state(state: KbmBuilder, line: &[u8], at: usize) -> usize {
-    frozen::after::size(state.count, line, frozen::after::size(state.room, line, at))
+// `push ROOM COUNT DEGREE TABLE` on a state that need not be the table's: the new count or a refusal, then the table.
+pub fn say_push(line: &[u8]) {
+    let places = given::size(line, 6);
+    let mut map = frozen::columns::ints(crate::PATTERN, places, line, 7, 1);
+    say_pushed(pushed(state(line), crate::first_mut(&mut map, places), line, 4));
+    say::table(crate::first(&map, places));
 }
 
-// `push TABLE ROOM COUNT DEGREE` on a state that need not be the table's: the new count or a refusal, then the table.
-pub fn is_same_push(line: &[u8], at: usize) -> bool {
-    let table = frozen_mappings::read_table(line, at);
-    let mut map = table.map;
-    let state = read_state(line, table.after);
-    let degree = after_state(state, line, table.after);
-    let places = frozen_mappings::first_mut(&mut map, table.places);
-    let said = pushed(state, places, line, degree);
-    let after = after_push(said, line, frozen::next(line, degree));
-    frozen_mappings::is_table(map, table.places, line, after)
-}
-
-// `finish TABLE ROOM COUNT`, the build of a state that need not be the table's, with formal octave 1: the mapping or a refusal, then
-// the table.
-pub fn is_same_finish(line: &[u8], at: usize) -> bool {
-    let table = frozen_mappings::read_table(line, at);
-    let state = read_state(line, table.after);
-    let answer = after_state(state, line, table.after);
-    let map = table.map;
-    is_built(state.formal_octave(1), map, table.places, line, answer)
+// `finish ROOM COUNT TABLE`, the build of a state that need not be the table's, with formal octave 1: the mapping or a refusal, then the
+// table.
+pub fn say_finish(line: &[u8]) {
+    let places = given::size(line, 4);
+    let map = frozen::columns::ints(crate::PATTERN, places, line, 5, 1);
+    let table = crate::first(&map, places);
+    crate::say_mapping(state(line).formal_octave(1).build(table));
+    say::table(table);
 }

@@ -1,116 +1,183 @@
-// Replays frozen answers on mappings (the crate `frozen` says how a line is written, `frozen_mappings` what a mapping and a table are):
-// writes how many are the same and how many differ. The list is made by `oracle freeze`.
+// Answers frozen questions on mappings (the crate `frozen` says how they are written). The questions and the answers are made by `oracle freeze`.
 //
-// An answer ends with what every lent place or byte is after the call.
-use frozen::Counts;
-use frozen_mappings::PATTERN;
-use frozen_mappings::PLACES;
+// A root is three fields: reference key, pitch, offset. A mapping is seven: count, start, end, those of its root, formal octave. A table is the
+// number of its places, at most 16, and each of them. An answer ends with what every lent place or byte is after the call.
+use frozen::given;
+use frozen::say;
 use kbm::DegreeAnswer;
+use kbm::Kbm;
+use kbm::KbmAnswer;
 use kbm::KbmRoot;
 use kbm::RootAnswer;
 use key::PianoKey;
 use libc::STDIN_FILENO;
+use pitch::Pitch;
 use writing::SizeAnswer;
 
 mod builders;
 
-// What lent bytes are before a call.
+// What lent places and bytes are before a call.
+const PATTERN: i32 = 1515870810;
+
 const BYTE: u8 = 238;
 
-// `degree TABLE MAPPING KEY`: the degree, or a refusal.
-fn is_same_degree(line: &[u8], at: usize) -> bool {
-    let table = frozen_mappings::read_table(line, at);
-    let map = table.map;
-    let kbm = frozen_mappings::read_mapping(line, table.after);
-    let key = frozen_mappings::after_mapping(kbm, line, table.after);
-    let number = frozen::given::int(line, key, 0);
-    let answer = frozen::after::int(number, line, key);
-    let places = frozen_mappings::first(&map, table.places);
-    let after = match kbm::scale_degree_of(kbm, places, PianoKey(number)) {
-        DegreeAnswer::Is(degree) => frozen::after::int(degree.0, line, answer),
-        DegreeAnswer::Refused(refusal) => frozen::after::refusal(refusal, line, answer),
-    };
-    frozen::is_end(line, after)
+// The first places, so many; all where there are fewer.
+fn first(map: &[i32], places: usize) -> &[i32] {
+    if places <= map.len() {
+        return &map[..places];
+    }
+    map
+}
+
+fn first_mut(map: &mut [i32], places: usize) -> &mut [i32] {
+    if places <= map.len() {
+        return &mut map[..places];
+    }
+    map
+}
+
+// The root of three fields from field 3 on, or from field 6 on.
+fn root_at_3(line: &[u8]) -> KbmRoot {
+    KbmRoot {
+        reference: PianoKey(given::int(line, 3)),
+        pitch: Pitch(given::float(line, 4)),
+        offset: given::int(line, 5),
+    }
+}
+
+fn root_at_6(line: &[u8]) -> KbmRoot {
+    KbmRoot {
+        reference: PianoKey(given::int(line, 6)),
+        pitch: Pitch(given::float(line, 7)),
+        offset: given::int(line, 8),
+    }
+}
+
+// The mapping of seven fields from field 3 on.
+fn mapping(line: &[u8]) -> Kbm {
+    Kbm {
+        root: root_at_6(line),
+        start: PianoKey(given::int(line, 4)),
+        end: PianoKey(given::int(line, 5)),
+        octave: given::short(line, 9),
+        count: given::count(line, 3),
+    }
+}
+
+fn say_root(root: KbmRoot) {
+    let reference = root.reference;
+    let pitch = root.pitch;
+    say::int(reference.0);
+    say::float(pitch.0);
+    say::int(root.offset);
+}
+
+fn say_range(kbm: Kbm) {
+    let start = kbm.start;
+    let end = kbm.end;
+    say::size(kbm.count as usize);
+    say::int(start.0);
+    say::int(end.0);
+}
+
+fn say_mapping(answer: KbmAnswer) {
+    match answer {
+        KbmAnswer::Is(kbm) => {
+            say_range(kbm);
+            say_root(kbm.root);
+            say::short(kbm.octave);
+        }
+        KbmAnswer::Refused(refusal) => say::refusal(refusal),
+    }
+}
+
+// `degree KEY MAPPING TABLE`: the degree, or a refusal.
+fn say_degree(line: &[u8]) {
+    let places = given::size(line, 10);
+    let map = frozen::columns::ints(PATTERN, places, line, 11, 1);
+    let key = PianoKey(given::int(line, 2));
+    match kbm::scale_degree_of(mapping(line), first(&map, places), key) {
+        DegreeAnswer::Is(degree) => say::int(degree.0),
+        DegreeAnswer::Refused(refusal) => say::refusal(refusal),
+    }
 }
 
 // `read TEXT ROOM`: the mapping or a refusal, then the table.
-fn is_same_read(line: &[u8], at: usize) -> bool {
+fn say_read(line: &[u8]) {
     let mut text = [BYTE; 512];
-    let mut map = [PATTERN; PLACES];
-    let length = frozen::given::bytes(line, at, &mut text);
-    let size = frozen::after::bytes(&text, length, line, at);
-    let room = frozen::given::at_most(PLACES, line, size, 0);
-    let answer = frozen::after::size(room, line, size);
-    let read = kbm_read::read_kbm(
-        frozen::first(&text, length),
-        frozen_mappings::first_mut(&mut map, room),
-    );
-    let after = frozen_mappings::after_answer(read, line, answer);
-    frozen_mappings::is_table(map, room, line, after)
+    let mut map = [PATTERN; 16];
+    let length = given::bytes(line, 2, &mut text);
+    let room = given::size(line, 3);
+    say_mapping(kbm_read::read_kbm(frozen::first(&text, length), first_mut(&mut map, room)));
+    say::table(first(&map, room));
 }
 
-// `export TABLE MAPPING ROOM`: the size or a refusal, then the lent bytes.
-fn is_same_export(line: &[u8], at: usize) -> bool {
-    let table = frozen_mappings::read_table(line, at);
-    let map = table.map;
+// `export ROOM MAPPING TABLE`: the size or a refusal, then the lent bytes.
+fn say_export(line: &[u8]) {
     let mut out = [BYTE; 512];
-    let kbm = frozen_mappings::read_mapping(line, table.after);
-    let size = frozen_mappings::after_mapping(kbm, line, table.after);
-    let room = frozen::given::at_most(512, line, size, 0);
-    let answer = frozen::after::size(room, line, size);
-    let places = frozen_mappings::first(&map, table.places);
-    let last = match kbm_write::export_kbm(kbm, places, frozen::first_mut(&mut out, room)) {
-        SizeAnswer::Is(written) => frozen::after::size(written, line, answer),
-        SizeAnswer::Refused(refusal) => frozen::after::refusal(refusal, line, answer),
-    };
-    frozen::is_end(line, frozen::after::bytes(&out, room, line, last))
+    let room = given::size(line, 2);
+    let places = given::size(line, 10);
+    let map = frozen::columns::ints(PATTERN, places, line, 11, 1);
+    say_size(kbm_write::export_kbm(
+        mapping(line),
+        first(&map, places),
+        frozen::first_mut(&mut out, room),
+    ));
+    say::bytes(frozen::first(&out, room));
 }
 
-// `root REFERENCE PITCH OFFSET`: `usable`, or a refusal.
-fn is_same_root(line: &[u8], at: usize) -> bool {
-    let root = frozen_mappings::read_root(line, at);
-    let answer = frozen_mappings::after_root(root, line, at);
-    let after = match KbmRoot::new(root.reference, root.pitch, root.offset) {
-        RootAnswer::Is(_) => frozen::after::word(b"usable", line, answer),
-        RootAnswer::Refused(refusal) => frozen::after::refusal(refusal, line, answer),
-    };
-    frozen::is_end(line, after)
-}
-
-// Whether a call gives the answer of its line.
-fn is_same(line: &[u8]) -> bool {
-    let call = frozen::call_of(line, b"degree read export root build push finish");
-    let at = frozen::later(line, 0, 2);
-    match call {
-        0 => is_same_degree(line, at),
-        1 => is_same_read(line, at),
-        2 => is_same_export(line, at),
-        3 => is_same_root(line, at),
-        4 => builders::is_same_build(line, at),
-        5 => builders::is_same_push(line, at),
-        6 => builders::is_same_finish(line, at),
-        _ => false,
+fn say_size(answer: SizeAnswer) {
+    match answer {
+        SizeAnswer::Is(written) => say::size(written),
+        SizeAnswer::Refused(refusal) => say::refusal(refusal),
     }
 }
 
-// The counts of all lines.
-fn counted_all(list: &[u8]) -> Counts {
-    let mut counts = Counts { same: 0, differ: 0 };
+// `root REFERENCE PITCH OFFSET`: the root, or a refusal.
+fn say_made_root(line: &[u8]) {
+    match KbmRoot::new(
+        PianoKey(given::int(line, 2)),
+        Pitch(given::float(line, 3)),
+        given::int(line, 4),
+    ) {
+        RootAnswer::Is(root) => say_root(root),
+        RootAnswer::Refused(refusal) => say::refusal(refusal),
+    }
+}
+
+// The answer of a line.
+fn answer(line: &[u8]) {
+    let call = frozen::asked(
+        line,
+        b"degree iciiifisn i read tn  export rciiifisn i root ifi  build nifiiiysz ys push uuysn i finish uun i",
+    );
+    match call {
+        0 => say_degree(line),
+        1 => say_read(line),
+        2 => say_export(line),
+        3 => say_made_root(line),
+        4 => builders::say_build(line),
+        5 => builders::say_push(line),
+        6 => builders::say_finish(line),
+        _ => {}
+    }
+}
+
+fn answer_all(list: &[u8]) {
     let mut at: usize = 0;
     while at < list.len() {
-        let line = frozen::line(list, at);
-        counts = frozen::counted(counts, line, is_same(line));
+        answer(frozen::line(list, at));
+        say::end();
         let following = frozen::following(list, at);
         if following <= at {
-            return frozen::counted(counts, line, false);
+            return;
         }
         at = following;
     }
-    counts
 }
 
 fn main() {
-    let mut list = io::large_buffer();
+    let mut list = [0u8; 262144];
     let n = io::read_full(STDIN_FILENO, &mut list);
-    frozen::print(counted_all(&list[..n]));
+    answer_all(&list[..n]);
 }

@@ -1,51 +1,55 @@
-// Replays frozen answers on tunings (the crate `frozen` says how a line is written): writes how many are the same and how many differ. The
-// list is made by `oracle freeze`.
+// Answers frozen questions on tunings (the crate `frozen` says how they are written). The questions and the answers are made by `oracle freeze`.
 //
-// A line of a pitch or a search is `WHO CALL COUNT REFERENCE HZ OFFSET NUMBER X PLACES .. ANSWER`: the scale's count, the root, a degree or
-// a key, a ratio or a pitch, and the scale's columns (the crate `frozen_scales`). What a call does not take is 0.
-use frozen::Counts;
+// A question of a pitch or a search is `WHO CALL COUNT REFERENCE HZ OFFSET NUMBER X PLACES ..`: the scale's count, the root, a degree or a key, a
+// ratio or a pitch, and the scale's columns, each place of them seven fields; places that lack are as lent. Through a mapping (`mapped`) more
+// stands before PLACES. What a call does not take is 0.
+use frozen::say;
 use libc::STDIN_FILENO;
+use pitch::PitchAnswer;
 
-mod asked;
 mod computed;
 mod mapped;
 mod scaled;
 
-// Whether a call gives the answer of its line.
-fn is_same(line: &[u8]) -> bool {
-    let call = frozen::call_of(
-        line,
-        b"harmonics rank2 maybe_key maybe_degree run period relative degree key sorted_relative sorted_pitch find find_sorted find_pitch find_pitch_sorted find_key",
-    );
-    let at = frozen::later(line, 0, 2);
-    match call {
-        0 => computed::is_same_segment(line, at),
-        1 => computed::is_same_temperament(line, at),
-        2 => mapped::is_same_mapped(line, at, true),
-        3 => mapped::is_same_mapped(line, at, false),
-        4 => mapped::is_same_run(line, at),
-        _ => scaled::is_same_scaled(call, line, at),
+fn say_pitch(answer: PitchAnswer) {
+    match answer {
+        PitchAnswer::Is(pitch) => say::float(pitch.0),
+        PitchAnswer::Refused(refusal) => say::refusal(refusal),
     }
 }
 
-// The counts of all lines.
-fn counted_all(list: &[u8]) -> Counts {
-    let mut counts = Counts { same: 0, differ: 0 };
+// The answer of a line. A call goes by its number, here and in `scaled`.
+fn answer(line: &[u8]) {
+    let call = frozen::asked(
+        line,
+        b"harmonics yccyc  rank2 fccf  maybe_key cifiifciisiiiiiiiiun bfuuufi maybe_degree cifiifciisiiiiiiiiun bfuuufi run cifiifciisiiiiiiiiun bfuuufi period cifiifn bfuuufi relative cifiifn bfuuufi degree cifiifn bfuuufi key cifiifn bfuuufi sorted_relative cifiifn bfuuufi sorted_pitch cifiifn bfuuufi find cifiifn bfuuufi find_sorted cifiifn bfuuufi find_pitch cifiifn bfuuufi find_pitch_sorted cifiifn bfuuufi find_key cifiifn bfuuufi",
+    );
+    match call {
+        0 => computed::say_segment(line),
+        1 => computed::say_temperament(line),
+        2 => mapped::say_mapped(line, true),
+        3 => mapped::say_mapped(line, false),
+        4 => mapped::say_run(line),
+        5..=15 => scaled::say_scaled(call, line),
+        _ => {}
+    }
+}
+
+fn answer_all(list: &[u8]) {
     let mut at: usize = 0;
     while at < list.len() {
-        let line = frozen::line(list, at);
-        counts = frozen::counted(counts, line, is_same(line));
+        answer(frozen::line(list, at));
+        say::end();
         let following = frozen::following(list, at);
         if following <= at {
-            return frozen::counted(counts, line, false);
+            return;
         }
         at = following;
     }
-    counts
 }
 
 fn main() {
-    let mut list = io::large_buffer();
+    let mut list = [0u8; 262144];
     let n = io::read_full(STDIN_FILENO, &mut list);
-    frozen::print(counted_all(&list[..n]));
+    answer_all(&list[..n]);
 }

@@ -1,79 +1,70 @@
-// Pitches and searches in a scale. A call goes by its number among the names of `main.rt`.
-use crate::asked::Asked;
-use frozen_scales::Items;
-use frozen_scales::List;
+// Pitches and searches in a scale. A call goes by its number among those of `main.rt`.
+use approximation::DegreeSearch;
+use approximation::KeySearch;
+use frozen::columns;
+use frozen::given;
+use frozen::say;
+use kbm::KbmRoot;
 use key::Degree;
 use key::PianoKey;
 use pitch::Pitch;
 use pitch::Ratio;
+use pitch::RatioAnswer;
 use scl::Scl;
 
-// Where the line goes on after the answer of a call that takes the items alone: `period`, `relative`, `degree`, `key`.
-fn after_items(
-    k: &[u8],
-    e: &[f64],
-    n: &[u32],
-    d: &[u32],
-    call: usize,
-    of: Asked,
-    line: &[u8],
-    at: usize,
-) -> usize {
-    let scl = Scl { count: of.count };
-    let degree = Degree(of.number);
-    match call {
-        5 => crate::asked::after_ratio(relative::period(scl, k, e, n, d), line, at),
-        6 => crate::asked::after_ratio(
-            relative::relative_pitch_of(scl, k, e, n, d, degree),
-            line,
-            at,
-        ),
-        7 => crate::asked::after_pitch(
-            tuning::pitch_of(scl, k, e, n, d, of.root, degree),
-            line,
-            at,
-        ),
-        _ => crate::asked::after_pitch(
-            tuning::pitch_of_key(scl, k, e, n, d, of.root, PianoKey(of.number)),
-            line,
-            at,
-        ),
+// The root of a question.
+pub fn root(line: &[u8]) -> KbmRoot {
+    KbmRoot {
+        reference: PianoKey(given::int(line, 3)),
+        pitch: Pitch(given::float(line, 4)),
+        offset: given::int(line, 5),
     }
 }
 
-// Of a search: `find`, `find_sorted`, `find_pitch`, `find_pitch_sorted`, `find_key`. After another call no field is there.
-fn after_search(
-    k: &[u8],
-    e: &[f64],
-    n: &[u32],
-    d: &[u32],
-    p: &[u32],
-    r: &[f64],
-    w: &[i32],
-    call: usize,
-    of: Asked,
-    line: &[u8],
-    at: usize,
-) -> usize {
-    let scl = Scl { count: of.count };
-    let x = Ratio(of.x);
-    let hz = Pitch(of.x);
-    let said = match call {
-        11 => finding::find_by_relative_pitch(scl, k, e, n, d, p, r, w, x),
-        12 => finding::find_by_relative_pitch_sorted(scl, k, e, n, d, p, r, w, x),
-        13 => finding::find_by_pitch(scl, k, e, n, d, p, r, w, of.root, hz),
-        14 => finding::find_by_pitch_sorted(scl, k, e, n, d, p, r, w, of.root, hz),
-        15 => {
-            let key = finding::find_key_by_pitch(scl, k, e, n, d, p, r, w, of.root, hz);
-            return crate::asked::after_key(key, line, at);
+fn say_ratio(answer: RatioAnswer) {
+    match answer {
+        RatioAnswer::Is(ratio) => say::float(ratio.0),
+        RatioAnswer::Refused(refusal) => say::refusal(refusal),
+    }
+}
+
+// A number and its deviation.
+fn say_degree(answer: DegreeSearch) {
+    match answer {
+        DegreeSearch::Degree(found) => {
+            say::int(found.approx_value);
+            say::float(found.deviation);
         }
-        _ => return frozen::LOST,
-    };
-    crate::asked::after_degree(said, line, at)
+        DegreeSearch::Refused(refusal) => say::refusal(refusal),
+    }
 }
 
-// Of any of these and of `sorted_relative`, `sorted_pitch`.
-fn after_call(
+fn say_key(answer: KeySearch) {
+    match answer {
+        KeySearch::Key(found) => {
+            say::int(found.approx_value);
+            say::float(found.deviation);
+        }
+        KeySearch::Refused(refusal) => say::refusal(refusal),
+    }
+}
+
+// A call that takes the items alone: `period`, `relative`, `degree`, `key`.
+fn say_of_items(k: &[u8], e: &[f64], n: &[u32], d: &[u32], call: usize, line: &[u8]) {
+    let scl = Scl {
+        count: given::count(line, 2),
+    };
+    let number = given::int(line, 6);
+    match call {
+        5 => say_ratio(relative::period(scl, k, e, n, d)),
+        6 => say_ratio(relative::relative_pitch_of(scl, k, e, n, d, Degree(number))),
+        7 => crate::say_pitch(tuning::pitch_of(scl, k, e, n, d, root(line), Degree(number))),
+        _ => crate::say_pitch(tuning::pitch_of_key(scl, k, e, n, d, root(line), PianoKey(number))),
+    }
+}
+
+// `sorted_relative`, `sorted_pitch`.
+fn say_sorted(
     k: &[u8],
     e: &[f64],
     n: &[u32],
@@ -82,38 +73,83 @@ fn after_call(
     r: &[f64],
     w: &[i32],
     call: usize,
-    of: Asked,
     line: &[u8],
-    at: usize,
-) -> usize {
-    let scl = Scl { count: of.count };
-    let degree = Degree(of.number);
-    match call {
-        9 => crate::asked::after_ratio(
-            relative::sorted_relative_pitch_of(scl, k, e, n, d, p, r, w, degree),
-            line,
-            at,
-        ),
-        10 => crate::asked::after_pitch(
-            tuning::sorted_pitch_of(scl, k, e, n, d, p, r, w, of.root, degree),
-            line,
-            at,
-        ),
-        5..=8 => after_items(k, e, n, d, call, of, line, at),
-        _ => after_search(k, e, n, d, p, r, w, call, of, line, at),
+) {
+    let scl = Scl {
+        count: given::count(line, 2),
+    };
+    let degree = Degree(given::int(line, 6));
+    if call == 9 {
+        say_ratio(relative::sorted_relative_pitch_of(scl, k, e, n, d, p, r, w, degree));
+    } else {
+        crate::say_pitch(tuning::sorted_pitch_of(scl, k, e, n, d, p, r, w, root(line), degree));
     }
 }
 
-// The same on these columns.
-fn after_scaled(items: Items, list: List, call: usize, of: Asked, line: &[u8], at: usize) -> usize {
-    let kind = items.kind;
-    let cents = items.cents;
-    let numer = items.numer;
-    let denom = items.denom;
-    let place = list.place;
-    let ratio = list.ratio;
-    let wraps = list.wraps;
-    after_call(
+// `find`, `find_sorted`, `find_pitch`, `find_pitch_sorted`, `find_key`.
+fn say_search(
+    k: &[u8],
+    e: &[f64],
+    n: &[u32],
+    d: &[u32],
+    p: &[u32],
+    r: &[f64],
+    w: &[i32],
+    call: usize,
+    line: &[u8],
+) {
+    let scl = Scl {
+        count: given::count(line, 2),
+    };
+    let x = given::float(line, 7);
+    let root = root(line);
+    match call {
+        11 => say_degree(finding::find_by_relative_pitch(scl, k, e, n, d, p, r, w, Ratio(x))),
+        12 => say_degree(finding::find_by_relative_pitch_sorted(
+            scl,
+            k,
+            e,
+            n,
+            d,
+            p,
+            r,
+            w,
+            Ratio(x),
+        )),
+        13 => say_degree(finding::find_by_pitch(scl, k, e, n, d, p, r, w, root, Pitch(x))),
+        14 => say_degree(finding::find_by_pitch_sorted(scl, k, e, n, d, p, r, w, root, Pitch(x))),
+        _ => say_key(finding::find_key_by_pitch(scl, k, e, n, d, p, r, w, root, Pitch(x))),
+    }
+}
+
+fn say_of(
+    k: &[u8],
+    e: &[f64],
+    n: &[u32],
+    d: &[u32],
+    p: &[u32],
+    r: &[f64],
+    w: &[i32],
+    call: usize,
+    line: &[u8],
+) {
+    match call {
+        5..=8 => say_of_items(k, e, n, d, call, line),
+        9..=10 => say_sorted(k, e, n, d, p, r, w, call, line),
+        _ => say_search(k, e, n, d, p, r, w, call, line),
+    }
+}
+
+pub fn say_scaled(call: usize, line: &[u8]) {
+    let places = given::size(line, 8);
+    let kind = columns::bytes(9, places, line, 9, 7);
+    let cents = columns::floats(2.0, places, line, 10, 7);
+    let numer = columns::naturals(7, places, line, 11, 7);
+    let denom = columns::naturals(7, places, line, 12, 7);
+    let place = columns::naturals(8, places, line, 13, 7);
+    let ratio = columns::floats(0.5, places, line, 14, 7);
+    let wraps = columns::ints(8, places, line, 15, 7);
+    say_of(
         &kind,
         &cents,
         &numer,
@@ -122,16 +158,6 @@ fn after_scaled(items: Items, list: List, call: usize, of: Asked, line: &[u8], a
         &ratio,
         &wraps,
         call,
-        of,
         line,
-        at,
-    )
-}
-
-pub fn is_same_scaled(call: usize, line: &[u8], at: usize) -> bool {
-    let of = crate::asked::read_asked(line, at);
-    let table = frozen_scales::read_columns(line, crate::asked::after_asked(of, line, at));
-    let items = table.items;
-    let list = table.list;
-    frozen::is_end(line, after_scaled(items, list, call, of, line, table.after))
+    );
 }
