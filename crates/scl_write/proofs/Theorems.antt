@@ -77,7 +77,7 @@ module _ (scl : Scl) (table : ItemTable) (description : List ℕ) where
   pub written-exactly : Writable scl table description → (out : List ℕ) → length text ≤ length out → after (exportOf scl table description (length out)) (λ t. t) out ≡ text ++ drop (length text) out
   written-exactly w out h = rw (writable w (length out), fitted-gives (length out) text h)
 
-  -- no other number than 10 and 12 arises
+  -- the numbers that arise are document 01's
   pub export-numbered : (room : ℕ) → Numbered (exportOf scl table description room)
   unfolding exportOf
   export-numbered room = numbered-pick tests (fitted-numbered room text) (Numbered.number (omega arith) (omega arith))
