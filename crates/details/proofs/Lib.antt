@@ -1,0 +1,5 @@
+pub mod Steps
+pub mod Numbers
+pub mod Mappings
+pub mod Tunings
+pub mod Scales
