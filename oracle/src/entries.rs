@@ -1,5 +1,5 @@
 //! The calls on the sorted list as a slice of structs. They are not in the C interface, so the cases go as frozen questions to the proved program
-//! `replay_entries`, which makes the calls and writes the answers: number and detail, or value, and every place of the lent columns and of
+//! `replay_scl`, which makes the calls and writes the answers: number and detail, or value, and every place of the lent columns and of
 //! the list, those of a refused call too. What they should be is what the column call should give in that room.
 
 use crate::freeze::{List, text};
@@ -16,7 +16,7 @@ const START: &str = concat!(env!("CARGO_MANIFEST_DIR"), "/../tools/start");
 
 /// What the program answers to questions. It reads all of them before it writes.
 fn replayed(questions: &[String]) -> Result<String> {
-    let mut program = Command::new(START).arg("replay_entries").stdin(Stdio::piped()).stdout(Stdio::piped()).spawn()?;
+    let mut program = Command::new(START).arg("replay_scl").stdin(Stdio::piped()).stdout(Stdio::piped()).spawn()?;
     program.stdin.take().into_iter().try_for_each(|mut pipe| pipe.write_all(text(questions).as_bytes()))?;
     let said = program.wait_with_output()?;
     Ok(String::from_utf8_lossy(&said.stdout).into_owned())

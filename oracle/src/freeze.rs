@@ -1,4 +1,4 @@
-//! Freezes questions and their answers for the programs `replay` and `replay_..`, which put the questions to the proved library, so that
+//! Freezes questions and their answers for the programs `replay` and `replay_scl`, which put the questions to the proved library, so that
 //! `rt ci` needs no Rust: `oracle freeze CRATES` writes stdin and stdout of each. The crate `frozen` says how a line of either is written.
 
 use crate::lent::Float;
@@ -82,19 +82,23 @@ pub fn hex(bytes: &[u8]) -> String {
     if bytes.is_empty() { "-".to_string() } else { bytes.iter().map(|b| format!("{b:02x}")).collect() }
 }
 
-fn numbers_and_texts(list: &mut List) {
+fn first(list: &mut List) {
     freeze_numbers::integers(list);
     freeze_numbers::pitches(list);
     freeze_text::texts(list);
+    freeze_kbm::mappings(list);
+}
+
+fn second(list: &mut List) {
+    freeze_scl::scales(list);
+    freeze_entries::entry_lists(list);
+    freeze_tuning::tunings(list);
 }
 
 pub fn freeze(crates: &str) -> Result<()> {
     for (name, fill) in [
-        ("replay", numbers_and_texts as fn(&mut List)),
-        ("replay_scl", freeze_scl::scales),
-        ("replay_entries", freeze_entries::entry_lists),
-        ("replay_kbm", freeze_kbm::mappings),
-        ("replay_tuning", freeze_tuning::tunings),
+        ("replay", first as fn(&mut List)),
+        ("replay_scl", second),
     ] {
         let mut list = List::default();
         fill(&mut list);

@@ -51,7 +51,7 @@ fn pushes(items: &[Item]) -> Vec<Push> {
 pub fn read(list: &mut List, text: &[u8]) {
     let said = said(text);
     let after = places(&said.value.1, entries(&said, said.value.0.0));
-    list.push_with(&format!("read {}", hex(text)), said, |((count, start, end), _)| format!("{count} {start} {end}"), &after);
+    list.push_with(&format!("read_entries {}", hex(text)), said, |((count, start, end), _)| format!("{count} {start} {end}"), &after);
 }
 
 fn reads(list: &mut List) {
@@ -79,7 +79,7 @@ pub fn build(list: &mut List, text: &[u8], room: usize, count: usize) {
         Some(items) => scl_build::built(&columns, &pushes(&items[1..])),
     };
     let after = places(&said.value.1, entries(&said, count as u16));
-    list.push_with(&format!("build {} {room} {count}", hex(text)), said, |(count, _)| count.to_string(), &after);
+    list.push_with(&format!("build_entries {} {room} {count}", hex(text)), said, |(count, _)| count.to_string(), &after);
 }
 
 fn builds(list: &mut List) {
@@ -119,7 +119,7 @@ pub fn find(list: &mut List, text: &[u8], count: u16, sorted: bool, x: f64) {
         (Some(items), Some(entries)) if rules::is_searched(x) => ruled(rules::search(&items, &entries, x), count, sorted),
         _ => Said::refused(Who::Rules, 10, 0, OLD_FOUND),
     };
-    list.push(&format!("find {} {count} {} {}", hex(text), u32::from(sorted), float(x)), said, |(degree, deviation)| format!("{degree} {}", written(deviation)));
+    list.push(&format!("find_in_entries {} {count} {} {}", hex(text), u32::from(sorted), float(x)), said, |(degree, deviation)| format!("{degree} {}", written(deviation)));
 }
 
 fn finds(list: &mut List) {

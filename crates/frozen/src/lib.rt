@@ -10,11 +10,21 @@ pub mod given;
 mod kinds;
 pub mod say;
 
+ghost use mathlib.Core.Path.{_≡_};
+ghost use lib.ListN.{length};
+
 // The place of no field, and the number of no call.
 const NONE: usize = 18446744073709551615;
 
 // The most calls of a program.
 const CALLS: usize = 64;
+
+// Room for the questions of a program.
+pub fn room() -> [u8; 262144]
+    ensures { λ r. ⌜ 262144 ≡ length r ⌝ }
+{
+    [0; 262144]
+}
 
 // The line of a list that starts at a place; nothing past the end.
 pub fn line(list: &[u8], at: usize) -> &[u8] {

@@ -1,29 +1,41 @@
-// Answers frozen questions on scales (the crate `frozen` says how they are written). The questions and the answers are made by `oracle freeze`.
+// Answers frozen questions on scales, the sorted list as a slice of structs, and tunings (the crate `frozen` says how they are written). The questions and the answers are made by `oracle freeze`.
 //
 // Each call is lent seven columns of 16 places. An answer ends with what every lent place or byte is after the call.
+use approximation::DegreeSearch;
 use frozen::given;
 use frozen::say;
 use libc::STDIN_FILENO;
+use pitch::PitchAnswer;
 use pitch::RatioAnswer;
 use scl::Scl;
+use scl::SclAnswer;
 use scl_read::SclRead;
 use scl_read::SclReadAnswer;
 use writing::SizeAnswer;
 
 mod builders;
+mod computed;
+mod lent;
+mod listed;
+mod mapped;
+mod scaled;
 
 // What lent bytes are before a call.
 const BYTE: u8 = 238;
 
 // `ratio KIND CENTS NUMERATOR DENOMINATOR`: the ratio of the item, or a refusal.
-fn say_ratio(line: &[u8]) {
+fn say_item(line: &[u8]) {
     let item = scl::item_of(
         given::byte(line, 2),
         given::float(line, 3),
         given::natural(line, 4),
         given::natural(line, 5),
     );
-    match item.as_ratio() {
+    say_ratio(item.as_ratio());
+}
+
+fn say_ratio(answer: RatioAnswer) {
+    match answer {
         RatioAnswer::Is(ratio) => say::float(ratio.0),
         RatioAnswer::Refused(refusal) => say::refusal(refusal),
     }
@@ -107,19 +119,56 @@ fn say_export(line: &[u8]) {
     say::bytes(frozen::first(&out, room));
 }
 
-// The answer of a line.
+fn say_pitch(answer: PitchAnswer) {
+    match answer {
+        PitchAnswer::Is(pitch) => say::float(pitch.0),
+        PitchAnswer::Refused(refusal) => say::refusal(refusal),
+    }
+}
+
+// The count of a scale.
+fn say_count(answer: SclAnswer) {
+    match answer {
+        SclAnswer::Is(scl) => say::size(scl.count as usize),
+        SclAnswer::Refused(refusal) => say::refusal(refusal),
+    }
+}
+
+// A degree and its deviation.
+fn say_degree(answer: DegreeSearch) {
+    match answer {
+        DegreeSearch::Degree(found) => {
+            say::int(found.approx_value);
+            say::float(found.deviation);
+        }
+        DegreeSearch::Refused(refusal) => say::refusal(refusal),
+    }
+}
+
+// The answer of a line. A call goes by its number, here and in the modules.
 fn answer(line: &[u8]) {
     let call = frozen::asked(
         line,
-        b"ratio bfuu  read t  export tcrn bfuu build z kfuu push uukfuu  finish uu ",
+        b"read_entries t  build_entries tuu  find_in_entries tcyf  harmonics yccyc  rank2 fccf  period cifiifn bfuuufi relative cifiifn bfuuufi degree cifiifn bfuuufi key cifiifn bfuuufi sorted_relative cifiifn bfuuufi sorted_pitch cifiifn bfuuufi find cifiifn bfuuufi find_sorted cifiifn bfuuufi find_pitch cifiifn bfuuufi find_pitch_sorted cifiifn bfuuufi find_key cifiifn bfuuufi maybe_key cifiifciisiiiiiiiiun bfuuufi maybe_degree cifiifciisiiiiiiiiun bfuuufi run cifiifciisiiiiiiiiun bfuuufi ratio bfuu  read t  export tcrn bfuu build z kfuu push uukfuu  finish uu ",
     );
     match call {
-        0 => say_ratio(line),
-        1 => say_read(line),
-        2 => say_export(line),
-        3 => builders::say_build(line),
-        4 => builders::say_push(line),
-        5 => builders::say_finish(line),
+        0..=2 => listed::say_text(call, line),
+        3 => computed::say_segment(line),
+        4 => computed::say_temperament(line),
+        5..=15 => scaled::say_scaled(call, line),
+        16..=18 => mapped::say_mapped(call, line),
+        _ => answer_scale(call, line),
+    }
+}
+
+fn answer_scale(call: usize, line: &[u8]) {
+    match call {
+        19 => say_item(line),
+        20 => say_read(line),
+        21 => say_export(line),
+        22 => builders::say_build(line),
+        23 => builders::say_push(line),
+        24 => builders::say_finish(line),
         _ => {}
     }
 }
@@ -138,7 +187,7 @@ fn answer_all(list: &[u8]) {
 }
 
 fn main() {
-    let mut list = [0u8; 262144];
+    let mut list = frozen::room();
     let n = io::read_full(STDIN_FILENO, &mut list);
     answer_all(&list[..n]);
 }

@@ -5,27 +5,25 @@ use Rattle.replay_scl.proofs.builders.say_steps.Statement.{statement}
 use Rattle.replay_scl.proofs.builders.say_steps.Tie as tie
 
 abbrev Inv-loop : tie.InvT-loop
-Inv-loop kind₀ cents₀ numer₀ denom₀ line steps builder₀ at₀ k₀ kind cents numer denom builder at k =
-    Unit {0}
+Inv-loop line steps done₀ at₀ k₀ done at k = Unit {0}
 
 abbrev μ-loop : tie.MeasureT-loop
-μ-loop kind₀ cents₀ numer₀ denom₀ line steps builder₀ at₀ k₀ kind cents numer denom builder at k =
-    steps - k
+μ-loop line steps done₀ at₀ k₀ done at k = steps - k
 
 size-requires : tie.Need-size-requires Inv-loop μ-loop
 size-requires c κs = search needs
 
+lent-requires : tie.Need-lent-requires Inv-loop μ-loop
+lent-requires c κs = search needs
+
 loop-holds : tie.Need-loop-holds Inv-loop μ-loop
 loop-holds c = tt
 
-step-requires : tie.Need-step-requires Inv-loop μ-loop
-step-requires c κs = search needs
+asked-requires : tie.Need-asked-requires Inv-loop μ-loop
+asked-requires c κs = search needs
 
-say-step-requires : tie.Need-say-step-requires Inv-loop μ-loop
-say-step-requires c κs = search needs
-
-kept-requires : tie.Need-kept-requires Inv-loop μ-loop
-kept-requires c κs = search needs
+say-next-requires : tie.Need-say-next-requires Inv-loop μ-loop
+say-next-requires c κs = search needs
 
 wrapping-add-usize-requires : tie.Need-wrapping-add-usize-requires Inv-loop μ-loop
 wrapping-add-usize-requires c κs = search needs
@@ -49,10 +47,10 @@ say-steps-spec =
     Inv-loop
     μ-loop
     size-requires
+    lent-requires
     loop-holds
-    step-requires
-    say-step-requires
-    kept-requires
+    asked-requires
+    say-next-requires
     wrapping-add-usize-requires
     add-k
     loop-less
