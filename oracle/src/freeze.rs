@@ -1,4 +1,4 @@
-//! Freezes questions and their answers for the programs `replay` and `replay_scl`, which put the questions to the proved library, so that
+//! Freezes questions and their answers for the programs `replay`, `replay_scl` and `replay_tuning`, which put the questions to the proved library, so that
 //! `rt ci` needs no Rust: `oracle freeze CRATES` writes stdin and stdout of each. The crate `frozen` says how a line of either is written.
 
 use crate::lent::Float;
@@ -92,13 +92,13 @@ fn first(list: &mut List) {
 fn second(list: &mut List) {
     freeze_scl::scales(list);
     freeze_entries::entry_lists(list);
-    freeze_tuning::tunings(list);
 }
 
 pub fn freeze(crates: &str) -> Result<()> {
     for (name, fill) in [
         ("replay", first as fn(&mut List)),
         ("replay_scl", second),
+        ("replay_tuning", freeze_tuning::tunings),
     ] {
         let mut list = List::default();
         fill(&mut list);

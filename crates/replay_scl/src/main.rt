@@ -1,11 +1,10 @@
-// Answers frozen questions on scales, the sorted list as a slice of structs, and tunings (the crate `frozen` says how they are written). The questions and the answers are made by `oracle freeze`.
+// Answers frozen questions on scales and on the sorted list as a slice of structs (the crate `frozen` says how they are written). The questions and the answers are made by `oracle freeze`.
 //
 // Each call is lent seven columns of 16 places. An answer ends with what every lent place or byte is after the call.
 use approximation::DegreeSearch;
 use frozen::given;
 use frozen::say;
 use libc::STDIN_FILENO;
-use pitch::PitchAnswer;
 use pitch::RatioAnswer;
 use scl::Scl;
 use scl::SclAnswer;
@@ -14,11 +13,8 @@ use scl_read::SclReadAnswer;
 use writing::SizeAnswer;
 
 mod builders;
-mod computed;
 mod lent;
 mod listed;
-mod mapped;
-mod scaled;
 
 // What lent bytes are before a call.
 const BYTE: u8 = 238;
@@ -119,13 +115,6 @@ fn say_export(line: &[u8]) {
     say::bytes(frozen::first(&out, room));
 }
 
-fn say_pitch(answer: PitchAnswer) {
-    match answer {
-        PitchAnswer::Is(pitch) => say::float(pitch.0),
-        PitchAnswer::Refused(refusal) => say::refusal(refusal),
-    }
-}
-
 // The count of a scale.
 fn say_count(answer: SclAnswer) {
     match answer {
@@ -149,26 +138,16 @@ fn say_degree(answer: DegreeSearch) {
 fn answer(line: &[u8]) {
     let call = frozen::asked(
         line,
-        b"read_entries t  build_entries tuu  find_in_entries tcyf  harmonics yccyc  rank2 fccf  period cifiifn bfuuufi relative cifiifn bfuuufi degree cifiifn bfuuufi key cifiifn bfuuufi sorted_relative cifiifn bfuuufi sorted_pitch cifiifn bfuuufi find cifiifn bfuuufi find_sorted cifiifn bfuuufi find_pitch cifiifn bfuuufi find_pitch_sorted cifiifn bfuuufi find_key cifiifn bfuuufi maybe_key cifiifciisiiiiiiiiun bfuuufi maybe_degree cifiifciisiiiiiiiiun bfuuufi run cifiifciisiiiiiiiiun bfuuufi ratio bfuu  read t  export tcrn bfuu build z kfuu push uukfuu  finish uu ",
+        b"read_entries t  build_entries tuu  find_in_entries tcyf  ratio bfuu  read t  export tcrn bfuu build z kfuu push uukfuu  finish uu ",
     );
     match call {
         0..=2 => listed::say_text(call, line),
-        3 => computed::say_segment(line),
-        4 => computed::say_temperament(line),
-        5..=15 => scaled::say_scaled(call, line),
-        16..=18 => mapped::say_mapped(call, line),
-        _ => answer_scale(call, line),
-    }
-}
-
-fn answer_scale(call: usize, line: &[u8]) {
-    match call {
-        19 => say_item(line),
-        20 => say_read(line),
-        21 => say_export(line),
-        22 => builders::say_build(line),
-        23 => builders::say_push(line),
-        24 => builders::say_finish(line),
+        3 => say_item(line),
+        4 => say_read(line),
+        5 => say_export(line),
+        6 => builders::say_build(line),
+        7 => builders::say_push(line),
+        8 => builders::say_finish(line),
         _ => {}
     }
 }

@@ -82,7 +82,7 @@ fn say_pitch(k: &[u8], e: &[f64], n: &[u32], d: &[u32], call: usize, line: &[u8]
     };
     let number = given::int(line, 6);
     let map = entries(line);
-    let said = if call == 16 {
+    let said = if call == 13 {
         tuning::maybe_pitch_of(scl, k, e, n, d, mapping(line), &map, PianoKey(number))
     } else {
         tuning::maybe_pitch_of_degree(scl, k, e, n, d, mapping(line), &map, Degree(number))
@@ -91,7 +91,7 @@ fn say_pitch(k: &[u8], e: &[f64], n: &[u32], d: &[u32], call: usize, line: &[u8]
 }
 
 fn say_of(k: &[u8], e: &[f64], n: &[u32], d: &[u32], call: usize, line: &[u8]) {
-    if call == 18 {
+    if call == 15 {
         say_run(k, e, n, d, line);
     } else {
         say_pitch(k, e, n, d, call, line);

@@ -36,9 +36,9 @@ fn say_of_items(k: &[u8], e: &[f64], n: &[u32], d: &[u32], call: usize, line: &[
     };
     let number = given::int(line, 6);
     match call {
-        5 => crate::say_ratio(relative::period(scl, k, e, n, d)),
-        6 => crate::say_ratio(relative::relative_pitch_of(scl, k, e, n, d, Degree(number))),
-        7 => crate::say_pitch(tuning::pitch_of(scl, k, e, n, d, root(line), Degree(number))),
+        2 => crate::say_ratio(relative::period(scl, k, e, n, d)),
+        3 => crate::say_ratio(relative::relative_pitch_of(scl, k, e, n, d, Degree(number))),
+        4 => crate::say_pitch(tuning::pitch_of(scl, k, e, n, d, root(line), Degree(number))),
         _ => crate::say_pitch(tuning::pitch_of_key(scl, k, e, n, d, root(line), PianoKey(number))),
     }
 }
@@ -59,7 +59,7 @@ fn say_sorted(
         count: given::count(line, 2),
     };
     let degree = Degree(given::int(line, 6));
-    if call == 9 {
+    if call == 6 {
         crate::say_ratio(relative::sorted_relative_pitch_of(scl, k, e, n, d, p, r, w, degree));
     } else {
         crate::say_pitch(tuning::sorted_pitch_of(scl, k, e, n, d, p, r, w, root(line), degree));
@@ -84,7 +84,8 @@ fn say_search(
     let x = given::float(line, 7);
     let root = root(line);
     match call {
-        11 => crate::say_degree(finding::find_by_relative_pitch(
+        8 => crate::say_degree(finding::find_by_relative_pitch(scl, k, e, n, d, p, r, w, Ratio(x))),
+        9 => crate::say_degree(finding::find_by_relative_pitch_sorted(
             scl,
             k,
             e,
@@ -95,19 +96,8 @@ fn say_search(
             w,
             Ratio(x),
         )),
-        12 => crate::say_degree(finding::find_by_relative_pitch_sorted(
-            scl,
-            k,
-            e,
-            n,
-            d,
-            p,
-            r,
-            w,
-            Ratio(x),
-        )),
-        13 => crate::say_degree(finding::find_by_pitch(scl, k, e, n, d, p, r, w, root, Pitch(x))),
-        14 => crate::say_degree(finding::find_by_pitch_sorted(
+        10 => crate::say_degree(finding::find_by_pitch(scl, k, e, n, d, p, r, w, root, Pitch(x))),
+        11 => crate::say_degree(finding::find_by_pitch_sorted(
             scl,
             k,
             e,
@@ -135,8 +125,8 @@ fn say_of(
     line: &[u8],
 ) {
     match call {
-        5..=8 => say_of_items(k, e, n, d, call, line),
-        9..=10 => say_sorted(k, e, n, d, p, r, w, call, line),
+        2..=5 => say_of_items(k, e, n, d, call, line),
+        6..=7 => say_sorted(k, e, n, d, p, r, w, call, line),
         _ => say_search(k, e, n, d, p, r, w, call, line),
     }
 }

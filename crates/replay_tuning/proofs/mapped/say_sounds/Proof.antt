@@ -1,8 +1,8 @@
 -- `say_sounds` is safe and ends: each turn takes a place. Assumes nothing.
 use Prim.Native.Nat.{_-_}
 use borrow.Author.Needs.{needs}
-use Rattle.replay_scl.proofs.mapped.say_sounds.Statement.{statement}
-use Rattle.replay_scl.proofs.mapped.say_sounds.Tie as tie
+use Rattle.replay_tuning.proofs.mapped.say_sounds.Statement.{statement}
+use Rattle.replay_tuning.proofs.mapped.say_sounds.Tie as tie
 
 abbrev Inv-loop : tie.InvT-loop
 Inv-loop hz numbers k₀ k = Unit {0}
