@@ -100,7 +100,7 @@ int main(int argc, char **argv) {
     size_t length;
     if (argc != 3) {
         fprintf(stderr, "usage: keytable SCL KBM\n");
-        return 2;
+        return 1;
     }
     if (!read_file(argv[1], &length) || !accepted(argv[1], telbijan_scale_read(&scale, text, length, &description)))
         return 1;

@@ -2,7 +2,7 @@
  *
  * Every function is total: no argument stops it or draws a made-up answer, but for what C leaves to the caller: pointers are
  * aligned for their type and point to as many elements as their lengths say, no pointer is null (one with length 0 may point
- * anywhere else; the calls on structs take NULL for 0 bytes), no two lent parts of memory overlap, and the calling thread rounds
+ * anywhere else; the calls on structs take NULL for a text, a description or an export of 0 bytes), no two lent parts of memory overlap, and the calling thread rounds
  * to nearest, ties to even, and does not flush subnormal numbers to zero. Nothing is allocated, and there
  * are no globals: calls may run on any number of threads, each with its own memory to write to. What an out-pointer points to
  * needs no value before the call.

@@ -71,7 +71,7 @@ def by_columns(term, table):
 
 def abbreviations(text, kind=""):
     """Those of a file that have one equation with plain parameters, and a type that ends so."""
-    found = re.findall(rf"^( *)abbrev (?:pub )?(\S+) :[^\n]*{kind}\n\1\2((?: \w+)*) =([^\n]*(?:\n\1 +[^\n]*)*)(?!\n\1\2\b)", text, re.M)
+    found = re.findall(rf"^( *)abbrev (?:pub )?(\S+) :[^\n]*{kind}\n\1\2((?: \w+)*) =([^\n]*(?:\n\1 +[^\n]*)*)(?=\n(?!\1\2\s)|\Z)", text, re.M)
     return {name: (parameters.split(), parse(body)) for _, name, parameters, body in found}
 
 

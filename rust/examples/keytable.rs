@@ -14,7 +14,7 @@ const MOST: i64 = 1024;
 const LARGEST: f64 = 9007199254740992.0;
 
 fn read<T>(name: &str, parse: impl FnOnce(&[u8]) -> Result<T, Refusal>) -> Result<T, String> {
-    let text = std::fs::read(name).map_err(|error| format!("{name}: {error}"))?;
+    let text = std::fs::read(name).map_err(|_| format!("{name}: cannot be opened"))?;
     parse(&text).map_err(|refusal| match refusal.line() {
         Some(line) => format!("{name}:{line}: {}", refusal.reason()),
         None if refusal.number() == 2 => format!("{name}: required line {} is missing", refusal.detail()),

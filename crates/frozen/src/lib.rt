@@ -1,8 +1,8 @@
 // Frozen questions, and the answers to them: what the programs share that replay them. Such a program reads its questions, a line for each,
-// makes the calls and writes the answers, a line for each; its file `stdout` has those of the Rust, and `rt` compares byte for byte.
+// makes the calls and writes the answers, a line for each; its file `stdout` has the frozen ones, and `rt` compares byte for byte.
 //
 // A question is `WHO CALL ARGUMENTS`, its fields parted by single spaces: WHO is `rust` where the answer is the Rust's own, `second` where
-// it stands on the second E and L, `rules` where it is a refusal that the Rust lacks. A float is 16 hex digits of its bits, or `nan`; bytes
+// it stands on the second E and L, `rules` where the Rust is not asked. A float is 16 hex digits of its bits, or `nan`; bytes
 // are their hex digits, or `-` for none. An answer is the name of the call and the fields of its answer (`say`). A line that is no
 // question of a call that the program has is answered by `?`, which no frozen answer is.
 pub mod columns;
