@@ -98,14 +98,6 @@ uint64_t telbijan_num_keys_before(int32_t number, int32_t other, int32_t *steps)
 /* The key that many steps after a key, stored; 11 outside 32 bits. */
 uint64_t telbijan_plus_steps(int32_t number, int32_t steps, int32_t *after);
 
-/* ---- E and L for C: the power of two and its logarithm, the same on every machine. */
-
-/* E(x), the power 2^x, stored; 18 outside -900..900. */
-uint64_t telbijan_exp2(double x, double *power);
-
-/* L(x), the base 2 logarithm, stored; 18 outside 2^-900..2^900. */
-uint64_t telbijan_log2(double x, double *logarithm);
-
 /* ---- pitch.rs for C: a ratio goes as its number, and a pitch as its number of Hz. */
 
 /* The ratio of a number; 10 outside 2^-900..2^900. */
@@ -172,6 +164,14 @@ uint64_t telbijan_ratio_total_cmp(double value, double other, int32_t *order);
    stored; 10 outside 2^-64..2^64. */
 uint64_t telbijan_ratio_nearest_fraction(double value, uint16_t limit, uint16_t *numer, uint16_t *denom, double *deviation, int32_t *octaves);
 
+/* ---- E and L for C: the power of two and its logarithm, the same on every machine. */
+
+/* E(x), the power 2^x, stored; 18 outside -900..900. */
+uint64_t telbijan_exp2(double x, double *power);
+
+/* L(x), the base 2 logarithm, stored; 18 outside 2^-900..2^900. */
+uint64_t telbijan_log2(double x, double *logarithm);
+
 /* ---- Scales for C: seven lent columns, the items' four and the sorted list's three, and beside them the count of items. */
 
 /* The ratio of an item, stored: 18 for an unknown kind, and where the ratio lies outside 2^-900..2^900; never for a usable item. */
@@ -209,6 +209,20 @@ uint64_t telbijan_build_scl(const uint8_t *kind, size_t kind_length, const doubl
    bytes behind it keep their values. 10 for a table that cannot be used or a description that is not UTF-8, 12 where the text is
    longer than the bytes: never where they are the description's length + 7 + 22 for each item. */
 uint64_t telbijan_export_scl(const uint8_t *description, size_t description_length, const uint8_t *kind, size_t kind_length, const double *cents, size_t cents_length, const uint32_t *numer, size_t numer_length, const uint32_t *denom, size_t denom_length, uint16_t count, uint8_t *out, size_t out_length, size_t *written);
+
+/* ---- Scales that are computed, for C: segments of the harmonic series and rank-2 temperaments. They are written into a scale's seven lent columns. */
+
+/* A scale from a segment of the harmonic series, its items and its sorted list written as a builder would, its count of items stored.
+   `otonal`: the harmonics start + 1 to start + size over start; else start + size over start + size - 1 down to start. `divided`: the
+   harmonics nearest to so many equal divisions of the segment. 10 for start 0, 12 where a column has no place for all items and place
+   0, 18 for 0 divisions and where two or more items have the period 1.0. */
+uint64_t telbijan_create_harmonics_scale(bool otonal, uint16_t start, uint16_t size, bool divided, uint16_t divisions, uint8_t *kind, size_t kind_length, double *cents, size_t cents_length, uint32_t *numer, size_t numer_length, uint32_t *denom, size_t denom_length, uint32_t *place, size_t place_length, double *ratio, size_t ratio_length, int32_t *wraps, size_t wraps_length, uint16_t *count);
+
+/* A scale from a rank-2 temperament: the period, and so many generations of the generator up and down, each within the period, in
+   ascending order; its items, in cents, and its sorted list written as a builder would, its count of items stored. 13 for over 65,535
+   items, 10 for a generator or a period outside 2^-32..2^32 or a period of 1.0, 12 where a column has no place for all items and place
+   0, 18 where two or more items have the period 1.0. */
+uint64_t telbijan_create_rank2_temperament_scale(double generator, uint16_t positive, uint16_t negative, double period, uint8_t *kind, size_t kind_length, double *cents, size_t cents_length, uint32_t *numer, size_t numer_length, uint32_t *denom, size_t denom_length, uint32_t *place, size_t place_length, double *ratio, size_t ratio_length, int32_t *wraps, size_t wraps_length, uint16_t *count);
 
 /* ---- Keyboard mappings for C: a lent table of entries, and beside it the mapping's numbers. An entry is a degree from -32768 to 32767, or -2147483648 for none. */
 
@@ -296,20 +310,6 @@ uint64_t telbijan_find_by_pitch_sorted(const uint8_t *kind, size_t kind_length, 
 
 /* The key whose pitch comes nearest, that degree above the reference key, in the same way; 11 where the key passes 32 bits too. */
 uint64_t telbijan_find_key_by_pitch(const uint8_t *kind, size_t kind_length, const double *cents, size_t cents_length, const uint32_t *numer, size_t numer_length, const uint32_t *denom, size_t denom_length, const uint32_t *place, size_t place_length, const double *ratio, size_t ratio_length, const int32_t *wraps, size_t wraps_length, uint16_t count, int32_t reference, double hz, int32_t offset, double pitch, int32_t *number, double *deviation);
-
-/* ---- Scales that are computed, for C: segments of the harmonic series and rank-2 temperaments. They are written into a scale's seven lent columns. */
-
-/* A scale from a segment of the harmonic series, its items and its sorted list written as a builder would, its count of items stored.
-   `otonal`: the harmonics start + 1 to start + size over start; else start + size over start + size - 1 down to start. `divided`: the
-   harmonics nearest to so many equal divisions of the segment. 10 for start 0, 12 where a column has no place for all items and place
-   0, 18 for 0 divisions and where two or more items have the period 1.0. */
-uint64_t telbijan_create_harmonics_scale(bool otonal, uint16_t start, uint16_t size, bool divided, uint16_t divisions, uint8_t *kind, size_t kind_length, double *cents, size_t cents_length, uint32_t *numer, size_t numer_length, uint32_t *denom, size_t denom_length, uint32_t *place, size_t place_length, double *ratio, size_t ratio_length, int32_t *wraps, size_t wraps_length, uint16_t *count);
-
-/* A scale from a rank-2 temperament: the period, and so many generations of the generator up and down, each within the period, in
-   ascending order; its items, in cents, and its sorted list written as a builder would, its count of items stored. 13 for over 65,535
-   items, 10 for a generator or a period outside 2^-32..2^32 or a period of 1.0, 12 where a column has no place for all items and place
-   0, 18 where two or more items have the period 1.0. */
-uint64_t telbijan_create_rank2_temperament_scale(double generator, uint16_t positive, uint16_t negative, double period, uint8_t *kind, size_t kind_length, double *cents, size_t cents_length, uint32_t *numer, size_t numer_length, uint32_t *denom, size_t denom_length, uint32_t *place, size_t place_length, double *ratio, size_t ratio_length, int32_t *wraps, size_t wraps_length, uint16_t *count);
 
 /* ==== The same calls on structs ====================================================================================================
  *

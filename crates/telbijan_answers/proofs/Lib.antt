@@ -1,2 +1,3 @@
 pub mod Interface
 pub mod Theorems
+pub mod Details

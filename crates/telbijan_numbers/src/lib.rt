@@ -1,4 +1,5 @@
-// Whole numbers, keys and powers for C: include/telbijan.h declares the functions.
+// Whole numbers, keys, powers, ratios and pitches for C: include/telbijan.h declares the functions.
 mod integers;
 mod keys;
+mod pitches;
 mod powers;

@@ -4,6 +4,7 @@ use mathlib.Core.List.{List}
 use Prim.Native.Nat.{ℕ}
 use lib.ListN.{length}
 use lib.Ieee.{Float}
+use mathlib.Core.Bool.{Bool}
 use Rattle.base.specs.Said.{Numbered}
 use Rattle.base.proofs.Said.{numbered-then}
 use Rattle.sorted.specs.Lent.{ListTable}
@@ -20,7 +21,14 @@ use Rattle.scl_read.proofs.Numbers as reading
 use Rattle.writing.specs.Fitted.{textLength}
 use Rattle.scl_write.specs.Export.{exportOf}
 use Rattle.scl_write.proofs.Theorems.{export-numbered}
+use Rattle.generate.specs.Generated.{countedOf}
+use Rattle.harmonics.specs.Harmonics.{madeHarmonics}
+use Rattle.harmonics.proofs.Numbers as harmonics
+use Rattle.rank2.specs.Rank2.{madeRank2}
+use Rattle.rank2.proofs.Numbers as rank2
+use Rattle.telbijan_scales.specs.Generators.{segmentWith, divisionsWith}
 
+-- ---- scales that are built, read and written
 pub item-as-ratio-numbered : (kind : ℕ) (cents : Float) (numer denom : ℕ) → Numbered (ratioOf (itemOf kind cents numer denom))
 item-as-ratio-numbered kind cents numer denom = as-ratio-numbered (itemOf kind cents numer denom)
 
@@ -47,3 +55,10 @@ build-scl-numbered items list room count = building.build-numbered (state room c
 
 pub export-scl-numbered : (description : List ℕ) (items : ItemTable) (count : ℕ) (out : List ℕ) → Numbered (textLength (exportOf (record { count = count }) items description (length out)))
 export-scl-numbered description items count out = numbered-then (export-numbered (record { count = count }) items description (length out)) (λ t. Numbered.value (length t))
+
+-- ---- scales that are computed
+pub create-harmonics-scale-numbered : (otonal : Bool) (start size : ℕ) (divided : Bool) (divisions : ℕ) (t : ItemTable) (l : ListTable) → Numbered (countedOf (madeHarmonics t l (segmentWith otonal) start size (divisionsWith divided divisions)))
+create-harmonics-scale-numbered otonal start size divided divisions t l = harmonics.create-harmonics-scale-numbered t l (segmentWith otonal) start size (divisionsWith divided divisions)
+
+pub create-rank2-temperament-scale-numbered : (generator : Float) (positive negative : ℕ) (period : Float) (t : ItemTable) (l : ListTable) → Numbered (countedOf (madeRank2 t l generator positive negative period))
+create-rank2-temperament-scale-numbered generator positive negative period t l = rank2.create-rank2-temperament-scale-numbered t l generator positive negative period

@@ -4,6 +4,7 @@ use mathlib.Core.List.{List}
 use Prim.Native.Nat.{ℕ}
 use lib.Ieee.{Float}
 use lib.ListN.{length}
+use mathlib.Core.Bool.{Bool}
 use Rattle.base.proofs.Said.{One, one-result}
 use Rattle.base.specs.Tables.{after}
 use Rattle.scl.specs.Items.{ratioOf}
@@ -20,7 +21,12 @@ use Rattle.scl_read.specs.Reader.{readOf, afterItems, afterSorted}
 use Rattle.writing.specs.Fitted.{textLength}
 use Rattle.scl_write.specs.Export.{exportOf}
 use Rattle.telbijan_answers.specs.Interface.{result, kept, fieldOf}
+use Rattle.generate.specs.Generated.{countedOf, itemsLeft, listLeft}
+use Rattle.harmonics.specs.Harmonics.{madeHarmonics}
+use Rattle.rank2.specs.Rank2.{madeRank2}
+use Rattle.telbijan_scales.specs.Generators.{segmentWith, divisionsWith}
 
+-- ---- scales that are built, read and written
 pub item-as-ratio-one : (kind : ℕ) (cents : Float) (numer denom : ℕ) (ratio : Float) → One (λ r. r) (result (ratioOf (itemOf kind cents numer denom))) × One (λ r. r) (kept (ratioOf (itemOf kind cents numer denom)) ratio)
 item-as-ratio-one kind cents numer denom ratio = (one-result (result (ratioOf (itemOf kind cents numer denom))), one-result (kept (ratioOf (itemOf kind cents numer denom)) ratio))
 
@@ -50,3 +56,14 @@ build-scl-one items list room count size = (one-result (result (counted (state r
 
 pub export-scl-one : (description : List ℕ) (items : ItemTable) (count : ℕ) (out : List ℕ) (written : ℕ) → One (λ r. r) (result (textLength (exportOf (record { count = count }) items description (length out)))) × (One (λ r. r) (after (exportOf (record { count = count }) items description (length out)) (λ t. t) out) × One (λ r. r) (kept (textLength (exportOf (record { count = count }) items description (length out))) written))
 export-scl-one description items count out written = (one-result (result (textLength (exportOf (record { count = count }) items description (length out)))), (one-result (after (exportOf (record { count = count }) items description (length out)) (λ t. t) out), one-result (kept (textLength (exportOf (record { count = count }) items description (length out))) written)))
+
+-- ---- scales that are computed
+pub create-harmonics-scale-one : (otonal : Bool) (start size : ℕ) (divided : Bool) (divisions : ℕ) (t : ItemTable) (l : ListTable) (count : ℕ) →
+    One (λ r. r) (result (countedOf (madeHarmonics t l (segmentWith otonal) start size (divisionsWith divided divisions)))) × (One (λ r. r) (itemsLeft (madeHarmonics t l (segmentWith otonal) start size (divisionsWith divided divisions)) t l) × (One (λ r. r) (listLeft (madeHarmonics t l (segmentWith otonal) start size (divisionsWith divided divisions)) t l) × One (λ r. r) (kept (countedOf (madeHarmonics t l (segmentWith otonal) start size (divisionsWith divided divisions))) count)))
+create-harmonics-scale-one otonal start size divided divisions t l count =
+    (one-result (result (countedOf (madeHarmonics t l (segmentWith otonal) start size (divisionsWith divided divisions)))), (one-result (itemsLeft (madeHarmonics t l (segmentWith otonal) start size (divisionsWith divided divisions)) t l), (one-result (listLeft (madeHarmonics t l (segmentWith otonal) start size (divisionsWith divided divisions)) t l), one-result (kept (countedOf (madeHarmonics t l (segmentWith otonal) start size (divisionsWith divided divisions))) count))))
+
+pub create-rank2-temperament-scale-one : (generator : Float) (positive negative : ℕ) (period : Float) (t : ItemTable) (l : ListTable) (count : ℕ) →
+    One (λ r. r) (result (countedOf (madeRank2 t l generator positive negative period))) × (One (λ r. r) (itemsLeft (madeRank2 t l generator positive negative period) t l) × (One (λ r. r) (listLeft (madeRank2 t l generator positive negative period) t l) × One (λ r. r) (kept (countedOf (madeRank2 t l generator positive negative period)) count)))
+create-rank2-temperament-scale-one generator positive negative period t l count =
+    (one-result (result (countedOf (madeRank2 t l generator positive negative period))), (one-result (itemsLeft (madeRank2 t l generator positive negative period) t l), (one-result (listLeft (madeRank2 t l generator positive negative period) t l), one-result (kept (countedOf (madeRank2 t l generator positive negative period)) count))))

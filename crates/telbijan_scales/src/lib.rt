@@ -1,4 +1,6 @@
 // Scales for C: seven lent columns, the items' four and the sorted list's three, and beside them the count of items.
+mod generators;
+
 use pitch::Ratio;
 use scl::Scl;
 use scl_build::SclBuilder;

@@ -1,2 +1,4 @@
 pub mod Theorems
 pub mod Numbers
+pub mod Handed
+pub mod Details

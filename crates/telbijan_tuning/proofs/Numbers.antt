@@ -16,8 +16,11 @@ use Rattle.relative.proofs.Numbers as relative
 use Rattle.tuning.proofs.Numbers as tuning
 use Rattle.key_pitches.specs.Run.{runOf}
 use Rattle.key_pitches.proofs.Numbers as run
+use Rattle.finding.proofs.Numbers as finding
 use Rattle.telbijan_tuning.specs.Tunings.{periodSaid, relativeSaid, sortedRelativeSaid, pitchSaid, keyPitchSaid, sortedPitchSaid, maybePitchSaid, maybeDegreePitchSaid}
+use Rattle.telbijan_tuning.specs.Searches.{findSaid, findSortedSaid, findPitchSaid, findPitchSortedSaid, findKeySaid}
 
+-- ---- pitches
 pub period-numbered : (count : ℕ) (t : ItemTable) → Numbered (periodSaid count t)
 period-numbered count t = relative.period-numbered count t
 
@@ -44,3 +47,19 @@ maybe-pitch-of-degree-numbered count t kbm map degree = tuning.maybe-pitch-of-de
 
 pub pitches-of-numbered : (count : ℕ) (t : ItemTable) (kbm : Kbm) (map : List ℤ) (keys : ℕ) (pitches : List Float) (numbers : List ℕ) → Numbered (runOf count t kbm map keys (length pitches) (length numbers))
 pitches-of-numbered count t kbm map keys pitches numbers = run.run-numbered count t kbm map keys (length pitches) (length numbers)
+
+-- ---- searches
+pub find-by-relative-pitch-numbered : (count : ℕ) (t : ItemTable) (l : ListTable) (target : Float) → Numbered (findSaid count t l target)
+find-by-relative-pitch-numbered count t l target = finding.find-by-relative-pitch-numbered count t l target
+
+pub find-by-relative-pitch-sorted-numbered : (count : ℕ) (t : ItemTable) (l : ListTable) (target : Float) → Numbered (findSortedSaid count t l target)
+find-by-relative-pitch-sorted-numbered count t l target = finding.find-by-relative-pitch-sorted-numbered count t l target
+
+pub find-by-pitch-numbered : (count : ℕ) (t : ItemTable) (l : ListTable) (root : KbmRoot) (pitch : Float) → Numbered (findPitchSaid count t l root pitch)
+find-by-pitch-numbered count t l root pitch = finding.find-by-pitch-numbered count t l root pitch
+
+pub find-by-pitch-sorted-numbered : (count : ℕ) (t : ItemTable) (l : ListTable) (root : KbmRoot) (pitch : Float) → Numbered (findPitchSortedSaid count t l root pitch)
+find-by-pitch-sorted-numbered count t l root pitch = finding.find-by-pitch-sorted-numbered count t l root pitch
+
+pub find-key-by-pitch-numbered : (count : ℕ) (t : ItemTable) (l : ListTable) (root : KbmRoot) (pitch : Float) → Numbered (findKeySaid count t l root pitch)
+find-key-by-pitch-numbered count t l root pitch = finding.find-key-by-pitch-numbered count t l root pitch

@@ -12,9 +12,13 @@ use Rattle.scl.specs.Table.{ItemTable, itemsIn}
 use Rattle.kbm.specs.declared.Kbm.{Kbm}
 use Rattle.kbm.specs.declared.KbmRoot.{KbmRoot}
 use Rattle.key_pitches.specs.Run.{keyPitches, runOf, afterHz, afterNumbers}
-use Rattle.telbijan_answers.specs.Interface.{result, kept}
+use Rattle.telbijan_answers.specs.Interface.{result, kept, fieldOf}
+use Rattle.base.specs.Said.{Said}
+use Rattle.approximation.specs.declared.Approximation.{Approximation}
 use Rattle.telbijan_tuning.specs.Tunings.{periodSaid, relativeSaid, sortedRelativeSaid, pitchSaid, keyPitchSaid, sortedPitchSaid, maybePitchSaid, maybeDegreePitchSaid}
+use Rattle.telbijan_tuning.specs.Searches.{findSaid, findSortedSaid, findPitchSaid, findPitchSortedSaid, findKeySaid}
 
+-- ---- pitches
 pub period-one : (count : ℕ) (t : ItemTable) (old : Float) → One (λ r. r) (result (periodSaid count t)) × One (λ r. r) (kept (periodSaid count t) old)
 period-one count t old = (one-result (result (periodSaid count t)), one-result (kept (periodSaid count t) old))
 
@@ -41,3 +45,26 @@ maybe-pitch-of-degree-one count t kbm map degree old = (one-result (result (mayb
 
 pub pitches-of-one : (count : ℕ) (t : ItemTable) (kbm : Kbm) (map : List ℤ) (first : PianoKey) (keys : ℕ) (pitches : List Float) (numbers : List ℕ) → One (λ r. r) (result (runOf count t kbm map keys (length pitches) (length numbers))) × (One (λ r. r) (afterHz (runOf count t kbm map keys (length pitches) (length numbers)) (keyPitches (itemsIn count t) kbm map first) keys pitches) × One (λ r. r) (afterNumbers (runOf count t kbm map keys (length pitches) (length numbers)) (keyPitches (itemsIn count t) kbm map first) keys numbers))
 pitches-of-one count t kbm map first keys pitches numbers = (one-result (result (runOf count t kbm map keys (length pitches) (length numbers))), (one-result (afterHz (runOf count t kbm map keys (length pitches) (length numbers)) (keyPitches (itemsIn count t) kbm map first) keys pitches), one-result (afterNumbers (runOf count t kbm map keys (length pitches) (length numbers)) (keyPitches (itemsIn count t) kbm map first) keys numbers)))
+
+-- ---- searches
+-- of any search: the result, the number and the deviation that it stores
+abbrev pub OneSearch : Said Approximation → ℤ → Float → Type 0
+OneSearch s number deviation = One (λ r. r) (result s) × (One (λ r. r) (kept (fieldOf (λ a. a .«approx_value») s) number) × One (λ r. r) (kept (fieldOf (λ a. a .deviation) s) deviation))
+
+one-search : (s : Said Approximation) (number : ℤ) (deviation : Float) → OneSearch s number deviation
+one-search s number deviation = (one-result (result s), (one-result (kept (fieldOf (λ a. a .«approx_value») s) number), one-result (kept (fieldOf (λ a. a .deviation) s) deviation)))
+
+pub find-by-relative-pitch-one : (count : ℕ) (t : ItemTable) (l : ListTable) (target : Float) (number : ℤ) (deviation : Float) → OneSearch (findSaid count t l target) number deviation
+find-by-relative-pitch-one count t l target = one-search (findSaid count t l target)
+
+pub find-by-relative-pitch-sorted-one : (count : ℕ) (t : ItemTable) (l : ListTable) (target : Float) (number : ℤ) (deviation : Float) → OneSearch (findSortedSaid count t l target) number deviation
+find-by-relative-pitch-sorted-one count t l target = one-search (findSortedSaid count t l target)
+
+pub find-by-pitch-one : (count : ℕ) (t : ItemTable) (l : ListTable) (root : KbmRoot) (pitch : Float) (number : ℤ) (deviation : Float) → OneSearch (findPitchSaid count t l root pitch) number deviation
+find-by-pitch-one count t l root pitch = one-search (findPitchSaid count t l root pitch)
+
+pub find-by-pitch-sorted-one : (count : ℕ) (t : ItemTable) (l : ListTable) (root : KbmRoot) (pitch : Float) (number : ℤ) (deviation : Float) → OneSearch (findPitchSortedSaid count t l root pitch) number deviation
+find-by-pitch-sorted-one count t l root pitch = one-search (findPitchSortedSaid count t l root pitch)
+
+pub find-key-by-pitch-one : (count : ℕ) (t : ItemTable) (l : ListTable) (root : KbmRoot) (pitch : Float) (number : ℤ) (deviation : Float) → OneSearch (findKeySaid count t l root pitch) number deviation
+find-key-by-pitch-one count t l root pitch = one-search (findKeySaid count t l root pitch)

@@ -1,1 +1,2 @@
 pub mod Tunings
+pub mod Searches

@@ -1,1 +1,0 @@
-// Calls that read no text refuse with detail 0: definitions and theorems only.
