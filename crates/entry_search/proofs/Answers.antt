@@ -29,7 +29,7 @@ use Rattle.searching.specs.declared.Choice.{Choice}
 use Rattle.searching.specs.declared.Found.{Found}
 use Rattle.searching.proofs.Given.{clamped-in}
 use Rattle.searching.proofs.Opened.{pickedAt, nearest-told, search-none}
-use Rattle.approximation.specs.declared.Approximation.{Approximation}
+use Rattle.searching.specs.declared.approximation.Approximation.{Approximation}
 use Rattle.entries.specs.Entries.{entryIn, entriesIn, columnsIn, noEntry}
 use Rattle.entries.specs.declared.SortedEntry.{SortedEntry}
 use Rattle.entry_search.specs.Columns.{degreeBy, columnSearch}

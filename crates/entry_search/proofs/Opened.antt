@@ -15,7 +15,7 @@ use Rattle.relative.specs.Scales.{tested}
 use Rattle.searching.specs.Search.{chosenOf, indexOf, foundAt}
 use Rattle.searching.specs.declared.Choice.{Choice}
 use Rattle.searching.specs.declared.Found.{Found}
-use Rattle.approximation.specs.Degrees.{declaredOf, ascendingOf}
+use Rattle.searching.specs.Degrees.{declaredOf, ascendingOf}
 use Rattle.entries.specs.Entries.{entryIn}
 use Rattle.entries.specs.declared.SortedEntry.{SortedEntry}
 use Rattle.entry_search.specs.Columns.{degreeBy}

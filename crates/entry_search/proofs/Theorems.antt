@@ -20,11 +20,11 @@ use Rattle.scl_read.specs.declared.SclRead.{SclRead}
 use Rattle.scl_read.specs.declared.SclReadAnswer.{SclReadAnswer}
 use Rattle.relative.specs.Scales.{tested, isScale}
 use Rattle.searching.specs.Search.{searchOf}
-use Rattle.approximation.specs.Answers.{saysDegreeSearch}
-use Rattle.approximation.specs.Degrees.{declaredOf, ascendingOf}
-use Rattle.approximation.specs.declared.Approximation.{Approximation}
-use Rattle.approximation.specs.declared.DegreeSearch.{DegreeSearch}
-use Rattle.approximation.proofs.Theorems.{degree-search-one}
+use Rattle.searching.specs.DegreeAnswers.{saysDegreeSearch}
+use Rattle.searching.specs.Degrees.{declaredOf, ascendingOf}
+use Rattle.searching.specs.declared.approximation.Approximation.{Approximation}
+use Rattle.searching.specs.declared.approximation.DegreeSearch.{DegreeSearch}
+use Rattle.searching.proofs.Theorems.{degree-search-one}
 use Rattle.entries.specs.Entries.{columnsIn}
 use Rattle.entries.specs.Same.{SameList, BuildEntries, ReadEntries}
 use Rattle.entries.specs.declared.SortedEntry.{SortedEntry}

@@ -9,8 +9,8 @@ use Rattle.scl.specs.Table.{ItemTable, itemsIn}
 use Rattle.relative.specs.Scales.{tested, isScale}
 use Rattle.searching.specs.Search.{searchOf}
 use Rattle.searching.specs.declared.Found.{Found}
-use Rattle.approximation.specs.Degrees.{declaredOf, ascendingOf}
-use Rattle.approximation.specs.declared.Approximation.{Approximation}
+use Rattle.searching.specs.Degrees.{declaredOf, ascendingOf}
+use Rattle.searching.specs.declared.approximation.Approximation.{Approximation}
 
 -- the ascending degree of what was found where `sorted`, else the declared one
 abbrev pub degreeBy : Bool → ℕ → Found → Said Approximation

@@ -20,7 +20,7 @@ use Rattle.relative.specs.Scales.{tested}
 use Rattle.searching.specs.Search.{chosenOf, indexOf, foundAt, nearestOf, searchOf}
 use Rattle.searching.specs.declared.Choice.{Choice}
 use Rattle.searching.specs.declared.Found.{Found}
-use Rattle.approximation.specs.declared.Approximation.{Approximation}
+use Rattle.searching.specs.declared.approximation.Approximation.{Approximation}
 use Rattle.entries.specs.Entries.{entryIn, noEntry}
 use Rattle.entries.specs.declared.SortedEntry.{SortedEntry}
 use Rattle.entry_search.specs.Columns.{degreeBy}

@@ -2,13 +2,13 @@
 // Document 01, "Scales and searches".
 //
 // Every call on lent tables goes over the whole list to test it, so the one pass that tests also keeps the target's neighbours.
-use approximation::DegreeSearch;
 use entries::SortedEntry;
 use pitch::Ratio;
 use scl::Scl;
 use searching::ChoiceAnswer;
 use searching::Found;
 use searching::FoundAnswer;
+use searching::approximation::DegreeSearch;
 ghost use mathlib.Core.Path.{_≡_};
 ghost use mathlib.Core.Bool.{true, _&&_};
 ghost use Prim.Native.Nat.{_≤_, _<_};
@@ -19,7 +19,7 @@ ghost use Rattle.sorted.specs.Lent.{goesOn};
 ghost use Rattle.scl.specs.Table.{itemTable, itemsIn, isItems};
 ghost use Rattle.searching.specs.Answers.{saysFound};
 ghost use Rattle.searching.specs.Search.{foundAt};
-ghost use Rattle.approximation.specs.Answers.{saysDegreeSearch};
+ghost use Rattle.searching.specs.DegreeAnswers.{saysDegreeSearch};
 ghost use Rattle.entries.specs.Entries.{entryIn, columnsIn};
 ghost use Rattle.entry_search.specs.Columns.{columnSearch};
 ghost use Rattle.entry_search.specs.Scans.{Aims, Starts, Near, Ready, begunOf, goesUp, scanStep, placesOf, nearestBy, foundBy, answerOf};
@@ -249,9 +249,9 @@ fn finish(s: Scan, sorted: bool) -> DegreeSearch
     if s.usable {
         let found = found_in(s);
         if sorted {
-            return approximation::ascending(found, s.count);
+            return searching::approximation::ascending(found, s.count);
         }
-        return approximation::declared(found, s.count);
+        return searching::approximation::declared(found, s.count);
     }
     DegreeSearch::Refused(scl::NOT_USABLE)
 }

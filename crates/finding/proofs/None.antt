@@ -25,12 +25,12 @@ use Rattle.kbm.specs.declared.KbmRoot.{KbmRoot}
 use Rattle.relative.specs.Scales.{noEntry, tested, isScale}
 use Rattle.relative.proofs.Back.{then-given, pick-given}
 use Rattle.relative.proofs.Places.{list-room, list-length, list-at}
-use Rattle.rooted.specs.Pitches.{rootDegree, rootPitch}
+use Rattle.relative.specs.Pitches.{rootDegree, rootPitch}
 use Rattle.searching.specs.Search.{foundAt, searchOf}
 use Rattle.searching.specs.declared.Found.{Found}
 use Rattle.searching.proofs.Theorems.{search-says-none}
-use Rattle.approximation.specs.Degrees.{approximation, declaredOf, ascendingOf, keyOf}
-use Rattle.approximation.specs.declared.Approximation.{Approximation}
+use Rattle.searching.specs.Degrees.{approximation, declaredOf, ascendingOf, keyOf}
+use Rattle.searching.specs.declared.approximation.Approximation.{Approximation}
 use Rattle.finding.specs.Find.{computedSearch, pitchSearchFrom, pitchSearchOf}
 use Rattle.finding.specs.Says.{FindsNone}
 use Rattle.finding.proofs.Theorems.{key-of}

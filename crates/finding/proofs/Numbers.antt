@@ -17,13 +17,12 @@ use Rattle.scl.specs.declared.Item.{Item}
 use Rattle.kbm.specs.Root.{isRoot}
 use Rattle.kbm.specs.declared.KbmRoot.{KbmRoot}
 use Rattle.relative.specs.Scales.{tested, isScale}
-use Rattle.relative.proofs.Numbers.{tested-numbered, held-numbered}
-use Rattle.rooted.proofs.Numbers.{root-degree-numbered, root-pitch-numbered}
+use Rattle.relative.proofs.Numbers.{tested-numbered, held-numbered, root-degree-numbered, root-pitch-numbered}
 use Rattle.searching.specs.Search.{searchOf}
 use Rattle.searching.specs.declared.Found.{Found}
 use Rattle.searching.proofs.Numbers.{search-numbered}
-use Rattle.approximation.specs.Degrees.{approximation, declaredOf, ascendingOf, keyOf}
-use Rattle.approximation.specs.declared.Approximation.{Approximation}
+use Rattle.searching.specs.Degrees.{approximation, declaredOf, ascendingOf, keyOf}
+use Rattle.searching.specs.declared.approximation.Approximation.{Approximation}
 use Rattle.finding.specs.Find.{pitchSearchFrom, pitchSearchOf}
 
 -- ---- the degree or key of what was found

@@ -22,15 +22,15 @@ use Rattle.kbm.specs.Root.{isRoot}
 use Rattle.kbm.specs.declared.KbmRoot.{KbmRoot}
 use Rattle.relative.specs.Refusals.{ReachedOrBeyond}
 use Rattle.relative.specs.Scales.{tested, isScale}
-use Rattle.rooted.specs.Pitches.{rootPitch}
-use Rattle.rooted.proofs.Theorems.{root-reached}
+use Rattle.relative.specs.Pitches.{rootPitch}
+use Rattle.relative.proofs.Theorems.{root-reached}
 use Rattle.searching.specs.Refusals.{OrBeyond}
 use Rattle.searching.specs.Search.{searchOf}
 use Rattle.searching.specs.declared.Found.{Found}
 use Rattle.searching.proofs.Refusals.{move, on, computed-or, search-refusals}
 use Rattle.searching.proofs.Within.{search-reach}
-use Rattle.approximation.specs.Degrees.{approximation, declaredOf, ascendingOf, keyOf}
-use Rattle.approximation.specs.declared.Approximation.{Approximation}
+use Rattle.searching.specs.Degrees.{approximation, declaredOf, ascendingOf, keyOf}
+use Rattle.searching.specs.declared.approximation.Approximation.{Approximation}
 use Rattle.finding.specs.Find.{computedSearch, pitchSearchFrom, pitchSearchOf}
 use Rattle.finding.specs.Says.{Answers}
 use Rattle.finding.proofs.Theorems.{quotient-held}

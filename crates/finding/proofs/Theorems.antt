@@ -23,15 +23,14 @@ use Rattle.kbm.specs.Root.{isRoot}
 use Rattle.kbm.specs.declared.KbmRoot.{KbmRoot}
 use Rattle.relative.specs.Scales.{tested, isScale}
 use Rattle.relative.proofs.Back.{then-given, pick-given}
-use Rattle.rooted.specs.Pitches.{rootDegree, rootPitch}
+use Rattle.relative.specs.Pitches.{rootDegree, rootPitch}
 use Rattle.searching.specs.Search.{searchOf}
 use Rattle.searching.specs.declared.Found.{Found}
-use Rattle.searching.proofs.Theorems.{search-says}
+use Rattle.searching.proofs.Theorems.{search-says, degree-search-one, key-search-one}
 use Rattle.searching.proofs.Within.{search-reach}
-use Rattle.approximation.specs.Answers.{saysDegreeSearch, saysKeySearch}
-use Rattle.approximation.specs.Degrees.{approximation, declaredOf, ascendingOf, keyOf}
-use Rattle.approximation.specs.declared.Approximation.{Approximation}
-use Rattle.approximation.proofs.Theorems.{degree-search-one, key-search-one}
+use Rattle.searching.specs.DegreeAnswers.{saysDegreeSearch, saysKeySearch}
+use Rattle.searching.specs.Degrees.{approximation, declaredOf, ascendingOf, keyOf}
+use Rattle.searching.specs.declared.approximation.Approximation.{Approximation}
 use Rattle.finding.specs.Find.{computedSearch, pitchSearchFrom, pitchSearchOf}
 use Rattle.finding.specs.Says.{Finds, FindsPitch, FindsKey}
 

@@ -10,7 +10,7 @@ use Rattle.pitch.specs.Pitches.{betweenPitches}
 use Rattle.sorting.specs.Entries.{Entry}
 use Rattle.scl.specs.declared.Item.{Item}
 use Rattle.kbm.specs.declared.KbmRoot.{KbmRoot}
-use Rattle.rooted.specs.Pitches.{rootDegree, rootPitch}
+use Rattle.relative.specs.Pitches.{rootDegree, rootPitch}
 use Rattle.searching.specs.Search.{searchOf}
 use Rattle.searching.specs.declared.Found.{Found}
 

@@ -13,11 +13,11 @@ use Rattle.pitch.specs.Pitches.{betweenPitches}
 use Rattle.sorting.specs.Entries.{Entry}
 use Rattle.scl.specs.declared.Item.{Item}
 use Rattle.kbm.specs.declared.KbmRoot.{KbmRoot}
-use Rattle.rooted.specs.Pitches.{rootDegree, rootPitch}
+use Rattle.relative.specs.Pitches.{rootDegree, rootPitch}
 use Rattle.searching.specs.Nearest.{Searched}
 use Rattle.searching.specs.declared.Found.{Found}
-use Rattle.approximation.specs.Degrees.{approximation, declaredOf}
-use Rattle.approximation.specs.declared.Approximation.{Approximation}
+use Rattle.searching.specs.Degrees.{approximation, declaredOf}
+use Rattle.searching.specs.declared.approximation.Approximation.{Approximation}
 
 -- of a ratio x: the entry is nearest to x reduced by the period, and a is its degree with its deviation
 pub record Finds (items : List Item) (es : List Entry) (x : Float) (degree : Found → Said Approximation) (a : Approximation) : Type 0 where

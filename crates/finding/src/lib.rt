@@ -3,8 +3,6 @@
 //
 // Every call tests the tables lent to it, the root and the ratio or pitch first (10); then come 11 for the root offset, 18, 11 for
 // the degree, 11 for the key.
-use approximation::DegreeSearch;
-use approximation::KeySearch;
 use integer_math::I32Answer;
 use kbm::KbmRoot;
 use pitch::Pitch;
@@ -13,6 +11,8 @@ use pitch::Ratio;
 use pitch::RatioAnswer;
 use scl::Scl;
 use searching::FoundAnswer;
+use searching::approximation::DegreeSearch;
+use searching::approximation::KeySearch;
 ghost use mathlib.Core.Path.{_≡_};
 ghost use mathlib.Core.Bool.{true, _&&_};
 ghost use Rattle.base.specs.Said.{andThen};
@@ -23,8 +23,8 @@ ghost use Rattle.scl.specs.Table.{itemTable, itemsIn, isItems};
 ghost use Rattle.relative.specs.Scales.{tested, isScale};
 ghost use Rattle.searching.specs.Answers.{saysFound};
 ghost use Rattle.searching.specs.Search.{searchOf};
-ghost use Rattle.approximation.specs.Answers.{saysDegreeSearch, saysKeySearch};
-ghost use Rattle.approximation.specs.Degrees.{declaredOf, ascendingOf, keyOf};
+ghost use Rattle.searching.specs.DegreeAnswers.{saysDegreeSearch, saysKeySearch};
+ghost use Rattle.searching.specs.Degrees.{declaredOf, ascendingOf, keyOf};
 ghost use Rattle.finding.specs.Find.{computedSearch, pitchSearchFrom, pitchSearchOf};
 
 // The search of a computed ratio: 18 outside 2^-64..2^64.
@@ -75,7 +75,7 @@ fn search_pitch(
     requires { ⌜ (isItems count (itemTable (now kind) (now cents) (now numer) (now denom)) ≡ true) × (isList count (listTable (now place) (now ratio) (now wraps)) ≡ true) ⌝ }
     ensures { λ r. ⌜ saysFound r ≡ pitchSearchFrom (itemsIn count (itemTable (now (kind .entry)) (now (cents .entry)) (now (numer .entry)) (now (denom .entry)))) (listIn count (listTable (now (place .entry)) (now (ratio .entry)) (now (wraps .entry)))) (reference .0) root (pitch .0) ⌝ }
 {
-    match rooted::root_pitch(kind, cents, numer, denom, count, reference, root) {
+    match relative::rooted::root_pitch(kind, cents, numer, denom, count, reference, root) {
         PitchAnswer::Is(first) => match Ratio::between_pitches(first, pitch) {
             RatioAnswer::Is(by) => {
                 search_computed(kind, cents, numer, denom, place, ratio, wraps, count, by.0)
@@ -102,7 +102,7 @@ fn search_rooted(
     requires { ⌜ (isItems count (itemTable (now kind) (now cents) (now numer) (now denom)) ≡ true) × (isList count (listTable (now place) (now ratio) (now wraps)) ≡ true) ⌝ }
     ensures { λ r. ⌜ saysFound r ≡ pitchSearchOf (itemsIn count (itemTable (now (kind .entry)) (now (cents .entry)) (now (numer .entry)) (now (denom .entry)))) (listIn count (listTable (now (place .entry)) (now (ratio .entry)) (now (wraps .entry)))) root (pitch .0) ⌝ }
 {
-    match rooted::root_degree(root) {
+    match relative::rooted::root_degree(root) {
         I32Answer::Is(at) => search_pitch(
             kind,
             cents,
@@ -165,7 +165,7 @@ pub fn find_by_relative_pitch(
     if relative::is_scale(kind, cents, numer, denom, place, ratio, wraps, count) {
         if floats::is_in_search(x) {
             let found = searching::search(kind, cents, numer, denom, place, ratio, wraps, count, x);
-            return approximation::declared(found, count);
+            return searching::approximation::declared(found, count);
         }
     }
     DegreeSearch::Refused(scl::NOT_USABLE)
@@ -191,7 +191,7 @@ pub fn find_by_relative_pitch_sorted(
     if relative::is_scale(kind, cents, numer, denom, place, ratio, wraps, count) {
         if floats::is_in_search(x) {
             let found = searching::search(kind, cents, numer, denom, place, ratio, wraps, count, x);
-            return approximation::ascending(found, count);
+            return searching::approximation::ascending(found, count);
         }
     }
     DegreeSearch::Refused(scl::NOT_USABLE)
@@ -239,7 +239,7 @@ pub fn find_by_pitch(
             root,
             pitch,
         );
-        return approximation::declared(found, count);
+        return searching::approximation::declared(found, count);
     }
     DegreeSearch::Refused(scl::NOT_USABLE)
 }
@@ -285,7 +285,7 @@ pub fn find_by_pitch_sorted(
             root,
             pitch,
         );
-        return approximation::ascending(found, count);
+        return searching::approximation::ascending(found, count);
     }
     DegreeSearch::Refused(scl::NOT_USABLE)
 }
@@ -318,5 +318,5 @@ pub fn find_key_by_pitch(
         root,
         pitch,
     );
-    approximation::key_from(root, degree)
+    searching::approximation::key_from(root, degree)
 }

@@ -31,8 +31,8 @@ use Rattle.scl.proofs.Table.{both}
 use Rattle.relative.specs.Refusals.{ReachedOrBeyond}
 use Rattle.relative.proofs.Back.{pick-given}
 use Rattle.relative.proofs.Numbers.{tested-numbered, held-numbered}
-use Rattle.rooted.specs.Pitches.{pitchFrom, pitchOf}
-use Rattle.rooted.proofs.Theorems.{from-reached}
+use Rattle.relative.specs.Pitches.{pitchFrom, pitchOf}
+use Rattle.relative.proofs.Theorems.{from-reached}
 use Rattle.tuning.specs.Keys.{maybePitchOf}
 use Rattle.tuning.proofs.Numbers.{maybe-numbered}
 use Rattle.key_pitches.specs.Beside.{Beside}

@@ -22,7 +22,7 @@ use Rattle.kbm.specs.declared.Kbm.{Kbm}
 use Rattle.scl.specs.Table.{ItemTable}
 use Rattle.scl.specs.declared.Item.{Item}
 use Rattle.relative.specs.Relative.{relativePitchOf}
-use Rattle.rooted.specs.Pitches.{rootDegree, rootPitch, above, pitchFrom, pitchOf}
+use Rattle.relative.specs.Pitches.{rootDegree, rootPitch, above, pitchFrom, pitchOf}
 use Rattle.tuning.specs.Keys.{maybePitchOf}
 use Rattle.key_pitches.specs.Run.{keyAt, keyPitches, rootSaid, keySaid, stepSaid, sounded, numberOf, soundedTo, numbersTo, isTuning, runOf}
 

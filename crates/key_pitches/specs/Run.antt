@@ -19,7 +19,7 @@ use Rattle.kbm.specs.declared.KbmRoot.{KbmRoot}
 use Rattle.scl.specs.Table.{ItemTable, isItems}
 use Rattle.scl.specs.declared.Item.{Item}
 use Rattle.relative.specs.Relative.{relativePitchOf}
-use Rattle.rooted.specs.Pitches.{rootDegree, rootPitch, above}
+use Rattle.relative.specs.Pitches.{rootDegree, rootPitch, above}
 use Rattle.tuning.specs.Keys.{maybePitchOf}
 use Rattle.key_pitches.specs.declared.RunAnswer.{RunAnswer}
 use Rattle.key_pitches.specs.declared.RunAnswer.the-variants as run

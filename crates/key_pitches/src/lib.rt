@@ -19,7 +19,7 @@ ghost use Rattle.key.specs.Answers.{saysKey};
 ghost use Rattle.kbm.specs.Table.{isTable};
 ghost use Rattle.pitch.specs.Answers.{saysPitch, saysRatio};
 ghost use Rattle.scl.specs.Table.{itemTable, itemsIn, isItems};
-ghost use Rattle.rooted.specs.Pitches.{above};
+ghost use Rattle.relative.specs.Pitches.{above};
 ghost use Rattle.key_pitches.specs.Run.{saysRun, keyAt, rootSaid, keySaid, stepSaid, keyPitches, sounded, numberOf, soundedTo, numbersTo, isTuning, runOf, afterHz, afterNumbers};
 
 // A run of keys was answered, or refused as a whole.
@@ -63,8 +63,16 @@ fn root_of(
     requires { ⌜ isItems count (itemTable (now kind) (now cents) (now numer) (now denom)) ≡ true ⌝ }
     ensures { λ r. ⌜ saysPitch r ≡ rootSaid (itemsIn count (itemTable (now (kind .entry)) (now (cents .entry)) (now (numer .entry)) (now (denom .entry)))) root ⌝ }
 {
-    match rooted::root_degree(root) {
-        I32Answer::Is(at) => rooted::root_pitch(kind, cents, numer, denom, count, root.pitch, at),
+    match relative::rooted::root_degree(root) {
+        I32Answer::Is(at) => relative::rooted::root_pitch(
+            kind,
+            cents,
+            numer,
+            denom,
+            count,
+            root.pitch,
+            at,
+        ),
         I32Answer::Refused(refusal) => PitchAnswer::Refused(refusal),
     }
 }
@@ -74,7 +82,7 @@ fn above_root(first: PitchAnswer, ratio: RatioAnswer) -> PitchAnswer
     ensures { λ r. ⌜ saysPitch r ≡ above (saysPitch first) (saysRatio ratio) ⌝ }
 {
     match first {
-        PitchAnswer::Is(pitch) => rooted::times_answer(pitch, ratio),
+        PitchAnswer::Is(pitch) => relative::rooted::times_answer(pitch, ratio),
         PitchAnswer::Refused(refusal) => PitchAnswer::Refused(refusal),
     }
 }

@@ -3,9 +3,9 @@ use mathlib.Core.Bool.{Bool}
 use mathlib.Core.List.{List}
 use Prim.Native.Nat.{ℕ}
 use native.Mathlib.Omega.{arith}
-use lib.IntN.{ℤ}
+use lib.IntN.{ℤ, pos, _-ℤ_}
 use lib.ListN.{getD}
-use lib.Ieee.{Float, binary64, mul, ofInt}
+use lib.Ieee.{Float, binary64, mul, ofInt, div}
 use Rattle.base.specs.Integers.{inI32, held}
 use Rattle.base.specs.Said.{Said, Numbered}
 use Rattle.base.proofs.Said.{numbered-pick, numbered-then}
@@ -17,8 +17,10 @@ use Rattle.scl.specs.Table.{ItemTable, noItem, itemsIn, isItems}
 use Rattle.scl.specs.declared.Item.{Item}
 use Rattle.scl.proofs.Numbers.{as-ratio-numbered}
 use Rattle.scl_tables.specs.Build.{lastOf, countOf}
+use Rattle.kbm.specs.declared.KbmRoot.{KbmRoot}
 use Rattle.relative.specs.Relative.{periodsOf, placeOf, stretched, relativePitchOf, sortedRelativePitchOf}
 use Rattle.relative.specs.Scales.{noEntry, tested, isScale}
+use Rattle.relative.specs.Pitches.{rootDegree, rootPitch, above, pitchFrom, sortedPitchFrom, pitchOf, sortedPitchOf}
 
 -- ---- steps of every call on a tuning
 pub tested-numbered : {A : Type 0} (test : Bool) {s : Said A} → Numbered s → Numbered (tested test s)
@@ -53,3 +55,21 @@ module _ (count : ℕ) (t : ItemTable) where
 
   pub sorted-relative-pitch-of-numbered : (l : ListTable) (d : ℤ) → Numbered (tested (isScale count t l) (sortedRelativePitchOf (itemsIn count t) (listIn count l) d))
   sorted-relative-pitch-of-numbered l d = tested-numbered (isScale count t l) (sorted-relative-numbered (itemsIn count t) (listIn count l) d)
+
+pub root-degree-numbered : (root : KbmRoot) → Numbered (rootDegree root)
+root-degree-numbered root = held-numbered (pos 0 -ℤ root .offset)
+
+pub root-pitch-numbered : (items : List Item) (hz : Float) (at : ℤ) → Numbered (rootPitch items hz at)
+unfolding rootPitch
+root-pitch-numbered items hz at = numbered-then (relative-numbered items at) (λ ratio. both-numbered hz ratio (computed-numbered (div binary64 hz ratio)))
+
+above-numbered : {root ratio : Said Float} → Numbered root → Numbered ratio → Numbered (above root ratio)
+above-numbered n m = numbered-then n (λ hz. numbered-then m (λ ratio. both-numbered hz ratio (computed-numbered (mul binary64 hz ratio))))
+
+pub pitch-numbered : (items : List Item) (root : KbmRoot) (d : ℤ) → Numbered (pitchOf items root d)
+unfolding pitchOf pitchFrom
+pitch-numbered items root d = numbered-then (root-degree-numbered root) (λ at. above-numbered (root-pitch-numbered items (root .pitch .0) at) (relative-numbered items d))
+
+pub sorted-pitch-numbered : (items : List Item) (es : List Entry) (root : KbmRoot) (d : ℤ) → Numbered (sortedPitchOf items es root d)
+unfolding sortedPitchOf sortedPitchFrom
+sorted-pitch-numbered items es root d = numbered-then (root-degree-numbered root) (λ at. above-numbered (root-pitch-numbered items (root .pitch .0) at) (sorted-relative-numbered items es d))

@@ -3,6 +3,8 @@
 //
 // A scale is lent as columns: items (`kind`, `cents`, `numer`, `denom`) and the sorted list (`place`, `ratio`, `wraps`), beside an `Scl`
 // with the count of its items, place 0 not among them. A call tests all tables lent to it first (10).
+pub mod rooted;
+
 use key::Degree;
 use pitch::Ratio;
 use pitch::RatioAnswer;

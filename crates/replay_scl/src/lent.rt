@@ -1,11 +1,11 @@
 // The calls on a list of structs that stands here: it goes in and comes out by value, with the answer.
-use approximation::DegreeSearch;
 use entries::SortedEntry;
 use pitch::Ratio;
 use scl::Scl;
 use scl::SclAnswer;
 use scl_build::SclBuilder;
 use scl_read::SclReadAnswer;
+use searching::approximation::DegreeSearch;
 
 pub struct Reading {
     pub answer: SclReadAnswer,

@@ -1,7 +1,6 @@
 // Answers frozen questions on scales and on the sorted list as a slice of structs (the crate `frozen` says how they are written). The questions and the answers are made by `oracle freeze`.
 //
 // Each call is lent seven columns of 16 places. An answer ends with what every lent place or byte is after the call.
-use approximation::DegreeSearch;
 use frozen::given;
 use frozen::say;
 use libc::STDIN_FILENO;
@@ -10,6 +9,7 @@ use scl::Scl;
 use scl::SclAnswer;
 use scl_read::SclRead;
 use scl_read::SclReadAnswer;
+use searching::approximation::DegreeSearch;
 use writing::SizeAnswer;
 
 mod builders;

@@ -1,10 +1,10 @@
 // Answers frozen questions on tunings and computed scales (the crate `frozen` says how they are written). The questions and the answers are made by `oracle freeze`.
-use approximation::DegreeSearch;
 use frozen::say;
 use libc::STDIN_FILENO;
 use pitch::PitchAnswer;
 use pitch::RatioAnswer;
 use scl::SclAnswer;
+use searching::approximation::DegreeSearch;
 
 mod computed;
 mod mapped;

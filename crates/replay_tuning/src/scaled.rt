@@ -1,5 +1,4 @@
 // Pitches and searches in a scale. A call goes by its number among those of `main.rt`.
-use approximation::KeySearch;
 use frozen::columns;
 use frozen::given;
 use frozen::say;
@@ -9,6 +8,7 @@ use key::PianoKey;
 use pitch::Pitch;
 use pitch::Ratio;
 use scl::Scl;
+use searching::approximation::KeySearch;
 
 // The root of a question.
 pub fn root(line: &[u8]) -> KbmRoot {

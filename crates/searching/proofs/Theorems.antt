@@ -31,6 +31,7 @@ use Rattle.relative.specs.Scales.{noEntry}
 use Rattle.relative.proofs.Back.{then-given, pick-other}
 use Rattle.relative.proofs.Places.{items-length, list-room, list-length}
 use Rattle.relative.proofs.Ratios.{item-held}
+use Rattle.kbm.specs.declared.KbmRoot.{KbmRoot}
 use Rattle.searching.specs.Answers.{saysChoice, saysFound}
 use Rattle.searching.specs.Nearest.{ratioAt, aboveBy, belowBy, Picked, lower, upper, Searched}
 use Rattle.searching.specs.Search.{tolerance, choice, chosenOf, upperOf, indexOf, foundAt, nearestOf, searchOf}
@@ -40,6 +41,11 @@ use Rattle.searching.specs.declared.ChoiceAnswer.the-variants as OfChoic
 use Rattle.searching.specs.declared.FoundAnswer.the-variants as OfFound
 use Rattle.searching.proofs.Opened.{lastly, chosen-is, search-none}
 use Rattle.searching.proofs.Parting.{ratio-at, parts}
+use Rattle.searching.specs.DegreeAnswers.{saysDegreeSearch, saysKeySearch}
+use Rattle.searching.specs.Degrees.{declaredOf, ascendingOf, keyOf}
+use Rattle.searching.specs.declared.approximation.Approximation.{Approximation}
+use Rattle.searching.specs.declared.approximation.DegreeSearch.the-variants as OfDegree
+use Rattle.searching.specs.declared.approximation.KeySearch.the-variants as OfKey
 
 -- ---- of two neighbours none is nearer beyond the tolerance
 module _ (es : List Entry) (periods : ℤ) (target : Float) (at : ℕ) (l : inReach (ratioAt es (at - 1)) ≡ true) (u : inReach (ratioAt es at) ≡ true) (t : inReach target ≡ true) where
@@ -141,3 +147,26 @@ choice-split (OfChoice.Refused r) = inr (r, refl)
 
 pub choose-one : (a b x : Float) → One saysChoice (chosenOf a b x)
 choose-one a b x = one-plain choice-split saysChoice (λ c. refl) (λ r. refl) (chosenOf a b x)
+
+degree-split : Split OfDegree.Degree OfDegree.Refused
+degree-split (OfDegree.Degree x) = inl (x, refl)
+degree-split (OfDegree.Refused r) = inr (r, refl)
+
+pub degree-search-one : (s : Said Approximation) → One saysDegreeSearch s
+degree-search-one = one-plain degree-split saysDegreeSearch (λ a. refl) (λ r. refl)
+
+key-split : Split OfKey.Key OfKey.Refused
+key-split (OfKey.Key x) = inl (x, refl)
+key-split (OfKey.Refused r) = inr (r, refl)
+
+pub key-search-one : (s : Said Approximation) → One saysKeySearch s
+key-search-one = one-plain key-split saysKeySearch (λ a. refl) (λ r. refl)
+
+pub declared-one : (found : Said Found) (count : ℕ) → One saysDegreeSearch (andThen found (declaredOf count))
+declared-one found count = degree-search-one (andThen found (declaredOf count))
+
+pub ascending-one : (found : Said Found) (count : ℕ) → One saysDegreeSearch (andThen found (ascendingOf count))
+ascending-one found count = degree-search-one (andThen found (ascendingOf count))
+
+pub key-from-one : (root : KbmRoot) (found : Said Approximation) → One saysKeySearch (andThen found (keyOf root))
+key-from-one root found = key-search-one (andThen found (keyOf root))

@@ -2,6 +2,8 @@
 // Document 01, "Scales and searches".
 //
 // An inner crate: its callers have tested the lent tables and the ratio.
+pub mod approximation;
+
 use base::Refusal;
 use pitch::Ratio;
 use pitch::RatioAnswer;

@@ -18,7 +18,7 @@ use Rattle.kbm.specs.declared.Kbm.{Kbm}
 use Rattle.kbm.specs.declared.KbmRoot.{KbmRoot}
 use Rattle.kbm.proofs.Language.{has}
 use Rattle.relative.specs.Relative.{relativePitchOf, sortedRelativePitchOf}
-use Rattle.rooted.specs.Pitches.{rootPitch, pitchFrom, sortedPitchFrom, pitchOf, sortedPitchOf}
+use Rattle.relative.specs.Pitches.{rootPitch, pitchFrom, sortedPitchFrom, pitchOf, sortedPitchOf}
 use Rattle.searching.specs.Refusals.{OrBeyond}
 use Rattle.searching.specs.Search.{chosenOf, nearestOf, searchOf}
 use Rattle.searching.proofs.Refusals.{reduced-or}

@@ -4,7 +4,7 @@ use Prim.Native.Nat.{ℕ}
 use lib.IntN.{ℤ}
 use lib.Ieee.{Float}
 use Rattle.base.specs.Said.{Said}
-use Rattle.approximation.specs.declared.Approximation.{Approximation}
+use Rattle.searching.specs.declared.approximation.Approximation.{Approximation}
 use Rattle.telbijan_answers.specs.Interface.{result, kept, fieldOf}
 
 pub handed-both :

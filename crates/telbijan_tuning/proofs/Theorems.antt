@@ -14,7 +14,7 @@ use Rattle.kbm.specs.declared.KbmRoot.{KbmRoot}
 use Rattle.key_pitches.specs.Run.{keyPitches, runOf, afterHz, afterNumbers}
 use Rattle.telbijan_answers.specs.Interface.{result, kept, fieldOf}
 use Rattle.base.specs.Said.{Said}
-use Rattle.approximation.specs.declared.Approximation.{Approximation}
+use Rattle.searching.specs.declared.approximation.Approximation.{Approximation}
 use Rattle.telbijan_tuning.specs.Tunings.{periodSaid, relativeSaid, sortedRelativeSaid, pitchSaid, keyPitchSaid, sortedPitchSaid, maybePitchSaid, maybeDegreePitchSaid}
 use Rattle.telbijan_tuning.specs.Searches.{findSaid, findSortedSaid, findPitchSaid, findPitchSortedSaid, findKeySaid}
 

@@ -11,8 +11,8 @@ use Rattle.kbm.specs.declared.KbmRoot.{KbmRoot}
 use Rattle.relative.specs.Scales.{tested, isScale}
 use Rattle.searching.specs.Search.{searchOf}
 use Rattle.searching.specs.declared.Found.{Found}
-use Rattle.approximation.specs.Degrees.{declaredOf, ascendingOf, keyOf}
-use Rattle.approximation.specs.declared.Approximation.{Approximation}
+use Rattle.searching.specs.Degrees.{declaredOf, ascendingOf, keyOf}
+use Rattle.searching.specs.declared.approximation.Approximation.{Approximation}
 use Rattle.finding.specs.Find.{pitchSearchOf}
 
 -- ---- by a given ratio

@@ -17,7 +17,7 @@ use Rattle.kbm.specs.declared.Kbm.{Kbm}
 use Rattle.kbm.specs.declared.KbmRoot.{KbmRoot}
 use Rattle.relative.specs.Relative.{relativePitchOf, sortedRelativePitchOf}
 use Rattle.relative.specs.Scales.{tested, isScale}
-use Rattle.rooted.specs.Pitches.{pitchOf, sortedPitchOf}
+use Rattle.relative.specs.Pitches.{pitchOf, sortedPitchOf}
 use Rattle.tuning.specs.Keys.{keyPitchOf, maybePitchOf, maybeDegreePitchOf}
 
 -- ---- relative pitches

@@ -1,11 +1,11 @@
 // Searches for C: the degree or key that comes nearest to a ratio or a pitch, over a scale's lent columns.
-use approximation::DegreeSearch;
-use approximation::KeySearch;
 use pitch::Pitch;
 use pitch::Ratio;
 use scl::Scl;
+use searching::approximation::DegreeSearch;
+use searching::approximation::KeySearch;
 ghost use mathlib.Core.Path.{_≡_};
-ghost use Rattle.approximation.specs.Answers.{saysDegreeSearch, saysKeySearch};
+ghost use Rattle.searching.specs.DegreeAnswers.{saysDegreeSearch, saysKeySearch};
 ghost use Rattle.scl.specs.Table.{itemTable};
 ghost use Rattle.sorted.specs.Lent.{listTable};
 ghost use Rattle.telbijan_answers.specs.Interface.{result, kept, fieldOf};

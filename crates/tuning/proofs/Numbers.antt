@@ -21,9 +21,8 @@ use Rattle.kbm.specs.declared.Kbm.{Kbm}
 use Rattle.kbm.specs.declared.KbmRoot.{KbmRoot}
 use Rattle.kbm.proofs.Language.{has}
 use Rattle.relative.specs.Scales.{tested, isScale}
-use Rattle.relative.proofs.Numbers.{tested-numbered, held-numbered}
-use Rattle.rooted.specs.Pitches.{pitchOf, sortedPitchOf}
-use Rattle.rooted.proofs.Numbers.{pitch-numbered, sorted-pitch-numbered}
+use Rattle.relative.proofs.Numbers.{tested-numbered, held-numbered, pitch-numbered, sorted-pitch-numbered}
+use Rattle.relative.specs.Pitches.{pitchOf, sortedPitchOf}
 use Rattle.tuning.specs.Keys.{keyPitchOf, maybePitchOf, maybeDegreePitchOf}
 
 -- ---- the degree of a key

@@ -25,10 +25,9 @@ use Rattle.kbm.specs.declared.Kbm.{Kbm}
 use Rattle.kbm.specs.declared.KbmRoot.{KbmRoot}
 use Rattle.kbm.proofs.Language.{has}
 use Rattle.relative.specs.Scales.{tested, isScale}
-use Rattle.relative.proofs.Theorems.{sorted-refusals}
-use Rattle.rooted.specs.Pitches.{pitchOf, sortedPitchOf}
-use Rattle.rooted.specs.Refusals.{Pitched}
-use Rattle.rooted.proofs.Theorems.{pitch-refusals, sorted-pitch-refusals}
+use Rattle.relative.proofs.Theorems.{sorted-refusals, pitch-refusals, sorted-pitch-refusals}
+use Rattle.relative.specs.Pitches.{pitchOf, sortedPitchOf}
+use Rattle.relative.specs.RootedRefusals.{Pitched}
 use Rattle.tuning.specs.Keys.{keyPitchOf, maybePitchOf, maybeDegreePitchOf}
 use Rattle.tuning.specs.Refusals.{KeySounds}
 

@@ -11,7 +11,7 @@ use Rattle.kbm.specs.Degree.{degreeOf}
 use Rattle.kbm.specs.Table.{tableOf}
 use Rattle.kbm.specs.declared.Kbm.{Kbm}
 use Rattle.kbm.specs.declared.KbmRoot.{KbmRoot}
-use Rattle.rooted.specs.Pitches.{pitchOf}
+use Rattle.relative.specs.Pitches.{pitchOf}
 
 -- `ref_key.num_keys_before(key)` is the degree
 abbrev pub keyPitchOf : List Item → KbmRoot → PianoKey → Said Float

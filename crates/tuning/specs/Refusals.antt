@@ -6,7 +6,7 @@ use lib.Ieee.{Float}
 use Rattle.base.specs.Numbers.{overflow, key-out-of-range, unmapped-key}
 use Rattle.base.specs.Said.{Said, gives, refuses}
 use Rattle.kbm.specs.declared.KbmRoot.{KbmRoot}
-use Rattle.rooted.specs.Refusals.{Pitched}
+use Rattle.relative.specs.RootedRefusals.{Pitched}
 
 -- by the degree that a key has, or why it has none
 pub data KeySounds (root : KbmRoot) (degree : Said ℤ) (s : Said Float) : Type 0 where

@@ -19,7 +19,7 @@ ghost use Rattle.pitch.specs.Answers.{saysPitch};
 ghost use Rattle.sorted.specs.Lent.{listTable, listIn};
 ghost use Rattle.scl.specs.Table.{itemTable, itemsIn, isItems};
 ghost use Rattle.relative.specs.Scales.{tested, isScale};
-ghost use Rattle.rooted.specs.Pitches.{pitchOf, sortedPitchOf};
+ghost use Rattle.relative.specs.Pitches.{pitchOf, sortedPitchOf};
 ghost use Rattle.tuning.specs.Keys.{keyPitchOf, maybePitchOf, maybeDegreePitchOf};
 
 // Whether an item table and a root can be used.
@@ -75,7 +75,7 @@ pub fn pitch_of(
     let count = scl.count;
     let number = degree.0;
     if is_rooted(kind, cents, numer, denom, count, root) {
-        return rooted::degree_pitch(kind, cents, numer, denom, count, root, number);
+        return relative::rooted::degree_pitch(kind, cents, numer, denom, count, root, number);
     }
     PitchAnswer::Refused(scl::NOT_USABLE)
 }
@@ -98,7 +98,7 @@ pub fn pitch_of_key(
     if is_rooted(kind, cents, numer, denom, count, root) {
         return match reference.num_keys_before(key) {
             I32Answer::Is(degree) => {
-                rooted::degree_pitch(kind, cents, numer, denom, count, root, degree)
+                relative::rooted::degree_pitch(kind, cents, numer, denom, count, root, degree)
             }
             I32Answer::Refused(refusal) => PitchAnswer::Refused(refusal),
         };
@@ -125,7 +125,7 @@ pub fn sorted_pitch_of(
     let count = scl.count;
     let number = degree.0;
     if is_rooted_scale(kind, cents, numer, denom, place, ratio, wraps, count, root) {
-        return rooted::sorted_degree_pitch(
+        return relative::rooted::sorted_degree_pitch(
             kind,
             cents,
             numer,
@@ -159,7 +159,7 @@ fn key_pitch(
     let root = kbm.root;
     match kbm::degree_in(kbm, map, key) {
         DegreeAnswer::Is(degree) => {
-            rooted::degree_pitch(kind, cents, numer, denom, count, root, degree.0)
+            relative::rooted::degree_pitch(kind, cents, numer, denom, count, root, degree.0)
         }
         DegreeAnswer::Refused(refusal) => PitchAnswer::Refused(refusal),
     }

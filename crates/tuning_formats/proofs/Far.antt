@@ -29,7 +29,7 @@ use Rattle.relative.specs.Relative.{placeOf, relativePitchOf}
 use Rattle.relative.proofs.Back.{then-given, pick-given}
 use Rattle.relative.proofs.Ratios.{item-held}
 use Rattle.relative.proofs.Theorems.{relative-refusals}
-use Rattle.rooted.specs.Pitches.{rootDegree, rootPitch, above, pitchFrom, pitchOf}
+use Rattle.relative.specs.Pitches.{rootDegree, rootPitch, above, pitchFrom, pitchOf}
 use Rattle.tuning_formats.specs.Far.{timesOf, FarDegree, FarPitch}
 
 -- ---- a step that is tested

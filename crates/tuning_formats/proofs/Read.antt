@@ -41,9 +41,8 @@ use Rattle.kbm_read.specs.Reader.{afterRead}
 use Rattle.kbm_read.proofs.Tables.{leaves-meaning}
 use Rattle.relative.specs.Relative.{placeOf}
 use Rattle.relative.specs.Scales.{tested}
-use Rattle.relative.proofs.Theorems.{place-le}
-use Rattle.rooted.specs.Pitches.{pitchOf}
-use Rattle.rooted.proofs.Theorems.{offset-turned, pitch-refusals}
+use Rattle.relative.proofs.Theorems.{place-le, offset-turned, pitch-refusals}
+use Rattle.relative.specs.Pitches.{pitchOf}
 use Rattle.tuning.specs.Keys.{keyPitchOf, maybePitchOf, maybeDegreePitchOf}
 use Rattle.tuning.specs.Refusals.{KeySounds}
 use Rattle.tuning.proofs.Theorems.{key-sounds, maybe-pitch-of-degree-refused, maybe-pitch-of-degree-is}

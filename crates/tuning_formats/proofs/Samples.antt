@@ -13,7 +13,7 @@ use Rattle.explog.specs.Rules.{E, L, floorOf, timesPower, powerOf, logOf, logAt
 use Rattle.scl_tables.specs.Build.{sortedOf}
 use Rattle.relative.specs.Relative.{periodsOf, placeOf, relativePitchOf}
 use Rattle.searching.specs.Search.{chosenOf, nearestOf, searchOf}
-use Rattle.approximation.specs.Degrees.{declaredOf, ascendingOf}
+use Rattle.searching.specs.Degrees.{declaredOf, ascendingOf}
 use Rattle.tuning_formats.specs.Samples.{only, onlyList, twoF, threeF, threeAnswer, seventeenth, eighteenth, partedAnswer, repeated, repeatedList, repeatedAnswer, three, belowPitch}
 
 -- the lists are those of the scales

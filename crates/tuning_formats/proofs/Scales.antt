@@ -24,8 +24,7 @@ use Rattle.scl.specs.Items.{ratioOf, AllHeld}
 use Rattle.scl.specs.Table.{areUsable}
 use Rattle.scl.specs.declared.Item.{Item}
 use Rattle.scl_tables.specs.Build.{lastOf, sortedOf, afterList}
-use Rattle.scl_tables.proofs.Beyond.{Given, Fine, period-ratio}
-use Rattle.scl_tables.proofs.Beyond.{over as overridden}
+use Rattle.scl_tables.proofs.Beyond.{Given, Fine, period-ratio, over as overridden}
 use Rattle.scl_tables.proofs.Theorems.{list-leaves}
 use Rattle.relative.specs.Scales.{noEntry}
 use Rattle.searching.specs.Search.{searchOf}

@@ -45,8 +45,8 @@ use Rattle.relative.specs.Refusals.{ReachedOrBeyond}
 use Rattle.relative.specs.Scales.{tested, isScale}
 use Rattle.relative.proofs.Back.{pick-given, pick-other}
 use Rattle.relative.proofs.Places.{items-length}
-use Rattle.rooted.specs.Pitches.{pitchOf, sortedPitchOf}
-use Rattle.rooted.specs.Refusals.{Pitched, pitched, unturned}
+use Rattle.relative.specs.Pitches.{pitchOf, sortedPitchOf}
+use Rattle.relative.specs.RootedRefusals.{Pitched, pitched, unturned}
 use Rattle.tuning.specs.Keys.{keyPitchOf, maybePitchOf}
 use Rattle.tuning.specs.Refusals.{KeySounds}
 use Rattle.tuning.proofs.Theorems.{pitch-of-refusals, pitch-of-key-refusals, sorted-pitch-of-refusals, maybe-pitch-of-refusals}

@@ -17,7 +17,7 @@ use Rattle.scl.specs.declared.Item.{Item}
 use Rattle.scl_tables.specs.Build.{lastOf, countOf}
 use Rattle.kbm.specs.declared.KbmRoot.{KbmRoot}
 use Rattle.relative.specs.Relative.{periodsOf, placeOf, relativePitchOf}
-use Rattle.rooted.specs.Pitches.{rootDegree, rootPitch}
+use Rattle.relative.specs.Pitches.{rootDegree, rootPitch}
 
 -- so many periods, as an f64
 abbrev pub timesOf : List Item → ℤ → Float

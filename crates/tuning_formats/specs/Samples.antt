@@ -12,8 +12,8 @@ use Rattle.scl.specs.declared.Denom.the-variants.{Given}
 use Rattle.scl.specs.declared.Item.{Item}
 use Rattle.scl.specs.declared.Item.the-variants.{Fraction}
 use Rattle.scl_tables.specs.Build.{entry}
-use Rattle.approximation.specs.Degrees.{approximation}
-use Rattle.approximation.specs.declared.Approximation.{Approximation}
+use Rattle.searching.specs.Degrees.{approximation}
+use Rattle.searching.specs.declared.approximation.Approximation.{Approximation}
 
 -- place 0 and the item numer / 1
 abbrev pub only : ℕ → List Item

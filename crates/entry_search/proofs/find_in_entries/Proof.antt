@@ -56,8 +56,8 @@ use denote.Exit.{yes}
 use Rattle.scl.specs.Table.{ItemTable, itemTable}
 use Rattle.scl.specs.declared.Scl.{Scl}
 use Rattle.pitch.specs.declared.Ratio.{Ratio}
-use Rattle.approximation.specs.Answers.{saysDegreeSearch}
-use Rattle.approximation.specs.declared.DegreeSearch.{DegreeSearch}
+use Rattle.searching.specs.DegreeAnswers.{saysDegreeSearch}
+use Rattle.searching.specs.declared.approximation.DegreeSearch.{DegreeSearch}
 use Rattle.entries.specs.Entries.{noEntry}
 use Rattle.entries.specs.declared.SortedEntry.{SortedEntry}
 use Rattle.entry_search.specs.Scans.{Starts, Ready, placesOf, scanStep, scanned, answerOf}
@@ -67,8 +67,8 @@ use Rattle.scl.proofs.Scl as S
 use Rattle.scl.proofs.Scl.Laws as S′
 use Rattle.pitch.proofs.Ratio as R
 use Rattle.pitch.proofs.Ratio.Laws as R′
-use Rattle.approximation.proofs.DegreeSearch as E
-use Rattle.approximation.proofs.DegreeSearch.Laws as E′
+use Rattle.searching.proofs.DegreeSearch as E
+use Rattle.searching.proofs.DegreeSearch.Laws as E′
 use Rattle.entries.proofs.SortedEntry as T
 use Rattle.entries.proofs.SortedEntry.Laws as T′
 use Rattle.entry_search.proofs.Scan as F

@@ -3,7 +3,7 @@
 use mathlib.Core.Path.{_∙_, ap}
 use Rattle.base.specs.Said.{Said, andThen}
 use Rattle.searching.specs.declared.Found.{Found}
-use Rattle.approximation.specs.Degrees.{declaredOf, ascendingOf}
+use Rattle.searching.specs.Degrees.{declaredOf, ascendingOf}
 use Rattle.entry_search.proofs.Opened.{answer-unusable, answer-ascending, answer-declared}
 use borrow.Author.Needs.{needs}
 use Rattle.entry_search.proofs.finish.Statement.{statement}

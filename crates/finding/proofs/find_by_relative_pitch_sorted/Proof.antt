@@ -7,7 +7,7 @@ use Rattle.scl.specs.Table.{ItemTable, isItems, itemTable}
 use Rattle.scl.proofs.Table.{both}
 use Rattle.searching.specs.declared.Found.{Found}
 use Rattle.searching.proofs.Within.{search-reach}
-use Rattle.approximation.specs.Degrees.{ascendingOf}
+use Rattle.searching.specs.Degrees.{ascendingOf}
 use borrow.Author.Needs.{needs}
 use Rattle.finding.proofs.find_by_relative_pitch_sorted.Statement.{statement}
 use Rattle.finding.proofs.find_by_relative_pitch_sorted.Tie as tie

@@ -2,8 +2,8 @@
 -- Assumes nothing.
 use mathlib.Core.Path.{_∙_, ap}
 use Rattle.base.specs.Said.{Said, andThen}
-use Rattle.approximation.specs.Degrees.{keyOf}
-use Rattle.approximation.specs.declared.Approximation.{Approximation}
+use Rattle.searching.specs.Degrees.{keyOf}
+use Rattle.searching.specs.declared.approximation.Approximation.{Approximation}
 use borrow.Author.Needs.{needs}
 use Rattle.finding.proofs.find_key_by_pitch.Statement.{statement}
 use Rattle.finding.proofs.find_key_by_pitch.Tie as tie

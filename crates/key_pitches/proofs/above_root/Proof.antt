@@ -3,7 +3,7 @@
 use mathlib.Core.Path.{_∙_, ap, sym}
 use Rattle.pitch.specs.Answers.{saysPitch, saysRatio}
 use Rattle.pitch.specs.declared.PitchAnswer.{PitchAnswer}
-use Rattle.rooted.specs.Pitches.{above}
+use Rattle.relative.specs.Pitches.{above}
 use borrow.Author.Needs.{needs}
 use Rattle.key_pitches.proofs.above_root.Statement.{statement}
 use Rattle.key_pitches.proofs.above_root.Tie as tie

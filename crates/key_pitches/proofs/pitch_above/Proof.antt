@@ -11,7 +11,7 @@ use Rattle.scl.specs.Table.{ItemTable, itemTable, itemsIn}
 use Rattle.kbm.specs.Answers.{saysDegree}
 use Rattle.pitch.specs.Answers.{saysPitch}
 use Rattle.relative.specs.Relative.{relativePitchOf}
-use Rattle.rooted.specs.Pitches.{above}
+use Rattle.relative.specs.Pitches.{above}
 use borrow.Author.Needs.{needs}
 use Rattle.key_pitches.proofs.pitch_above.Statement.{statement}
 use Rattle.key_pitches.proofs.pitch_above.Tie as tie

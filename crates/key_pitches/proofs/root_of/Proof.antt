@@ -9,7 +9,7 @@ use Rattle.base.specs.Said.{Said}
 use Rattle.base.proofs.Said.{and-then}
 use Rattle.integer_math.specs.Answers.{saysI32}
 use Rattle.scl.specs.Table.{ItemTable, itemTable, itemsIn}
-use Rattle.rooted.specs.Pitches.{rootPitch}
+use Rattle.relative.specs.Pitches.{rootPitch}
 use borrow.Author.Needs.{needs}
 use Rattle.key_pitches.proofs.root_of.Statement.{statement}
 use Rattle.key_pitches.proofs.root_of.Tie as tie

@@ -6,7 +6,7 @@ use mir.Syntax.{w32}
 use Rattle.base.proofs.Said.{and-then}
 use Rattle.scl.specs.Table.{ItemTable, itemTable, itemsIn}
 use Rattle.kbm.specs.Answers.{saysDegree}
-use Rattle.rooted.specs.Pitches.{pitchOf}
+use Rattle.relative.specs.Pitches.{pitchOf}
 use borrow.Author.Needs.{needs}
 use Rattle.tuning.proofs.key_pitch.Statement.{statement}
 use Rattle.tuning.proofs.key_pitch.Tie as tie

@@ -8,7 +8,7 @@ use Rattle.integer_math.specs.Answers.{saysI32}
 use Rattle.scl.specs.Table.{ItemTable, isItems, itemTable, itemsIn}
 use Rattle.scl.proofs.Table.{both}
 use Rattle.kbm.specs.Root.{isRoot}
-use Rattle.rooted.specs.Pitches.{pitchOf}
+use Rattle.relative.specs.Pitches.{pitchOf}
 use borrow.Author.Needs.{needs}
 use Rattle.tuning.proofs.pitch_of_key.Statement.{statement}
 use Rattle.tuning.proofs.pitch_of_key.Tie as tie

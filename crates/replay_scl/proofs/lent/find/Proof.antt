@@ -48,7 +48,7 @@ use denote.Triple.Walked.{Stays, stay-dropped, walkOf, goes-dropped, Walks, ends
 use denote.Exit.{yes}
 use Rattle.scl.specs.declared.Scl.{Scl}
 use Rattle.pitch.specs.declared.Ratio.{Ratio}
-use Rattle.approximation.specs.declared.DegreeSearch.{DegreeSearch}
+use Rattle.searching.specs.declared.approximation.DegreeSearch.{DegreeSearch}
 use Rattle.entries.specs.declared.SortedEntry.{SortedEntry}
 use Rattle.entries.proofs.Again.{ref, Shown, row-shown, row-hidden}
 use Rattle.replay_scl.proofs.Arrays.{Entries, lowered, elems-out, elems-in, trails}
@@ -56,8 +56,8 @@ use Rattle.scl.proofs.Scl as S
 use Rattle.scl.proofs.Scl.Laws as S′
 use Rattle.pitch.proofs.Ratio as R
 use Rattle.pitch.proofs.Ratio.Laws as R′
-use Rattle.approximation.proofs.DegreeSearch as E
-use Rattle.approximation.proofs.DegreeSearch.Laws as E′
+use Rattle.searching.proofs.DegreeSearch as E
+use Rattle.searching.proofs.DegreeSearch.Laws as E′
 use Rattle.entries.proofs.SortedEntry as T
 use Rattle.entries.proofs.SortedEntry.Laws as T′
 use Rattle.entry_search.proofs.find_in_entries as g

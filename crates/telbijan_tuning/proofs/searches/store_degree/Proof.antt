@@ -4,7 +4,7 @@ use borrow.Author.Needs.{needs}
 use denote.Ref.{now}
 use mir.Facts.{toZ-ofZ}
 use mir.Syntax.{w32}
-use Rattle.approximation.specs.Answers.{saysDegreeSearch}
+use Rattle.searching.specs.DegreeAnswers.{saysDegreeSearch}
 use Rattle.telbijan_answers.proofs.Interface.{accepted, refused, stays-part, stored-part}
 use Rattle.telbijan_tuning.proofs.searches.store_degree.Statement.{statement}
 use Rattle.telbijan_tuning.proofs.searches.store_degree.Tie as tie

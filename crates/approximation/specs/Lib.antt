@@ -1,2 +1,0 @@
-pub mod Degrees
-pub mod Answers

@@ -1,2 +1,0 @@
-pub mod Pitches
-pub mod Refusals
