@@ -190,7 +190,7 @@ fn plan(segment_type: SegmentType, start: u16, size: u16, divisions: Divisions) 
 
 // The scale of a segment of the harmonic series, whole or in so many divisions, its items and their sorted list in the lent columns:
 // 10 for a start of 0, 12 where the items and place 0 have no room, 18 for 0 divisions or two or more items with the period 1.0. That
-// there is no other cause, no step leaving E's domain, is proved in the crate `equal_steps`.
+// there is no other cause, no step leaving E's domain, is proved in the crate `promises`.
 pub fn create_harmonics_scale(
     segment_type: SegmentType,
     segment_start: u16,

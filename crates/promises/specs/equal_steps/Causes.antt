@@ -1,0 +1,37 @@
+-- Why `create_harmonics_scale` refuses: "Generators know their item count and test 13, 10, 12 in that order, then give 18 where it
+-- arises (zero divisions do); segment start 0 gives 10" (document 01, "Scales and searches"). That it refuses for no other cause is
+-- proofs/equal_steps/Theorems.antt. Assumes nothing.
+use mathlib.Core.Path.{_≡_}
+use mathlib.Core.Logic.{_⊎_}
+use mathlib.Core.List.{_∷_}
+use Prim.Native.Nat.{ℕ, _≤_, _<_}
+use Rattle.base.specs.Said.{gives, andThen}
+use Rattle.floats.specs.Floats.{oneF}
+use Rattle.sorted.specs.Lent.{ListTable}
+use Rattle.scl.specs.Items.{ratioOf}
+use Rattle.scl.specs.Table.{ItemTable, implicit}
+use Rattle.scl_tables.specs.Build.{lastOf}
+use Rattle.scl_tables.specs.Room.{roomOf}
+use Rattle.segment.specs.Segment.{segmentCount}
+use Rattle.segment.specs.declared.Divisions.{Divisions}
+use Rattle.segment.specs.declared.Divisions.the-variants.{Into}
+use Rattle.segment.specs.declared.SegmentType.{SegmentType}
+use Rattle.harmonics.specs.Harmonics.{harmonicsOf}
+
+-- the tests before 18 pass; 13 never arises, the count being a u16
+pub record Tested (t : ItemTable) (l : ListTable) (start size : ℕ) (divisions : Divisions) : Type 0 where
+  pub some : 0 < start
+  pub room : segmentCount size divisions < roomOf t l
+
+-- "zero divisions do"
+abbrev pub NoDivisions : Divisions → Type 0
+NoDivisions divisions = divisions ≡ Into 0
+
+-- two or more items, and the period of the scale, the ratio of its last item, is 1.0
+abbrev pub PeriodOne : SegmentType → ℕ → ℕ → Divisions → Type 0
+PeriodOne type start size divisions =
+    (2 ≤ segmentCount size divisions) × (andThen (harmonicsOf type start size divisions) (λ is. ratioOf (lastOf (implicit ∷ is))) ≡ gives oneF)
+
+-- the causes of 18
+abbrev pub Beyond : SegmentType → ℕ → ℕ → Divisions → Type 0
+Beyond type start size divisions = NoDivisions divisions ⊎ PeriodOne type start size divisions

@@ -1,0 +1,2 @@
+-- The starred samples of document 01: one table in specs/samples/Samples.antt, one theorem in proofs/samples/Starred.antt.
+pub mod Samples

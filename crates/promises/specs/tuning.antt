@@ -1,0 +1,3 @@
+-- Tunings of scales that were built or read, and of mappings that were read: what the calls on them come to.
+pub mod Samples
+pub mod Far

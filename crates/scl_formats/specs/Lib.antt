@@ -1,4 +1,0 @@
-pub mod Again
-pub mod Samples
-pub mod Agree
-pub mod Limits

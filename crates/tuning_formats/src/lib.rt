@@ -1,1 +1,0 @@
-// Tunings of scales that were built or read, and of mappings that were read: what the calls on them come to. Theorems alone.
