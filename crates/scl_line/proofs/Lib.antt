@@ -1,2 +1,5 @@
+pub mod Finds
+pub mod TokenReads
+pub mod Language
 pub mod Takes
 pub mod Theorems

@@ -6,13 +6,13 @@ use borrow.Author.Tests.{lt-ltb, le-ltb, le-leb, lt-leb}
 use Rattle.base.specs.Numbers.{no-room}
 use Rattle.base.specs.Said.{gives, refuses}
 use Rattle.scl.specs.declared.Item.{Item}
-use Rattle.scl_item.specs.Tokens.{itemIn}
-use Rattle.scl_item.specs.declared.ItemRead.{ItemRead}
-use Rattle.scl_item.specs.declared.ItemRead.the-variants as item
 use Rattle.text.specs.ReadLine.{part, shown}
 use Rattle.text.specs.declared.line.LineSays.{LineSays}
 use Rattle.text.specs.declared.line.LineSays.the-variants.{Content}
+use Rattle.scl_line.specs.Tokens.{itemIn}
 use Rattle.scl_line.specs.Steps.{takeItem, takeDue, takeToken, takeMeaning, foundItem, foundIn}
+use Rattle.scl_line.specs.declared.item.ItemRead.{ItemRead}
+use Rattle.scl_line.specs.declared.item.ItemRead.the-variants as item
 use Rattle.scl_line.specs.declared.Found.the-variants as found
 use Rattle.scl_line.specs.declared.Due.{Due}
 use Rattle.scl_line.specs.declared.Due.the-variants as due

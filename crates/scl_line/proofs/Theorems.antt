@@ -7,8 +7,12 @@ use Rattle.base.proofs.Said.{One, Split, one-result, one-plain}
 use Rattle.text.specs.ReadLine.{shown}
 use Rattle.text.specs.declared.line.LineSays.{LineSays}
 use Rattle.scl_line.specs.Steps.{saysStep, takeMeaning, foundIn}
+use Rattle.scl_line.specs.Tokens.{itemIn}
 use Rattle.scl_line.specs.declared.State.{State}
 use Rattle.scl_line.specs.declared.Step.the-variants as step
+
+pub read-item-one : (token : List ℕ) → One (λ r. r) (itemIn token)
+read-item-one token = one-result (itemIn token)
 
 step-split : Split step.Is step.Refused
 step-split (step.Is s) = inl (s, refl)

@@ -8,10 +8,10 @@ use Rattle.base.specs.Numbers.{not-utf8, int-value, no-room}
 use Rattle.base.specs.Said.{Said, gives, refuses, refusal, pick, andThen}
 use Rattle.integers.specs.AtLine.{intAt}
 use Rattle.integers.specs.Integer.{readInt}
-use Rattle.scl_item.specs.Tokens.{itemIn}
-use Rattle.scl_item.specs.declared.ItemRead.{ItemRead}
-use Rattle.scl_item.specs.declared.ItemRead.the-variants as item
 use Rattle.text.specs.Reading.{Meaning, invalid, blank, comment, content}
+use Rattle.scl_line.specs.Tokens.{itemIn}
+use Rattle.scl_line.specs.declared.item.ItemRead.{ItemRead}
+use Rattle.scl_line.specs.declared.item.ItemRead.the-variants as item
 use Rattle.scl_line.specs.declared.Found.{Found}
 use Rattle.scl_line.specs.declared.Found.the-variants as found
 use Rattle.scl_line.specs.declared.Due.{Due}

@@ -1,10 +1,12 @@
 // What one line of a scale file adds to what was said. Document 01, "Lines" and "Scale".
+pub mod item;
+
+use crate::item::ItemRead;
+use crate::item::read_item;
 use base::Refusal;
 use integers::U16;
 use integers::read_u16;
 use scl::Item;
-use scl_item::ItemRead;
-use scl_item::read_item;
 use text::line::LineSays;
 ghost use mathlib.Core.Path.{_≡_};
 ghost use Rattle.base.specs.Said.{refuses};

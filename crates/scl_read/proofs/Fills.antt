@@ -13,9 +13,9 @@ use Rattle.scl.proofs.Table.{Roomy, first}
 use Rattle.scl.proofs.Writing.{first-written}
 use Rattle.scl.specs.Table.{ItemTable, itemsOf, implicit, writtenAt}
 use Rattle.scl.specs.declared.Item.{Item}
-use Rattle.scl_item.specs.Tokens.{itemIn}
-use Rattle.scl_item.specs.declared.ItemRead.{ItemRead}
-use Rattle.scl_item.specs.declared.ItemRead.the-variants as item
+use Rattle.scl_line.specs.Tokens.{itemIn}
+use Rattle.scl_line.specs.declared.item.ItemRead.{ItemRead}
+use Rattle.scl_line.specs.declared.item.ItemRead.the-variants as item
 use Rattle.text.specs.Reading.{Meaning, invalid, blank, comment, content}
 use Rattle.scl_read.specs.Reader.{foundItem, foundIn, listed, givenFrom, written}
 use Rattle.scl_line.specs.declared.Found.{Found}

@@ -19,9 +19,9 @@ use Rattle.scl.specs.Items.{isUsable}
 use Rattle.scl.specs.declared.Denom.the-variants.{Given, Lacking}
 use Rattle.scl.specs.declared.Item.{Item}
 use Rattle.scl.specs.declared.Item.the-variants.{Cents, Fraction}
-use Rattle.scl_item.specs.Tokens.{placeOf, usableItem, centsIn, overDenom, fractionIn, wholeIn, slashedIn, itemIn}
-use Rattle.scl_item.specs.declared.ItemRead.{ItemRead}
-use Rattle.scl_item.specs.declared.ItemRead.the-variants.{Is, IsNot}
+use Rattle.scl_line.specs.Tokens.{placeOf, usableItem, centsIn, overDenom, fractionIn, wholeIn, slashedIn, itemIn}
+use Rattle.scl_line.specs.declared.item.ItemRead.{ItemRead}
+use Rattle.scl_line.specs.declared.item.ItemRead.the-variants.{Is, IsNot}
 use Rattle.scl_tables.specs.Build.{isBeyond}
 use Rattle.text.specs.ReadLine.{saidIn}
 use Rattle.text.specs.Reading.{Meaning, invalid, blank, comment, content}

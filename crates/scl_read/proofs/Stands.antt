@@ -22,11 +22,11 @@ use Rattle.listing.proofs.Language.{atStart}
 use Rattle.listing.proofs.Walks.{Reads, Place, placed, wordOn, stepOn, endOn, walkOn}
 use Rattle.scl.specs.Table.{noItem, implicit}
 use Rattle.scl.specs.declared.Item.{Item}
-use Rattle.scl_item.proofs.Language.{is-item, item-is, is-no-item, no-item-is}
-use Rattle.scl_item.specs.ItemText.{ItemText, NoItem}
-use Rattle.scl_item.specs.Tokens.{itemIn, itemAt}
-use Rattle.scl_item.specs.declared.ItemRead.{ItemRead}
-use Rattle.scl_item.specs.declared.ItemRead.the-variants as item
+use Rattle.scl_line.proofs.Language.{is-item, item-is, is-no-item, no-item-is}
+use Rattle.scl_line.specs.ItemText.{ItemText, NoItem}
+use Rattle.scl_line.specs.Tokens.{itemIn, itemAt}
+use Rattle.scl_line.specs.declared.item.ItemRead.{ItemRead}
+use Rattle.scl_line.specs.declared.item.ItemRead.the-variants as item
 use Rattle.scl_tables.specs.Build.{lastOf, isBeyond}
 use Rattle.text.specs.Reading.{Meaning, invalid, blank, comment, content}
 use Rattle.scl_read.specs.Language.{Required, required, Line, Value, Gives, Wrong, scale}

@@ -17,11 +17,11 @@ use Rattle.listing.specs.Reader.{givenAfter}
 use Rattle.scl.specs.Items.{isUsable, Held, AllHeld}
 use Rattle.scl.specs.Table.{implicit, areUsable}
 use Rattle.scl.specs.declared.Item.{Item}
-use Rattle.scl_item.proofs.Language.{is-item}
-use Rattle.scl_item.specs.ItemText.{ItemText}
-use Rattle.scl_item.specs.Tokens.{itemIn}
-use Rattle.scl_item.specs.declared.ItemRead.{ItemRead}
-use Rattle.scl_item.specs.declared.ItemRead.the-variants as item
+use Rattle.scl_line.proofs.Language.{is-item}
+use Rattle.scl_line.specs.ItemText.{ItemText}
+use Rattle.scl_line.specs.Tokens.{itemIn}
+use Rattle.scl_line.specs.declared.item.ItemRead.{ItemRead}
+use Rattle.scl_line.specs.declared.item.ItemRead.the-variants as item
 use Rattle.text.specs.Reading.{Meaning, invalid, blank, comment, content}
 use Rattle.scl_read.specs.Reader.{saysStep, itemPlaced, takeCount, takeDue, takeToken, takeMeaning, listed, givenFrom}
 use Rattle.scl_line.specs.declared.Due.{Due}

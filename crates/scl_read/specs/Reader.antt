@@ -8,9 +8,9 @@ use Rattle.base.specs.Said.{Said, gives, refuses, refusal, pick, andThen}
 use Rattle.listing.specs.Reader.{walkLines, givenAfter}
 use Rattle.scl.specs.Table.{ItemTable, implicit, writtenAt}
 use Rattle.scl.specs.declared.Item.{Item}
-use Rattle.scl_item.specs.Tokens.{itemIn}
-use Rattle.scl_item.specs.declared.ItemRead.{ItemRead}
-use Rattle.scl_item.specs.declared.ItemRead.the-variants as item
+use Rattle.scl_line.specs.Tokens.{itemIn}
+use Rattle.scl_line.specs.declared.item.ItemRead.{ItemRead}
+use Rattle.scl_line.specs.declared.item.ItemRead.the-variants as item
 use Rattle.scl_tables.specs.Build.{sortedOf, isBeyond, afterList}
 use Rattle.scl_tables.specs.Room.{roomOf}
 use Rattle.sorted.specs.Lent.{ListTable}

@@ -4,9 +4,9 @@ use mathlib.Core.Path.{sym, _∙_}
 use native.Mathlib.Omega.{arith}
 use denote.Ref.{now}
 use lib.Seq.{length-take-le}
-use Rattle.scl_item.proofs.Takes.{no-numer, over-denom}
-use Rattle.scl_item.proofs.read_fraction.Statement.{statement}
-use Rattle.scl_item.proofs.read_fraction.Tie as tie
+use Rattle.scl_line.proofs.TokenReads.{no-numer, over-denom}
+use Rattle.scl_line.proofs.item.read_fraction.Statement.{statement}
+use Rattle.scl_line.proofs.item.read_fraction.Tie as tie
 
 slice-aggregate-read-u32 : tie.Need-slice-aggregate-read-u32
 slice-aggregate-read-u32 c = sym (length-take-le (c .before .before .args .at) (now (c .before .before .args .token)) (omega (arith, c .before .before .pre)))

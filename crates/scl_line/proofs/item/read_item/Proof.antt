@@ -1,9 +1,9 @@
 -- `read_item` meets its contract: cents where there is a dot, a fraction where there is a slash, else an integer. No loop.
 use borrow.Author.Needs.{needs}
 use mathlib.Core.Path.{_∙_}
-use Rattle.scl_item.proofs.Takes.{takes-cents, takes-fraction, takes-whole}
-use Rattle.scl_item.proofs.read_item.Statement.{statement}
-use Rattle.scl_item.proofs.read_item.Tie as tie
+use Rattle.scl_line.proofs.TokenReads.{takes-cents, takes-fraction, takes-whole}
+use Rattle.scl_line.proofs.item.read_item.Statement.{statement}
+use Rattle.scl_line.proofs.item.read_item.Tie as tie
 
 find-requires : tie.Need-find-requires
 find-requires c κs = search needs

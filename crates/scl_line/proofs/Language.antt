@@ -29,11 +29,11 @@ use Rattle.scl.specs.declared.Denom.{Denom}
 use Rattle.scl.specs.declared.Denom.the-variants.{Given, Lacking}
 use Rattle.scl.specs.declared.Item.{Item}
 use Rattle.scl.specs.declared.Item.the-variants.{Cents, Fraction}
-use Rattle.scl_item.specs.ItemText.{Has, Free, U32Text, Split, ItemText, NoItem}
-use Rattle.scl_item.specs.Tokens.{placeOf, usableItem, centsIn, overDenom, fractionIn, wholeIn, slashedIn, itemIn}
-use Rattle.scl_item.specs.declared.ItemRead.{ItemRead}
-use Rattle.scl_item.specs.declared.ItemRead.the-variants.{Is, IsNot}
-use Rattle.scl_item.proofs.Finds.{place-parts, place-free, free-place, parts-place, has-place}
+use Rattle.scl_line.specs.ItemText.{Has, Free, U32Text, Split, ItemText, NoItem}
+use Rattle.scl_line.specs.Tokens.{placeOf, usableItem, centsIn, overDenom, fractionIn, wholeIn, slashedIn, itemIn}
+use Rattle.scl_line.specs.declared.item.ItemRead.{ItemRead}
+use Rattle.scl_line.specs.declared.item.ItemRead.the-variants.{Is, IsNot}
+use Rattle.scl_line.proofs.Finds.{place-parts, place-free, free-place, parts-place, has-place}
 
 -- what is read of a token: the item that it is, or its number
 abbrev Holds : List ℕ → ItemRead → Type 0

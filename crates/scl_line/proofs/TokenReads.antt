@@ -15,9 +15,9 @@ use Rattle.integers.specs.declared.U32.{U32}
 use Rattle.integers.specs.declared.U32.the-variants as u32
 use Rattle.scl.specs.Items.{isUsable}
 use Rattle.scl.specs.declared.Item.{Item}
-use Rattle.scl_item.specs.Tokens.{placeOf, usableItem, centsIn, overDenom, fractionIn, wholeIn, itemIn}
-use Rattle.scl_item.specs.declared.ItemRead.{ItemRead}
-use Rattle.scl_item.specs.declared.ItemRead.the-variants.{Is, IsNot}
+use Rattle.scl_line.specs.Tokens.{placeOf, usableItem, centsIn, overDenom, fractionIn, wholeIn, itemIn}
+use Rattle.scl_line.specs.declared.item.ItemRead.{ItemRead}
+use Rattle.scl_line.specs.declared.item.ItemRead.the-variants.{Is, IsNot}
 
 -- an item that can be used, and one that cannot
 module _ (item : Item) {r : Bool} (e : r ≡ isUsable item) where

@@ -1,9 +1,9 @@
 -- `read_cents` meets its contract: a decimal that can be used, or its number. No loop.
 use borrow.Author.Needs.{needs}
 use mathlib.Core.Path.{sym, _∙_, ap}
-use Rattle.scl_item.specs.Tokens.{centsIn}
-use Rattle.scl_item.proofs.read_cents.Statement.{statement}
-use Rattle.scl_item.proofs.read_cents.Tie as tie
+use Rattle.scl_line.specs.Tokens.{centsIn}
+use Rattle.scl_line.proofs.item.read_cents.Statement.{statement}
+use Rattle.scl_line.proofs.item.read_cents.Tie as tie
 
 read-decimal-requires : tie.Need-read-decimal-requires
 read-decimal-requires c κs = search needs

@@ -1,8 +1,8 @@
 -- `usable` meets its contract. No loop.
 use borrow.Author.Needs.{needs}
-use Rattle.scl_item.proofs.Takes.{usable-is, usable-not}
-use Rattle.scl_item.proofs.usable.Statement.{statement}
-use Rattle.scl_item.proofs.usable.Tie as tie
+use Rattle.scl_line.proofs.TokenReads.{usable-is, usable-not}
+use Rattle.scl_line.proofs.item.usable.Statement.{statement}
+use Rattle.scl_line.proofs.item.usable.Tie as tie
 
 is-usable-requires : tie.Need-is-usable-requires
 is-usable-requires c κs = search needs

@@ -2,9 +2,9 @@
 use Prim.Native.Nat.{_≤_, _-_}
 use native.Mathlib.Omega.{arith}
 use lib.ListN.{length}
-use Rattle.scl_item.proofs.Finds.{Along, find-here, find-on, find-none}
-use Rattle.scl_item.proofs.find.Statement.{statement}
-use Rattle.scl_item.proofs.find.Tie as tie
+use Rattle.scl_line.proofs.Finds.{Along, find-here, find-on, find-none}
+use Rattle.scl_line.proofs.item.find.Statement.{statement}
+use Rattle.scl_line.proofs.item.find.Tie as tie
 
 abbrev Inv-loop : tie.InvT-loop
 Inv-loop s byte i₀ i = (i ≤ length s) × Along byte s i

@@ -12,7 +12,7 @@ ghost use Prim.Native.Nat.{_+_, _^_, _<_};
 ghost use lib.ListN.{length, take, drop};
 ghost use Rattle.decimals.specs.DecimalScan.{readDecimal};
 ghost use Rattle.integers.specs.Integer.{readInt};
-ghost use Rattle.scl_item.specs.Tokens.{placeOf, usableItem, centsIn, fractionIn, wholeIn, itemIn};
+ghost use Rattle.scl_line.specs.Tokens.{placeOf, usableItem, centsIn, fractionIn, wholeIn, itemIn};
 
 // The item that a token is, or the number that it draws.
 pub enum ItemRead {

@@ -16,8 +16,8 @@ use Rattle.scl.specs.Items.{isUsable}
 use Rattle.scl.specs.declared.Denom.the-variants.{Given, Lacking}
 use Rattle.scl.specs.declared.Item.{Item}
 use Rattle.scl.specs.declared.Item.the-variants.{Cents, Fraction}
-use Rattle.scl_item.specs.declared.ItemRead.{ItemRead}
-use Rattle.scl_item.specs.declared.ItemRead.the-variants.{Is, IsNot}
+use Rattle.scl_line.specs.declared.item.ItemRead.{ItemRead}
+use Rattle.scl_line.specs.declared.item.ItemRead.the-variants.{Is, IsNot}
 
 -- where a byte first stands; the length where it does not
 unfoldable pub placeOf : ℕ → List ℕ → ℕ

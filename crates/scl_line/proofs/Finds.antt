@@ -11,8 +11,8 @@ use lib.Seq.{drop-cons}
 use borrow.Author.Tests.{eq-eqb, ne-eqb, eqb-true, eqb-false}
 use Rattle.base.specs.Said.{pick}
 use Rattle.utf8.specs.Characters.{Each}
-use Rattle.scl_item.specs.ItemText.{Has, Free}
-use Rattle.scl_item.specs.Tokens.{placeOf}
+use Rattle.scl_line.specs.ItemText.{Has, Free}
+use Rattle.scl_line.specs.Tokens.{placeOf}
 
 -- the place is i bytes on, and then the place from there
 abbrev pub Along : ℕ → List ℕ → ℕ → Type 0

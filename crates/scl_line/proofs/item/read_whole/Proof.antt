@@ -2,9 +2,9 @@
 use borrow.Author.Needs.{needs}
 use mathlib.Core.Path.{sym, _∙_, ap}
 use Rattle.integers.specs.Integer.{u32Of}
-use Rattle.scl_item.specs.Tokens.{wholeIn}
-use Rattle.scl_item.proofs.read_whole.Statement.{statement}
-use Rattle.scl_item.proofs.read_whole.Tie as tie
+use Rattle.scl_line.specs.Tokens.{wholeIn}
+use Rattle.scl_line.proofs.item.read_whole.Statement.{statement}
+use Rattle.scl_line.proofs.item.read_whole.Tie as tie
 
 read-u32-requires : tie.Need-read-u32-requires
 read-u32-requires c κs = search needs

@@ -1,4 +1,0 @@
-pub mod Finds
-pub mod Takes
-pub mod Language
-pub mod Theorems

@@ -1,2 +1,0 @@
-pub mod ItemText
-pub mod Tokens
