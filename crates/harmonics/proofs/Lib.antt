@@ -1,3 +1,7 @@
+pub mod Casts
+pub mod Fractions
+pub mod NearHarmonics
+pub mod SegmentTheorems
 pub mod Pushes
 pub mod Sizes
 pub mod Reaches

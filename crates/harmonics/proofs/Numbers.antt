@@ -8,15 +8,15 @@ use Rattle.base.proofs.Said.{numbered-pick, numbered-then}
 use Rattle.pitch.proofs.Numbers.{given-numbered, as-octaves-numbered, from-octaves-numbered}
 use Rattle.sorted.specs.Lent.{ListTable}
 use Rattle.scl.specs.Table.{ItemTable}
-use Rattle.segment.specs.Segment.{float, intervalOf, fractionAt, stepsOf, segmentCount}
-use Rattle.segment.specs.declared.Divisions.{Divisions}
-use Rattle.segment.specs.declared.Divisions.the-variants.{Into, Lacking}
-use Rattle.segment.specs.declared.SegmentType.{SegmentType}
-use Rattle.segment.specs.declared.Steps.{Steps}
-use Rattle.segment.specs.declared.Steps.the-variants.{Whole, Equal}
 use Rattle.generate.specs.Generated.{countedOf}
 use Rattle.generate.proofs.Numbers.{made-numbered, counted-numbered, items-numbered}
+use Rattle.harmonics.specs.Segment.{float, intervalOf, fractionAt, stepsOf, segmentCount}
 use Rattle.harmonics.specs.Harmonics.{asItem, itemAt, madeHarmonics}
+use Rattle.harmonics.specs.declared.segment.Divisions.{Divisions}
+use Rattle.harmonics.specs.declared.segment.Divisions.the-variants.{Into, Lacking}
+use Rattle.harmonics.specs.declared.segment.SegmentType.{SegmentType}
+use Rattle.harmonics.specs.declared.segment.Steps.{Steps}
+use Rattle.harmonics.specs.declared.segment.Steps.the-variants.{Whole, Equal}
 
 fraction-numbered : (type : SegmentType) (start size : ℕ) (steps : Steps) (j : ℕ) → Numbered (fractionAt type start size steps j)
 fraction-numbered type start size Whole j = Numbered.value _

@@ -23,19 +23,19 @@ use Rattle.scl_tables.specs.Build.{lastOf, isBeyond, afterList}
 use Rattle.scl_tables.specs.Room.{roomOf}
 use Rattle.scl_tables.proofs.Beyond.{too-few}
 use Rattle.scl_build.specs.Builder.{counted}
-use Rattle.segment.specs.Segment.{float, intervalOf, fractionAt, stepsOf, segmentCount}
-use Rattle.segment.specs.declared.Divisions.{Divisions}
-use Rattle.segment.specs.declared.Divisions.the-variants.{Into, Lacking}
-use Rattle.segment.specs.declared.Fraction.{Fraction}
-use Rattle.segment.specs.declared.SegmentType.{SegmentType}
-use Rattle.segment.specs.declared.Steps.{Steps}
-use Rattle.segment.specs.declared.Steps.the-variants.{Whole, Equal}
 use Rattle.generate.specs.Generated.{runOf, listOf, madeOf, itemsFrom, countedOf, itemsLeft, listLeft}
 use Rattle.generate.proofs.Items.{Fine, All, all-items, none-of, last-of}
 use Rattle.generate.proofs.Made.{made-no-room, made-refused, made-beyond, made-given, all-refused, all-given}
 use Rattle.generate.proofs.Theorems.{listed, count-is}
+use Rattle.harmonics.specs.Segment.{float, intervalOf, fractionAt, stepsOf, segmentCount}
 use Rattle.harmonics.specs.Harmonics.{asItem, itemAt, harmonicsOf, madeHarmonics}
 use Rattle.harmonics.specs.Steps.{saidFrom, Reaches, looked, planned}
+use Rattle.harmonics.specs.declared.segment.Divisions.{Divisions}
+use Rattle.harmonics.specs.declared.segment.Divisions.the-variants.{Into, Lacking}
+use Rattle.harmonics.specs.declared.segment.Fraction.{Fraction}
+use Rattle.harmonics.specs.declared.segment.SegmentType.{SegmentType}
+use Rattle.harmonics.specs.declared.segment.Steps.{Steps}
+use Rattle.harmonics.specs.declared.segment.Steps.the-variants.{Whole, Equal}
 use Rattle.harmonics.proofs.Pushes.{said-all}
 use Rattle.harmonics.proofs.Reaches.{Ways, ways, power-held}
 

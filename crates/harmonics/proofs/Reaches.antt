@@ -23,15 +23,15 @@ use Rattle.explog.proofs.Reach.{sized-powers, powers-sized}
 use Rattle.pitch.specs.Ratios.{fromOctaves, repeated}
 use Rattle.scl.proofs.Items.{Ratio, octaves-ratio, powers-ratio}
 use Rattle.reduction.proofs.Reaches.{log-gives, octaves-sized}
-use Rattle.segment.specs.Segment.{float, nearAt, wholeAt, harmonicOf}
-use Rattle.segment.specs.declared.SegmentType.{SegmentType}
-use Rattle.segment.specs.declared.SegmentType.the-variants.{Otonal, Utonal}
-use Rattle.segment.specs.declared.Steps.{Steps}
-use Rattle.segment.specs.declared.Steps.the-variants.{Whole, Equal}
-use Rattle.segment.proofs.Harmonics.{harmonic-some, harmonic-below}
 use Rattle.generate.proofs.Items.{Fine}
+use Rattle.harmonics.specs.Segment.{float, nearAt, wholeAt, harmonicOf}
 use Rattle.harmonics.specs.Harmonics.{asItem, itemAt}
 use Rattle.harmonics.specs.Steps.{Reaches}
+use Rattle.harmonics.specs.declared.segment.SegmentType.{SegmentType}
+use Rattle.harmonics.specs.declared.segment.SegmentType.the-variants.{Otonal, Utonal}
+use Rattle.harmonics.specs.declared.segment.Steps.{Steps}
+use Rattle.harmonics.specs.declared.segment.Steps.the-variants.{Whole, Equal}
+use Rattle.harmonics.proofs.NearHarmonics.{harmonic-some, harmonic-below}
 use Rattle.harmonics.proofs.Sizes.{times, fewer-times}
 
 -- E refuses nothing in -900..900, and all else by 18

@@ -29,18 +29,18 @@ use Rattle.scl.specs.Table.{ItemTable}
 use Rattle.scl.specs.declared.Item.{Item}
 use Rattle.scl.proofs.Theorems.{scl-one}
 use Rattle.scl_tables.specs.Room.{roomOf}
-use Rattle.segment.specs.Segment.{float, intervalOf, stepsOf, segmentCount}
-use Rattle.segment.specs.declared.Divisions.the-variants.{Into}
-use Rattle.segment.specs.declared.Divisions.{Divisions}
-use Rattle.segment.specs.declared.SegmentType.{SegmentType}
-use Rattle.segment.specs.declared.Steps.{Steps}
-use Rattle.segment.specs.declared.Steps.the-variants.{Equal}
 use Rattle.generate.specs.Generated.{listOf, madeOf, itemsFrom, countedOf, itemsLeft, listLeft, Leaves}
 use Rattle.generate.proofs.Items.{All, all-items, none-of}
 use Rattle.generate.proofs.Made.{made-refused}
 use Rattle.generate.proofs.Theorems.{made-leaves}
+use Rattle.harmonics.specs.Segment.{float, intervalOf, stepsOf, segmentCount}
 use Rattle.harmonics.specs.Harmonics.{itemAt, harmonicsOf, madeHarmonics}
 use Rattle.harmonics.specs.Steps.{Reaches}
+use Rattle.harmonics.specs.declared.segment.Divisions.the-variants.{Into}
+use Rattle.harmonics.specs.declared.segment.Divisions.{Divisions}
+use Rattle.harmonics.specs.declared.segment.SegmentType.{SegmentType}
+use Rattle.harmonics.specs.declared.segment.Steps.{Steps}
+use Rattle.harmonics.specs.declared.segment.Steps.the-variants.{Equal}
 use Rattle.harmonics.proofs.Plans.{steps-reach}
 use Rattle.harmonics.proofs.Reaches.{Ways, ways}
 

@@ -11,12 +11,12 @@ use Rattle.scl.specs.Table.{ItemTable}
 use Rattle.scl.specs.declared.Denom.the-variants.{Given}
 use Rattle.scl.specs.declared.Item.{Item}
 use Rattle.scl.specs.declared.Item.the-variants as item
-use Rattle.segment.specs.Segment.{fractionAt, stepsOf, segmentCount}
-use Rattle.segment.specs.declared.Divisions.{Divisions}
-use Rattle.segment.specs.declared.Fraction.{Fraction}
-use Rattle.segment.specs.declared.SegmentType.{SegmentType}
-use Rattle.segment.specs.declared.Steps.{Steps}
 use Rattle.generate.specs.Generated.{itemsFrom, madeOf}
+use Rattle.harmonics.specs.Segment.{fractionAt, stepsOf, segmentCount}
+use Rattle.harmonics.specs.declared.segment.Divisions.{Divisions}
+use Rattle.harmonics.specs.declared.segment.Fraction.{Fraction}
+use Rattle.harmonics.specs.declared.segment.SegmentType.{SegmentType}
+use Rattle.harmonics.specs.declared.segment.Steps.{Steps}
 
 -- what `push_fraction` pushes
 abbrev pub asItem : Fraction → Item

@@ -1,2 +1,4 @@
+pub mod Segment
+pub mod Answers
 pub mod Harmonics
 pub mod Steps

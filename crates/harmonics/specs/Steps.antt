@@ -11,13 +11,13 @@ use Rattle.scl.specs.Table.{implicit}
 use Rattle.scl.specs.declared.Item.{Item}
 use Rattle.scl_tables.specs.Build.{lastOf, isBeyond}
 use Rattle.scl_build.specs.Builder.{Built, afterOne}
-use Rattle.segment.specs.Segment.{stepsOf, segmentCount}
-use Rattle.segment.specs.declared.Divisions.{Divisions}
-use Rattle.segment.specs.declared.SegmentType.{SegmentType}
-use Rattle.segment.specs.declared.Steps.{Steps}
-use Rattle.segment.specs.declared.Steps.the-variants.{Whole, Equal}
 use Rattle.generate.specs.Generated.{itemsFrom}
+use Rattle.harmonics.specs.Segment.{stepsOf, segmentCount}
 use Rattle.harmonics.specs.Harmonics.{itemAt}
+use Rattle.harmonics.specs.declared.segment.Divisions.{Divisions}
+use Rattle.harmonics.specs.declared.segment.SegmentType.{SegmentType}
+use Rattle.harmonics.specs.declared.segment.Steps.{Steps}
+use Rattle.harmonics.specs.declared.segment.Steps.the-variants.{Whole, Equal}
 
 -- the builder and its table after the push of what is said
 abbrev pub afterSaid : Built → Said Item → Built

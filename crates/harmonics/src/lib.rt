@@ -2,16 +2,18 @@
 //
 // The items are pushed into a builder beside the lent tables, as the Rust does it; the caller has the description. Whether 18 arises
 // is known from the last item, before anything is written. `create_harmonics_scale(Otonal, 9, 7, Lacking, ..)` is 10/9, .., 16/9.
+pub mod segment;
+
+use crate::segment::Divisions;
+use crate::segment::FractionAnswer;
+use crate::segment::SegmentType;
+use crate::segment::Steps;
+use crate::segment::StepsAnswer;
 use scl::Denom;
 use scl::Item;
 use scl::SclAnswer;
 use scl_build::SclBuilder;
 use scl_build::SclBuilderAnswer;
-use segment::Divisions;
-use segment::FractionAnswer;
-use segment::SegmentType;
-use segment::Steps;
-use segment::StepsAnswer;
 ghost use mathlib.Core.Path.{_≡_};
 ghost use Prim.Native.Nat.{_<_};
 ghost use Rattle.scl.specs.Answers.{saysScl};
@@ -21,8 +23,8 @@ ghost use Rattle.scl.specs.declared.Item.the-variants.{Fraction};
 ghost use Rattle.sorted.specs.Lent.{listTable};
 ghost use Rattle.scl_tables.specs.Build.{afterList};
 ghost use Rattle.scl_build.specs.Builder.{beside, afterOne, afterAll, counted};
-ghost use Rattle.segment.specs.Answers.{saysSteps};
 ghost use Rattle.generate.specs.Generated.{runOf, listOf, countedOf, itemsLeft, listLeft};
+ghost use Rattle.harmonics.specs.Answers.{saysSteps};
 ghost use Rattle.harmonics.specs.Harmonics.{itemAt, madeHarmonics};
 ghost use Rattle.harmonics.specs.Steps.{afterSaid, saidFrom, Reaches, looked, planned};
 
@@ -61,7 +63,7 @@ fn push_at(
     ensures { λ r. ⌜ beside r (itemTable (now (kind .exit)) (now (cents .exit)) (now (numer .exit)) (now (denom .exit)))
         ≡ afterSaid (beside state (itemTable (now (kind .entry)) (now (cents .entry)) (now (numer .entry)) (now (denom .entry)))) (itemAt «segment_type» start size steps j) ⌝ }
 {
-    match segment::fraction_at(segment_type, start, size, steps, j) {
+    match harmonics::segment::fraction_at(segment_type, start, size, steps, j) {
         FractionAnswer::Is(item) => pushed(
             state,
             kind,
@@ -157,7 +159,7 @@ fn look(segment_type: SegmentType, start: u16, size: u16, steps: Steps, n: u16) 
     if n == 0 {
         return StepsAnswer::Is(steps);
     }
-    match segment::fraction_at(segment_type, start, size, steps, n) {
+    match harmonics::segment::fraction_at(segment_type, start, size, steps, n) {
         FractionAnswer::Refused(refusal) => StepsAnswer::Refused(refusal),
         FractionAnswer::Is(item) => {
             let last = Item::Fraction(item.numer, Denom::Given(item.denom));
@@ -174,7 +176,7 @@ fn plan(segment_type: SegmentType, start: u16, size: u16, divisions: Divisions) 
     requires { ⌜ 0 < start ⌝ }
     ensures { λ r. ⌜ saysSteps r ≡ planned «segment_type» start size divisions ⌝ }
 {
-    match segment::steps_of(start, size, divisions) {
+    match harmonics::segment::steps_of(start, size, divisions) {
         StepsAnswer::Refused(refusal) => StepsAnswer::Refused(refusal),
         StepsAnswer::Is(steps) => {
             look(
@@ -182,7 +184,7 @@ fn plan(segment_type: SegmentType, start: u16, size: u16, divisions: Divisions) 
                 start,
                 size,
                 steps,
-                segment::count_of(size, divisions),
+                harmonics::segment::count_of(size, divisions),
             )
         }
     }
@@ -215,7 +217,7 @@ pub fn create_harmonics_scale(
     if segment_start == 0 {
         return SclAnswer::Refused(scl::NOT_USABLE);
     }
-    let n = segment::count_of(segment_size, neji_divisions);
+    let n = harmonics::segment::count_of(segment_size, neji_divisions);
     let room = scl_tables::room_of(kind, cents, numer, denom, place, ratio, wraps);
     if room <= (n as usize) {
         return SclAnswer::Refused(generate::NO_PLACE);

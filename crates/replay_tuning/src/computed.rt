@@ -2,9 +2,9 @@
 // GENERATOR UP DOWN PERIOD`. The answer is the count or a refusal, then what stands in every place of the columns.
 use frozen::given;
 use frozen::say;
+use harmonics::segment::Divisions;
+use harmonics::segment::SegmentType;
 use pitch::Ratio;
-use segment::Divisions;
-use segment::SegmentType;
 
 fn sort(line: &[u8]) -> SegmentType {
     if given::flag(line, 2) {

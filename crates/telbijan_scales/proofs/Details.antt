@@ -15,12 +15,12 @@ use Rattle.scl_build.specs.declared.SclBuilder.{SclBuilder}
 use Rattle.writing.specs.Fitted.{fitted, textLength}
 use Rattle.scl_write.specs.Export.{exportOf}
 use Rattle.generate.specs.Generated.{madeOf, countedOf, itemsFrom}
-use Rattle.segment.specs.Segment.{stepsOf}
-use Rattle.segment.specs.declared.Divisions as divisions
-use Rattle.segment.specs.declared.Divisions.the-variants as divided
-use Rattle.segment.specs.declared.SegmentType.{SegmentType}
-use Rattle.segment.specs.declared.Steps as segment
-use Rattle.segment.specs.declared.Steps.the-variants.{Whole, Equal}
+use Rattle.harmonics.specs.Segment.{stepsOf}
+use Rattle.harmonics.specs.declared.segment.Divisions as divisions
+use Rattle.harmonics.specs.declared.segment.Divisions.the-variants as divided
+use Rattle.harmonics.specs.declared.segment.SegmentType.{SegmentType}
+use Rattle.harmonics.specs.declared.segment.Steps as segment
+use Rattle.harmonics.specs.declared.segment.Steps.the-variants.{Whole, Equal}
 use Rattle.harmonics.specs.Harmonics.{itemAt, madeHarmonics}
 use Rattle.notes.specs.Notes.{ratiosFrom}
 use Rattle.rank2.specs.Rank2.{ascendingOf, pushedAs, madeRank2}

@@ -1,10 +1,10 @@
 -- What the interface for C says of a segment by numbers. Assumes nothing.
 use mathlib.Core.Bool.{Bool, true, false}
 use Prim.Native.Nat.{ℕ}
-use Rattle.segment.specs.declared.Divisions.{Divisions}
-use Rattle.segment.specs.declared.Divisions.the-variants.{Into, Lacking}
-use Rattle.segment.specs.declared.SegmentType.{SegmentType}
-use Rattle.segment.specs.declared.SegmentType.the-variants.{Otonal, Utonal}
+use Rattle.harmonics.specs.declared.segment.Divisions.{Divisions}
+use Rattle.harmonics.specs.declared.segment.Divisions.the-variants.{Into, Lacking}
+use Rattle.harmonics.specs.declared.segment.SegmentType.{SegmentType}
+use Rattle.harmonics.specs.declared.segment.SegmentType.the-variants.{Otonal, Utonal}
 
 abbrev pub segmentWith : Bool → SegmentType
 segmentWith true = Otonal

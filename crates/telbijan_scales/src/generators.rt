@@ -1,7 +1,7 @@
 // Scales that are computed, for C: segments of the harmonic series and rank-2 temperaments. They are written into a scale's seven lent columns.
+use harmonics::segment::Divisions;
+use harmonics::segment::SegmentType;
 use pitch::Ratio;
-use segment::Divisions;
-use segment::SegmentType;
 ghost use mathlib.Core.Path.{_≡_};
 ghost use Rattle.scl.specs.Table.{itemTable};
 ghost use Rattle.sorted.specs.Lent.{listTable};

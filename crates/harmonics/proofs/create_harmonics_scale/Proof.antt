@@ -8,13 +8,13 @@ use Rattle.scl.specs.Table.{itemTable}
 use Rattle.sorted.specs.Lent.{listTable}
 use Rattle.scl_tables.specs.Build.{afterList}
 use Rattle.scl_build.specs.Builder.{counted}
-use Rattle.segment.specs.Answers.{saysSteps}
 use Rattle.generate.specs.Generated.{runOf, listOf}
 use Rattle.generate.proofs.Made.{all-refused}
+use borrow.Author.Needs.{needs}
+use Rattle.harmonics.specs.Answers.{saysSteps}
 use Rattle.harmonics.specs.Harmonics.{itemAt}
 use Rattle.harmonics.specs.Steps.{saidFrom}
 use Rattle.harmonics.proofs.Plans.{none-start, no-place, plan-refused, plan-given}
-use borrow.Author.Needs.{needs}
 use Rattle.harmonics.proofs.create_harmonics_scale.Statement.{statement}
 use Rattle.harmonics.proofs.create_harmonics_scale.Tie as tie
 

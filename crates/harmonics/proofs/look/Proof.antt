@@ -5,9 +5,9 @@ use Prim.Native.Nat.{_<_, _^_}
 use native.Mathlib.Omega.{arith}
 use Rattle.base.specs.Said.{gives, refuses}
 use Rattle.reduction.proofs.Answered.{told}
-use Rattle.segment.specs.Answers.{saysFraction}
-use Rattle.harmonics.proofs.Plans.{look-none, look-refused, look-given, last-usable}
 use borrow.Author.Needs.{needs}
+use Rattle.harmonics.specs.Answers.{saysFraction}
+use Rattle.harmonics.proofs.Plans.{look-none, look-refused, look-given, last-usable}
 use Rattle.harmonics.proofs.look.Statement.{statement}
 use Rattle.harmonics.proofs.look.Tie as tie
 

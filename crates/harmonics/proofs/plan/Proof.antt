@@ -5,11 +5,11 @@ use Prim.Native.Nat.{ℕ}
 use Rattle.base.specs.Said.{gives}
 use Rattle.base.proofs.Said.{and-then}
 use Rattle.reduction.proofs.Answered.{told}
-use Rattle.segment.specs.Answers.{saysSteps}
-use Rattle.segment.specs.Segment.{segmentCount}
+use borrow.Author.Needs.{needs}
+use Rattle.harmonics.specs.Answers.{saysSteps}
+use Rattle.harmonics.specs.Segment.{segmentCount}
 use Rattle.harmonics.specs.Steps.{Reaches, looked}
 use Rattle.harmonics.proofs.Plans.{steps-reach}
-use borrow.Author.Needs.{needs}
 use Rattle.harmonics.proofs.plan.Statement.{statement}
 use Rattle.harmonics.proofs.plan.Tie as tie
 

@@ -6,10 +6,10 @@ use Rattle.base.proofs.Said.{and-then}
 use Rattle.scl.specs.Table.{itemTable}
 use Rattle.scl.specs.declared.Item.{Item}
 use Rattle.scl_build.specs.Builder.{beside}
-use Rattle.segment.specs.Answers.{saysFraction}
+use borrow.Author.Needs.{needs}
+use Rattle.harmonics.specs.Answers.{saysFraction}
 use Rattle.harmonics.specs.Harmonics.{asItem}
 use Rattle.harmonics.specs.Steps.{afterSaid}
-use borrow.Author.Needs.{needs}
 use Rattle.harmonics.proofs.push_at.Statement.{statement}
 use Rattle.harmonics.proofs.push_at.Tie as tie
 

@@ -30,9 +30,9 @@ use Rattle.pitch.specs.Given.{computed}
 use Rattle.pitch.specs.Ratios.{fromFloat, asOctaves, fromOctaves, dividedInto}
 use Rattle.scl.proofs.Items.{octaves-ratio}
 use Rattle.reduction.proofs.Reaches.{log-gives}
-use Rattle.segment.specs.Segment.{float, intervalOf, stepsOf}
-use Rattle.segment.specs.declared.Divisions.the-variants.{Into}
-use Rattle.segment.specs.declared.Steps.the-variants.{Equal}
+use Rattle.harmonics.specs.Segment.{float, intervalOf, stepsOf}
+use Rattle.harmonics.specs.declared.segment.Divisions.the-variants.{Into}
+use Rattle.harmonics.specs.declared.segment.Steps.the-variants.{Equal}
 use Rattle.harmonics.proofs.Sizes.{times}
 use Rattle.harmonics.proofs.Theorems.{sum-of}
 use Rattle.promises.proofs.equal_steps.Octaves.{Up, up-to, log-up, log-small}

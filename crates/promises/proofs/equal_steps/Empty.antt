@@ -31,12 +31,12 @@ use Rattle.scl.specs.Table.{ItemTable, implicit}
 use Rattle.scl.specs.declared.Item.{Item}
 use Rattle.scl_tables.specs.Build.{lastOf}
 use Rattle.scl_tables.specs.Room.{roomOf}
-use Rattle.segment.specs.Segment.{float, harmonicOf, fraction, nearAt, intervalOf}
-use Rattle.segment.specs.declared.Divisions.the-variants.{Into}
-use Rattle.segment.specs.declared.Fraction.{Fraction}
-use Rattle.segment.specs.declared.SegmentType.{SegmentType}
-use Rattle.segment.specs.declared.SegmentType.the-variants.{Otonal, Utonal}
-use Rattle.segment.specs.declared.Steps.the-variants.{Equal}
+use Rattle.harmonics.specs.Segment.{float, harmonicOf, fraction, nearAt, intervalOf}
+use Rattle.harmonics.specs.declared.segment.Divisions.the-variants.{Into}
+use Rattle.harmonics.specs.declared.segment.Fraction.{Fraction}
+use Rattle.harmonics.specs.declared.segment.SegmentType.{SegmentType}
+use Rattle.harmonics.specs.declared.segment.SegmentType.the-variants.{Otonal, Utonal}
+use Rattle.harmonics.specs.declared.segment.Steps.the-variants.{Equal}
 use Rattle.harmonics.specs.Harmonics.{asItem, itemAt, madeHarmonics}
 use Rattle.harmonics.proofs.Sizes.{times}
 use Rattle.harmonics.proofs.Theorems.{sum-of}

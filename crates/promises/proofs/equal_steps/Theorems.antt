@@ -25,12 +25,12 @@ use Rattle.scl.proofs.Items.{powers-ratio}
 use Rattle.reduction.proofs.Reaches.{log-gives}
 use Rattle.scl_tables.specs.Build.{lastOf}
 use Rattle.scl_tables.specs.Room.{roomOf}
-use Rattle.segment.specs.Segment.{float, nearAt, stepsOf, segmentCount}
-use Rattle.segment.specs.declared.Divisions.{Divisions}
-use Rattle.segment.specs.declared.Divisions.the-variants.{Into, Lacking}
-use Rattle.segment.specs.declared.SegmentType.{SegmentType}
-use Rattle.segment.specs.declared.Steps.{Steps}
-use Rattle.segment.specs.declared.Steps.the-variants.{Whole, Equal}
+use Rattle.harmonics.specs.Segment.{float, nearAt, stepsOf, segmentCount}
+use Rattle.harmonics.specs.declared.segment.Divisions.{Divisions}
+use Rattle.harmonics.specs.declared.segment.Divisions.the-variants.{Into, Lacking}
+use Rattle.harmonics.specs.declared.segment.SegmentType.{SegmentType}
+use Rattle.harmonics.specs.declared.segment.Steps.{Steps}
+use Rattle.harmonics.specs.declared.segment.Steps.the-variants.{Whole, Equal}
 use Rattle.generate.specs.Generated.{madeOf, itemsFrom, Leaves}
 use Rattle.generate.proofs.Items.{All, all-items, last-of}
 use Rattle.generate.proofs.Theorems.{beyond-when, accepted-or, made-leaves}

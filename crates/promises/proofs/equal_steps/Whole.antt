@@ -25,11 +25,11 @@ use Rattle.scl.specs.Items.{ratioOf}
 use Rattle.scl.specs.Table.{ItemTable, implicit}
 use Rattle.scl.specs.declared.Item.{Item}
 use Rattle.scl_tables.specs.Build.{lastOf}
-use Rattle.segment.specs.Segment.{float, wholeAt}
-use Rattle.segment.specs.declared.Divisions.the-variants.{Lacking}
-use Rattle.segment.specs.declared.SegmentType.{SegmentType}
-use Rattle.segment.specs.declared.SegmentType.the-variants.{Otonal, Utonal}
-use Rattle.segment.specs.declared.Steps.the-variants.{Whole}
+use Rattle.harmonics.specs.Segment.{float, wholeAt}
+use Rattle.harmonics.specs.declared.segment.Divisions.the-variants.{Lacking}
+use Rattle.harmonics.specs.declared.segment.SegmentType.{SegmentType}
+use Rattle.harmonics.specs.declared.segment.SegmentType.the-variants.{Otonal, Utonal}
+use Rattle.harmonics.specs.declared.segment.Steps.the-variants.{Whole}
 use Rattle.harmonics.specs.Harmonics.{asItem, madeHarmonics}
 use Rattle.promises.specs.equal_steps.Causes.{Beyond, PeriodOne}
 use Rattle.promises.proofs.equal_steps.Divided.{over}

@@ -6,13 +6,13 @@ use lib.Ieee.{Float, binary64, add, mul, div, neg, lt, ofInt, toUnsigned}
 use Rattle.base.specs.Said.{Said, gives, pick, andThen}
 use Rattle.floats.specs.Floats.{floor}
 use Rattle.pitch.specs.Ratios.{fromFloat, repeated, dividedInto}
-use Rattle.segment.specs.declared.Divisions.{Divisions}
-use Rattle.segment.specs.declared.Divisions.the-variants.{Into, Lacking}
-use Rattle.segment.specs.declared.Fraction.{Fraction}
-use Rattle.segment.specs.declared.SegmentType.{SegmentType}
-use Rattle.segment.specs.declared.SegmentType.the-variants.{Otonal, Utonal}
-use Rattle.segment.specs.declared.Steps.{Steps}
-use Rattle.segment.specs.declared.Steps.the-variants.{Whole, Equal}
+use Rattle.harmonics.specs.declared.segment.Divisions.{Divisions}
+use Rattle.harmonics.specs.declared.segment.Divisions.the-variants.{Into, Lacking}
+use Rattle.harmonics.specs.declared.segment.Fraction.{Fraction}
+use Rattle.harmonics.specs.declared.segment.SegmentType.{SegmentType}
+use Rattle.harmonics.specs.declared.segment.SegmentType.the-variants.{Otonal, Utonal}
+use Rattle.harmonics.specs.declared.segment.Steps.{Steps}
+use Rattle.harmonics.specs.declared.segment.Steps.the-variants.{Whole, Equal}
 
 -- `f64::from` of a whole number
 abbrev pub float : ℕ → Float

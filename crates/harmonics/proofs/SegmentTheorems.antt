@@ -4,15 +4,15 @@ use mathlib.Core.Logic.{inl, inr}
 use Prim.Native.Nat.{ℕ}
 use Rattle.base.specs.Said.{Said}
 use Rattle.base.proofs.Said.{One, Split, one-result, one-plain}
-use Rattle.segment.specs.Answers.{saysFraction, saysSteps}
-use Rattle.segment.specs.Segment.{fraction, wholeAt, fractionAt, stepsOf, segmentCount}
-use Rattle.segment.specs.declared.Divisions.{Divisions}
-use Rattle.segment.specs.declared.Fraction.{Fraction}
-use Rattle.segment.specs.declared.FractionAnswer.the-variants as OfFraction
-use Rattle.segment.specs.declared.SegmentType.{SegmentType}
-use Rattle.segment.specs.declared.SegmentType.the-variants.{Otonal, Utonal}
-use Rattle.segment.specs.declared.Steps.{Steps}
-use Rattle.segment.specs.declared.StepsAnswer.the-variants as OfSteps
+use Rattle.harmonics.specs.Answers.{saysFraction, saysSteps}
+use Rattle.harmonics.specs.Segment.{fraction, wholeAt, fractionAt, stepsOf, segmentCount}
+use Rattle.harmonics.specs.declared.segment.Divisions.{Divisions}
+use Rattle.harmonics.specs.declared.segment.Fraction.{Fraction}
+use Rattle.harmonics.specs.declared.segment.FractionAnswer.the-variants as OfFraction
+use Rattle.harmonics.specs.declared.segment.SegmentType.{SegmentType}
+use Rattle.harmonics.specs.declared.segment.SegmentType.the-variants.{Otonal, Utonal}
+use Rattle.harmonics.specs.declared.segment.Steps.{Steps}
+use Rattle.harmonics.specs.declared.segment.StepsAnswer.the-variants as OfSteps
 
 -- 9:10:11:12:13:14:15:16 and 16/(16:15:14:13:12:11:10:9), as the Rust's example has them: the first and the last item
 pub nine-to-sixteen : (wholeAt Otonal 9 7 1 ≡ fraction 10 9) × (wholeAt Otonal 9 7 7 ≡ fraction 16 9) × (wholeAt Utonal 9 7 1 ≡ fraction 16 15) × (wholeAt Utonal 9 7 7 ≡ fraction 16 9)

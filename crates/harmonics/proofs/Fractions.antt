@@ -6,8 +6,8 @@ use native.Mathlib.Omega.{arith}
 use lib.Ieee.{Float, binary64, div, lt, neg, toUnsigned}
 use Rattle.base.specs.Said.{pick}
 use Rattle.floats.specs.Floats.{floor}
-use Rattle.segment.specs.Segment.{ceil, harmonicOf, fraction}
-use Rattle.segment.specs.declared.Fraction.{Fraction}
+use Rattle.harmonics.specs.Segment.{ceil, harmonicOf, fraction}
+use Rattle.harmonics.specs.declared.segment.Fraction.{Fraction}
 
 module _ (h : Float) {low high : Float} (l : low ≡ floor h) (u : high ≡ ceil h) where
   pub harmonic-low : lt (div binary64 h low) (div binary64 high h) ≡ true → {r : ℕ} → r ≡ toUnsigned 32 low → r ≡ harmonicOf h

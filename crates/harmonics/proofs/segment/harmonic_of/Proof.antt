@@ -2,10 +2,10 @@
 -- Assumes nothing.
 use mathlib.Core.Path.{_≡_, sym, _∙_, ap}
 use lib.Ieee.{Float, binary64, div, lt, neg, toUnsigned}
-use Rattle.segment.proofs.Fractions.{harmonic-low, harmonic-high}
 use borrow.Author.Needs.{needs}
-use Rattle.segment.proofs.harmonic_of.Statement.{statement}
-use Rattle.segment.proofs.harmonic_of.Tie as tie
+use Rattle.harmonics.proofs.Fractions.{harmonic-low, harmonic-high}
+use Rattle.harmonics.proofs.segment.harmonic_of.Statement.{statement}
+use Rattle.harmonics.proofs.segment.harmonic_of.Tie as tie
 
 floor-of-requires : tie.Need-floor-of-requires
 floor-of-requires c κs = search needs

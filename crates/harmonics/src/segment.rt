@@ -1,15 +1,15 @@
 // The fractions of a segment of the harmonic series: the Rust's `create_harmonics_scale`, item by item. Document 01, "Scales and
 // searches".
 //
-// An inner crate: its fractions become items in the crate `harmonics`.
+// An inner module: its fractions become items in lib.rt.
 use base::Refusal;
 use floats::FloatAnswer;
 use pitch::Ratio;
 use pitch::RatioAnswer;
 ghost use mathlib.Core.Path.{_≡_};
 ghost use lib.Ieee.{toUnsigned};
-ghost use Rattle.segment.specs.Answers.{saysFraction, saysSteps};
-ghost use Rattle.segment.specs.Segment.{harmonicOf, wholeAt, nearAt, fractionAt, stepsOf, segmentCount};
+ghost use Rattle.harmonics.specs.Answers.{saysFraction, saysSteps};
+ghost use Rattle.harmonics.specs.Segment.{harmonicOf, wholeAt, nearAt, fractionAt, stepsOf, segmentCount};
 
 // Which segment: `n:n+1:n+2:..`, or `n/(n:n-1:n-2:..)`.
 pub enum SegmentType {

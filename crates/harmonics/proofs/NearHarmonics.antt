@@ -16,7 +16,7 @@ use Rattle.floats.specs.Floats.{floor}
 use Rattle.floats.proofs.Compare.{le-pos}
 use Rattle.floats.proofs.Ranges.{Within, within-fin}
 use Rattle.floats.proofs.Sign.{round-neg}
-use Rattle.segment.specs.Segment.{harmonicOf}
+use Rattle.harmonics.specs.Segment.{harmonicOf}
 
 -- 1.0
 abbrev One : Float

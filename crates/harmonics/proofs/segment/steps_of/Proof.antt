@@ -6,11 +6,11 @@ use Rattle.base.specs.Said.{Said, gives, andThen}
 use Rattle.base.proofs.Said.{and-then}
 use Rattle.pitch.specs.Answers.{saysRatio}
 use Rattle.pitch.specs.Ratios.{dividedInto}
-use Rattle.segment.specs.Segment.{float, stepsOf}
-use Rattle.segment.specs.declared.Steps.the-variants.{Equal}
 use borrow.Author.Needs.{needs}
-use Rattle.segment.proofs.steps_of.Statement.{statement}
-use Rattle.segment.proofs.steps_of.Tie as tie
+use Rattle.harmonics.specs.Segment.{float, stepsOf}
+use Rattle.harmonics.specs.declared.segment.Steps.the-variants.{Equal}
+use Rattle.harmonics.proofs.segment.steps_of.Statement.{statement}
+use Rattle.harmonics.proofs.segment.steps_of.Tie as tie
 
 enum-told : tie.Need-enum-told
 enum-told c = search needs

@@ -2,10 +2,10 @@
 -- Assumes nothing.
 use mathlib.Core.Path.{_≡_, sym, _∙_, ap}
 use Prim.Native.Nat.{ℕ}
-use Rattle.segment.specs.Segment.{nearAt, fraction}
 use borrow.Author.Needs.{needs}
-use Rattle.segment.proofs.near_at.Statement.{statement}
-use Rattle.segment.proofs.near_at.Tie as tie
+use Rattle.harmonics.specs.Segment.{nearAt, fraction}
+use Rattle.harmonics.proofs.segment.near_at.Statement.{statement}
+use Rattle.harmonics.proofs.segment.near_at.Tie as tie
 
 add-end : tie.Need-add-end
 add-end c = search needs

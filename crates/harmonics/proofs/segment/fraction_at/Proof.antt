@@ -4,10 +4,10 @@ use mathlib.Core.Path.{_≡_, sym, _∙_, ap}
 use Rattle.base.specs.Said.{gives}
 use Rattle.base.proofs.Said.{and-then}
 use Rattle.pitch.specs.Answers.{saysRatio}
-use Rattle.segment.specs.Segment.{nearAt, fractionAt}
 use borrow.Author.Needs.{needs}
-use Rattle.segment.proofs.fraction_at.Statement.{statement}
-use Rattle.segment.proofs.fraction_at.Tie as tie
+use Rattle.harmonics.specs.Segment.{nearAt, fractionAt}
+use Rattle.harmonics.proofs.segment.fraction_at.Statement.{statement}
+use Rattle.harmonics.proofs.segment.fraction_at.Tie as tie
 
 enum-told : tie.Need-enum-told
 enum-told c = search needs

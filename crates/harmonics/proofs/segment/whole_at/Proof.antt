@@ -1,11 +1,11 @@
 -- `whole_at` meets its contract, case by case.
 -- Assumes nothing.
 use mathlib.Core.Path.{_≡_, sym, _∙_, ap}
-use Rattle.segment.specs.Segment.{wholeAt, fraction}
-use Rattle.segment.proofs.Fractions.{none-left}
 use borrow.Author.Needs.{needs}
-use Rattle.segment.proofs.whole_at.Statement.{statement}
-use Rattle.segment.proofs.whole_at.Tie as tie
+use Rattle.harmonics.specs.Segment.{wholeAt, fraction}
+use Rattle.harmonics.proofs.Fractions.{none-left}
+use Rattle.harmonics.proofs.segment.whole_at.Statement.{statement}
+use Rattle.harmonics.proofs.segment.whole_at.Tie as tie
 
 cast-first : tie.Need-cast-first
 cast-first c = search needs

@@ -6,9 +6,9 @@ use lib.Ieee.{ofBits, toUnsigned}
 use lib.Ieee.Casts.{toUnsigned-lt}
 use native.Mathlib.Omega.{arith}
 use Rattle.floats.proofs.Order.{isPositive}
-use Rattle.segment.proofs.Casts.{cast-asks, cast-under, cast-over, cast-none}
-use Rattle.segment.proofs.as_u32.Statement.{statement}
-use Rattle.segment.proofs.as_u32.Tie as tie
+use Rattle.harmonics.proofs.Casts.{cast-asks, cast-under, cast-over, cast-none}
+use Rattle.harmonics.proofs.segment.as_u32.Statement.{statement}
+use Rattle.harmonics.proofs.segment.as_u32.Tie as tie
 
 cut : (c : tie.After-truncating-f64-to-u64) → c .truncating-f64-to-u64 .result ≡ toUnsigned 32 (c .before .before .before .args .x)
 unfolding ofBits

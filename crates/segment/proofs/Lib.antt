@@ -1,4 +1,0 @@
-pub mod Casts
-pub mod Fractions
-pub mod Harmonics
-pub mod Theorems
