@@ -63,7 +63,7 @@ fn push_at(
     ensures { λ r. ⌜ beside r (itemTable (now (kind .exit)) (now (cents .exit)) (now (numer .exit)) (now (denom .exit)))
         ≡ afterSaid (beside state (itemTable (now (kind .entry)) (now (cents .entry)) (now (numer .entry)) (now (denom .entry)))) (itemAt «segment_type» start size steps j) ⌝ }
 {
-    match harmonics::segment::fraction_at(segment_type, start, size, steps, j) {
+    match segment::fraction_at(segment_type, start, size, steps, j) {
         FractionAnswer::Is(item) => pushed(
             state,
             kind,
@@ -159,7 +159,7 @@ fn look(segment_type: SegmentType, start: u16, size: u16, steps: Steps, n: u16) 
     if n == 0 {
         return StepsAnswer::Is(steps);
     }
-    match harmonics::segment::fraction_at(segment_type, start, size, steps, n) {
+    match segment::fraction_at(segment_type, start, size, steps, n) {
         FractionAnswer::Refused(refusal) => StepsAnswer::Refused(refusal),
         FractionAnswer::Is(item) => {
             let last = Item::Fraction(item.numer, Denom::Given(item.denom));
@@ -176,7 +176,7 @@ fn plan(segment_type: SegmentType, start: u16, size: u16, divisions: Divisions) 
     requires { ⌜ 0 < start ⌝ }
     ensures { λ r. ⌜ saysSteps r ≡ planned «segment_type» start size divisions ⌝ }
 {
-    match harmonics::segment::steps_of(start, size, divisions) {
+    match segment::steps_of(start, size, divisions) {
         StepsAnswer::Refused(refusal) => StepsAnswer::Refused(refusal),
         StepsAnswer::Is(steps) => {
             look(
@@ -184,7 +184,7 @@ fn plan(segment_type: SegmentType, start: u16, size: u16, divisions: Divisions) 
                 start,
                 size,
                 steps,
-                harmonics::segment::count_of(size, divisions),
+                segment::count_of(size, divisions),
             )
         }
     }
@@ -217,7 +217,7 @@ pub fn create_harmonics_scale(
     if segment_start == 0 {
         return SclAnswer::Refused(scl::NOT_USABLE);
     }
-    let n = harmonics::segment::count_of(segment_size, neji_divisions);
+    let n = segment::count_of(segment_size, neji_divisions);
     let room = scl_tables::room_of(kind, cents, numer, denom, place, ratio, wraps);
     if room <= (n as usize) {
         return SclAnswer::Refused(generate::NO_PLACE);

@@ -28,13 +28,13 @@ use Rattle.scl_build.specs.declared.SclBuilder.{SclBuilder}
 use Rattle.generate.specs.Generated.{runOf, listOf, madeOf, countedOf, itemsLeft, listLeft}
 use Rattle.generate.proofs.Made.{implicit-held, all-usable, some-list, made-no-room, made-beyond, made-given, all-given}
 use Rattle.generate.proofs.Theorems.{listed, count-is}
-use Rattle.notes.specs.Asked.{SomeCents}
-use Rattle.notes.specs.Notes.{pitchAt, highestFrom, ascending}
-use Rattle.notes.proofs.Ascends.{lastAfter}
-use Rattle.notes.proofs.Given.{log-said, reach}
-use Rattle.notes.proofs.Some.{period-some}
+use Rattle.rank2.specs.Asked.{SomeCents}
+use Rattle.rank2.specs.Notes.{pitchAt, highestFrom, ascending}
 use Rattle.rank2.specs.Rank2.{noteCount, isTemperament, ascendingOf, pushedAs, itemsOf, temperamentOf, madeRank2}
 use Rattle.rank2.specs.Steps.{beyondOf, afterRatios, ranOf, Behind}
+use Rattle.rank2.proofs.Ascends.{lastAfter}
+use Rattle.rank2.proofs.Given.{log-said, reach}
+use Rattle.rank2.proofs.Some.{period-some}
 use Rattle.rank2.proofs.Behind.{same-room, same-new, same-built, same-list}
 use Rattle.rank2.proofs.Pushes.{Pushed, Cented, cented, all-items, last-item, ratios-run}
 use Rattle.rank2.proofs.Values.{Values, sort-ranged, sort-length, ascending-said, top-said, last-within}

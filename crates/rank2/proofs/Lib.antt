@@ -1,3 +1,9 @@
+pub mod Sizes
+pub mod Given
+pub mod Heights
+pub mod Ascends
+pub mod Some
+pub mod NotesTheorems
 pub mod Values
 pub mod Pushes
 pub mod Behind

@@ -12,7 +12,7 @@ use Rattle.sorted.specs.Lent.{ListTable}
 use Rattle.scl.specs.Table.{ItemTable}
 use Rattle.generate.specs.Generated.{countedOf}
 use Rattle.generate.proofs.Numbers.{made-numbered, counted-numbered}
-use Rattle.notes.specs.Notes.{boundedAt, pitchAt, ratiosFrom, ascending}
+use Rattle.rank2.specs.Notes.{boundedAt, pitchAt, ratiosFrom, ascending}
 use Rattle.rank2.specs.Rank2.{noteCount, isTemperament, ascendingOf, pushedAs, madeRank2}
 
 pitch-numbered : (ratio generator period : Float) (positive i : ℕ) → Numbered (pitchAt ratio generator period positive i)

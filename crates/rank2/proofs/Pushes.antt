@@ -21,10 +21,10 @@ use Rattle.scl_tables.specs.Build.{lastOf}
 use Rattle.scl_build.specs.Builder.{Built, beside, builderAfter, pushedRatio, afterRatio, afterOne, afterAll}
 use Rattle.scl_build.specs.declared.SclBuilder.{SclBuilder}
 use Rattle.generate.proofs.Kept.{Kept, kept-all, kept-push}
-use Rattle.notes.proofs.Ascends.{lastAfter}
-use Rattle.notes.proofs.Given.{cents-said, cents-given}
 use Rattle.rank2.specs.Rank2.{pushedAs}
 use Rattle.rank2.specs.Steps.{afterOneRatio, afterRatios}
+use Rattle.rank2.proofs.Ascends.{lastAfter}
+use Rattle.rank2.proofs.Given.{cents-said, cents-given}
 use Rattle.rank2.proofs.Values.{Ranged, AllRanged}
 
 -- ---- one push

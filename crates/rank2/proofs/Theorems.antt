@@ -23,7 +23,7 @@ use Rattle.scl_tables.specs.Build.{lastOf}
 use Rattle.scl_tables.specs.Room.{roomOf}
 use Rattle.generate.specs.Generated.{madeOf, countedOf, itemsLeft, listLeft, Leaves}
 use Rattle.generate.proofs.Theorems.{beyond-when, accepted-or, made-leaves}
-use Rattle.notes.specs.Notes.{pitchAt}
+use Rattle.rank2.specs.Notes.{pitchAt}
 use Rattle.rank2.specs.Rank2.{noteCount, isTemperament, itemsOf, temperamentOf, madeRank2, Tested, PeriodOne}
 use Rattle.rank2.proofs.Calls.{temperament-says, period-cents, too-many, not-usable, no-place, pushed-of, items-said, items-count}
 use Rattle.rank2.proofs.Pushes.{cented}

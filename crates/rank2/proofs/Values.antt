@@ -24,12 +24,12 @@ use Rattle.sorted.proofs.Numbering.{length-from}
 use Rattle.sorted.proofs.Usable.{reach-positive}
 use Rattle.scl.specs.Items.{isUsableCents}
 use Rattle.scl.proofs.Items.{cents-ratio}
-use Rattle.notes.specs.Asked.{SomeCents}
-use Rattle.notes.specs.Notes.{boundedAt, pitchAt, ratiosFrom, highestFrom, ascending}
-use Rattle.notes.proofs.Given.{reach, bounded-usable, pitch-first, pitch-later}
-use Rattle.notes.proofs.Ascends.{Positives, lastAfter, sorted-ratios, highest-last}
-use Rattle.notes.proofs.Heights.{highest-is}
+use Rattle.rank2.specs.Asked.{SomeCents}
+use Rattle.rank2.specs.Notes.{boundedAt, pitchAt, ratiosFrom, highestFrom, ascending}
 use Rattle.rank2.specs.Rank2.{ascendingOf}
+use Rattle.rank2.proofs.Given.{reach, bounded-usable, pitch-first, pitch-later}
+use Rattle.rank2.proofs.Ascends.{Positives, lastAfter, sorted-ratios, highest-last}
+use Rattle.rank2.proofs.Heights.{highest-is}
 
 -- a ratio in 2^-32..2^32 that the machine holds
 pub record Ranged (x : Float) : Type 0 where

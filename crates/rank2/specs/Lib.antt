@@ -1,2 +1,4 @@
+pub mod Notes
+pub mod Asked
 pub mod Rank2
 pub mod Steps

@@ -21,7 +21,7 @@ use Rattle.scl.specs.declared.Item.the-variants.{Cents}
 use Rattle.scl_tables.specs.Build.{isNone, lastOf}
 use Rattle.scl_tables.specs.Room.{roomOf}
 use Rattle.generate.specs.Generated.{madeOf}
-use Rattle.notes.specs.Notes.{pitchAt, ratiosFrom, ascending}
+use Rattle.rank2.specs.Notes.{pitchAt, ratiosFrom, ascending}
 
 -- the period, and a note for each generation
 abbrev pub noteCount : ℕ → ℕ → ℕ

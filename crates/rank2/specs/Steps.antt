@@ -13,7 +13,7 @@ use Rattle.scl.specs.declared.Item.the-variants.{Cents}
 use Rattle.scl_tables.specs.Build.{isBeyond}
 use Rattle.scl_tables.specs.Room.{roomOf}
 use Rattle.scl_build.specs.Builder.{Built, beside, state, afterNew, builderAfter, pushedRatio, afterRatio}
-use Rattle.notes.specs.Notes.{highestFrom}
+use Rattle.rank2.specs.Notes.{highestFrom}
 
 -- whether a scale of the first n pitch values is beyond reach, by the highest one
 unfoldable pub beyondOf : (ℕ → Said Float) → ℕ → Said Bool

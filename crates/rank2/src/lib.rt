@@ -3,6 +3,8 @@
 // The notes are pushed in ascending order into a builder beside the lent tables, as the Rust does it; the caller has the description.
 // Whether 18 arises is known from the highest note, before anything is written. From then on the list's columns, which the build
 // writes anew, serve to bring the notes in order. `create_rank2_temperament_scale(Ratio(1.5), 6, 0, Ratio(2.0), ..)` is the Lydian scale.
+mod notes;
+
 use floats::FloatAnswer;
 use pitch::Ratio;
 use scl::Item;
@@ -24,8 +26,8 @@ ghost use Rattle.scl_tables.specs.Build.{isNone, afterList};
 ghost use Rattle.scl_tables.specs.Room.{roomOf};
 ghost use Rattle.scl_build.specs.Builder.{beside, built, counted};
 ghost use Rattle.generate.specs.Generated.{madeOf, countedOf, itemsLeft, listLeft};
-ghost use Rattle.notes.specs.Notes.{pitchAt};
-ghost use Rattle.notes.specs.Asked.{SomeCents};
+ghost use Rattle.rank2.specs.Notes.{pitchAt};
+ghost use Rattle.rank2.specs.Asked.{SomeCents};
 ghost use Rattle.rank2.specs.Rank2.{isTemperament, ascendingOf, itemsOf, madeRank2};
 ghost use Rattle.rank2.specs.Steps.{beyondOf, afterOneRatio, afterRatios, ranOf, Behind};
 

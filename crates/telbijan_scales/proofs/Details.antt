@@ -22,7 +22,7 @@ use Rattle.harmonics.specs.declared.segment.SegmentType.{SegmentType}
 use Rattle.harmonics.specs.declared.segment.Steps as segment
 use Rattle.harmonics.specs.declared.segment.Steps.the-variants.{Whole, Equal}
 use Rattle.harmonics.specs.Harmonics.{itemAt, madeHarmonics}
-use Rattle.notes.specs.Notes.{ratiosFrom}
+use Rattle.rank2.specs.Notes.{ratiosFrom}
 use Rattle.rank2.specs.Rank2.{ascendingOf, pushedAs, madeRank2}
 use Rattle.telbijan_scales.specs.Generators.{segmentWith, divisionsWith}
 use Rattle.telbijan_answers.specs.Details.{Undetailed}

@@ -1,10 +1,10 @@
 -- `is_beyond` meets its contract: the highest pitch value, its cents, and the look at them.
 -- Assumes nothing.
 use native.Mathlib.Omega.{arith}
-use Rattle.notes.specs.Notes.{pitchAt}
+use borrow.Author.Needs.{needs}
+use Rattle.rank2.specs.Notes.{pitchAt}
 use Rattle.rank2.proofs.Values.{values-of, top-within}
 use Rattle.rank2.proofs.Calls.{beyond-look}
-use borrow.Author.Needs.{needs}
 use Rattle.rank2.proofs.is_beyond.Statement.{statement}
 use Rattle.rank2.proofs.is_beyond.Tie as tie
 

@@ -7,10 +7,10 @@ use Rattle.scl.specs.Table.{itemTable}
 use Rattle.sorted.specs.Lent.{listTable}
 use Rattle.scl_tables.proofs.Room.{room-within}
 use Rattle.generate.proofs.Made.{all-refused}
-use Rattle.notes.specs.Notes.{pitchAt}
+use borrow.Author.Needs.{needs}
+use Rattle.rank2.specs.Notes.{pitchAt}
 use Rattle.rank2.proofs.Values.{values-of}
 use Rattle.rank2.proofs.Calls.{make-beyond, make-all}
-use borrow.Author.Needs.{needs}
 use Rattle.rank2.proofs.make.Statement.{statement}
 use Rattle.rank2.proofs.make.Tie as tie
 

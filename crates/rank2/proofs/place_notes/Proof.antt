@@ -5,10 +5,10 @@ use native.Mathlib.Omega.{arith}
 use lib.ListN.{length, take}
 use lib.Seq.{length-take-le}
 use Rattle.sorted.specs.Lent.{listTable}
-use Rattle.notes.specs.Notes.{pitchAt}
+use borrow.Author.Needs.{needs}
+use Rattle.rank2.specs.Notes.{pitchAt}
 use Rattle.rank2.specs.Rank2.{ascendingOf}
 use Rattle.rank2.proofs.Behind.{behind-parts, taken-part}
-use borrow.Author.Needs.{needs}
 use Rattle.rank2.proofs.place_notes.Statement.{statement}
 use Rattle.rank2.proofs.place_notes.Tie as tie
 

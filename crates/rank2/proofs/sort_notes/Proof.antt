@@ -3,9 +3,9 @@
 use mathlib.Core.Path.{sym, _∙_, ap}
 use lib.ListN.{length}
 use Rattle.sorted.proofs.Numbering.{length-from, from-ascends}
-use Rattle.notes.specs.Notes.{pitchAt}
-use Rattle.rank2.proofs.Values.{values-of, filled-length, filled-positive, sorted-column}
 use borrow.Author.Needs.{needs}
+use Rattle.rank2.specs.Notes.{pitchAt}
+use Rattle.rank2.proofs.Values.{values-of, filled-length, filled-positive, sorted-column}
 use Rattle.rank2.proofs.sort_notes.Statement.{statement}
 use Rattle.rank2.proofs.sort_notes.Tie as tie
 

@@ -5,7 +5,7 @@ use lib.Ieee.{Float}
 use Rattle.base.specs.Said.{Said, gives}
 use Rattle.base.proofs.Said.{One, same-value}
 use Rattle.pitch.specs.Ratios.{asCents}
-use Rattle.notes.specs.Notes.{noteAt, pitchAt, ratiosFrom, highestFrom}
+use Rattle.rank2.specs.Notes.{noteAt, pitchAt, ratiosFrom, highestFrom}
 
 given-once : {A : Type 0} (s : Said A) → One gives s
 given-once s x y p q = same-value x y (p ∙ sym q)

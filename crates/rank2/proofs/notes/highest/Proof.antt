@@ -6,14 +6,14 @@ use Prim.Native.Nat.{_≤_, _-_}
 use native.Mathlib.Omega.{arith}
 use lib.Ieee.{ofBits}
 use Rattle.base.specs.Said.{gives}
-use Rattle.notes.specs.Notes.{pitchAt, highestFrom}
-use Rattle.notes.proofs.Heights.{none-higher, one-higher, all-higher}
-use Rattle.notes.proofs.highest.Statement.{statement}
-use Rattle.notes.proofs.highest.Tie as tie
-use Rattle.notes.proofs.highest.Reads as reads
-use Rattle.notes.proofs.highest.Lts as lts
-use Rattle.notes.proofs.higher.Reads as higher-reads
-use Rattle.notes.proofs.pitch_at.Reads as pitch-at-reads
+use Rattle.rank2.specs.Notes.{pitchAt, highestFrom}
+use Rattle.rank2.proofs.Heights.{none-higher, one-higher, all-higher}
+use Rattle.rank2.proofs.notes.highest.Statement.{statement}
+use Rattle.rank2.proofs.notes.highest.Tie as tie
+use Rattle.rank2.proofs.notes.highest.Reads as reads
+use Rattle.rank2.proofs.notes.highest.Lts as lts
+use Rattle.rank2.proofs.notes.higher.Reads as higher-reads
+use Rattle.rank2.proofs.notes.pitch_at.Reads as pitch-at-reads
 
 abbrev Inv-loop : tie.InvT-loop
 Inv-loop period generator-cents period-cents positive n top₀ i₀ top i =

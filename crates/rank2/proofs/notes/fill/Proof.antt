@@ -6,13 +6,13 @@ use Prim.Native.Nat.{_≤_, _-_}
 use native.Mathlib.Omega.{arith}
 use lib.ListN.{length, take, length-set}
 use Rattle.base.specs.Said.{gives}
-use Rattle.notes.specs.Notes.{pitchAt, ratiosFrom}
-use Rattle.notes.proofs.Heights.{none-filled, one-filled, all-filled}
-use Rattle.notes.proofs.fill.Statement.{statement}
-use Rattle.notes.proofs.fill.Tie as tie
-use Rattle.notes.proofs.fill.Reads as reads
-use Rattle.notes.proofs.fill.Lts as lts
-use Rattle.notes.proofs.pitch_at.Reads as pitch-at-reads
+use Rattle.rank2.specs.Notes.{pitchAt, ratiosFrom}
+use Rattle.rank2.proofs.Heights.{none-filled, one-filled, all-filled}
+use Rattle.rank2.proofs.notes.fill.Statement.{statement}
+use Rattle.rank2.proofs.notes.fill.Tie as tie
+use Rattle.rank2.proofs.notes.fill.Reads as reads
+use Rattle.rank2.proofs.notes.fill.Lts as lts
+use Rattle.rank2.proofs.notes.pitch_at.Reads as pitch-at-reads
 
 abbrev Inv-loop : tie.InvT-loop
 Inv-loop ratio₀ period generator-cents period-cents positive i₀ ratio i =

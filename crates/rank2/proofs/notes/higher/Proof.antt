@@ -3,8 +3,8 @@
 use mathlib.Core.Path.{_≡_, sym, _∙_, ap}
 use mathlib.Core.Bool.{Bool}
 use Rattle.base.specs.Said.{pick}
-use Rattle.notes.proofs.higher.Statement.{statement}
-use Rattle.notes.proofs.higher.Tie as tie
+use Rattle.rank2.proofs.notes.higher.Statement.{statement}
+use Rattle.rank2.proofs.notes.higher.Tie as tie
 
 returns : tie.Need-returns
 returns c = ap (λ (t : Bool). pick t (c .before .args .b) (c .before .args .a)) (sym (c .if1 .taken))

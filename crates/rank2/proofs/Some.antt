@@ -19,15 +19,15 @@ use Rattle.explog.specs.Log.{bOf}
 use Rattle.explog.proofs.Reach.{log-sized}
 use Rattle.pitch.specs.Ratios.{twelveF, hundredF, asCents}
 use Rattle.floats.proofs.Ranges.{generator-says}
-use Rattle.notes.specs.Asked.{SomeCents}
-use Rattle.notes.proofs.Given.{log-said, reach, cents-said, cents-given}
 use Rattle.floats.specs.Floats.{zeroF}
 use Rattle.floats.specs.Ranges.{inReach, inGenerator}
 use Rattle.floats.proofs.Order.{Zero}
 use Rattle.floats.proofs.Sign.{round-neg}
 use Rattle.floats.proofs.Sized.{Sized, sized}
 use Rattle.floats.proofs.Value.{round-again}
-use Rattle.notes.proofs.Sizes.{mul-sized, not-zero}
+use Rattle.rank2.specs.Asked.{SomeCents}
+use Rattle.rank2.proofs.Given.{log-said, reach, cents-said, cents-given}
+use Rattle.rank2.proofs.Sizes.{mul-sized, not-zero}
 
 -- above zero, either way round, is not zero
 above-some : (z : Float) → T (above z) → (eq z Zero ≡ false) × (eq (neg z) Zero ≡ false)

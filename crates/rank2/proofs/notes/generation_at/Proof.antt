@@ -1,9 +1,9 @@
 -- `generation_at` meets its contract: up, then down.
 -- Assumes nothing.
-use Rattle.notes.proofs.Given.{generation-up, generation-down}
 use borrow.Author.Needs.{needs}
-use Rattle.notes.proofs.generation_at.Statement.{statement}
-use Rattle.notes.proofs.generation_at.Tie as tie
+use Rattle.rank2.proofs.Given.{generation-up, generation-down}
+use Rattle.rank2.proofs.notes.generation_at.Statement.{statement}
+use Rattle.rank2.proofs.notes.generation_at.Tie as tie
 
 int-to-float-result : tie.Need-int-to-float-result
 int-to-float-result c = search needs

@@ -1,7 +1,7 @@
 // The notes of a rank-2 temperament: so many generators up or down, within the period. The Rust's `create_rank2_temperament_scale`, note
 // by note; document 01, "Scales and searches".
 //
-// An inner crate: for generators and periods in 2^-32..2^32, whose period is not 1.0, no note is refused.
+// An inner module: for generators and periods in 2^-32..2^32, whose period is not 1.0, no note is refused.
 use floats::FloatAnswer;
 use pitch::Ratio;
 use pitch::RatioAnswer;
@@ -14,8 +14,8 @@ ghost use Rattle.base.specs.Said.{gives, pick};
 ghost use Rattle.floats.specs.Ranges.{inGenerator};
 ghost use Rattle.pitch.specs.Ratios.{asCents};
 ghost use Rattle.scl.specs.Items.{isUsableCents};
-ghost use Rattle.notes.specs.Notes.{generationAt, noteAt, pitchAt, ratiosFrom, highestFrom};
-ghost use Rattle.notes.specs.Asked.{SomeCents};
+ghost use Rattle.rank2.specs.Notes.{generationAt, noteAt, pitchAt, ratiosFrom, highestFrom};
+ghost use Rattle.rank2.specs.Asked.{SomeCents};
 
 // The cents of a ratio in 2^-32..2^32: usable cents.
 pub fn cents_of(ratio: f64) -> f64

@@ -15,7 +15,7 @@ use Rattle.base.proofs.Said.{same-value, no-value, no-refusal}
 use Rattle.floats.specs.Floats.{zeroF}
 use Rattle.sorting.specs.Order.{insertBy, sortBy}
 use Rattle.sorting.proofs.Order.{float-lel, float-asym, clash}
-use Rattle.notes.specs.Notes.{ratiosFrom, highestOf, highestFrom}
+use Rattle.rank2.specs.Notes.{ratiosFrom, highestOf, highestFrom}
 
 -- ---- the loop
 pub none-higher : (f : ℕ → Said Float) (n : ℕ) → gives zeroF ≡ highestFrom f n (n - n)

@@ -1,9 +1,9 @@
 -- `pitch_at` meets its contract: the period first, then the notes.
 -- Assumes nothing.
-use Rattle.notes.proofs.Given.{pitch-first, pitch-later}
 use borrow.Author.Needs.{needs}
-use Rattle.notes.proofs.pitch_at.Statement.{statement}
-use Rattle.notes.proofs.pitch_at.Tie as tie
+use Rattle.rank2.proofs.Given.{pitch-first, pitch-later}
+use Rattle.rank2.proofs.notes.pitch_at.Statement.{statement}
+use Rattle.rank2.proofs.notes.pitch_at.Tie as tie
 
 returns : tie.Need-returns
 returns c = let a = c .before .args in (pitch-first (a .period) (a .generator-cents) (a .period-cents) (a .positive) (a .i) (c .if1 .taken), c .before .pre .0)

@@ -15,7 +15,7 @@ use Rattle.floats.specs.Floats.{zeroF}
 use Rattle.sorting.specs.Entries.{Entry}
 use Rattle.sorting.specs.Order.{lower, insertBy, sortBy}
 use Rattle.sorting.proofs.Order.{float-lel, float-asym, clash}
-use Rattle.notes.specs.Notes.{highestOf}
+use Rattle.rank2.specs.Notes.{highestOf}
 
 -- ---- the ratios of sorted entries are the sorted ratios
 abbrev ratioIn : Entry → Float

@@ -6,10 +6,10 @@ use lib.Ieee.{Float, binary64, mul}
 use Rattle.pitch.specs.Answers.{saysRatio}
 use Rattle.pitch.specs.Ratios.{fromCents}
 use Rattle.remainder.specs.Euclid.{remEuclid}
-use Rattle.notes.proofs.Given.{note-given, note-never}
 use borrow.Author.Needs.{needs}
-use Rattle.notes.proofs.note_at.Statement.{statement}
-use Rattle.notes.proofs.note_at.Tie as tie
+use Rattle.rank2.proofs.Given.{note-given, note-never}
+use Rattle.rank2.proofs.notes.note_at.Statement.{statement}
+use Rattle.rank2.proofs.notes.note_at.Tie as tie
 
 generation-at-requires : tie.Need-generation-at-requires
 generation-at-requires c κs = search needs

@@ -18,9 +18,9 @@ use Rattle.explog.proofs.Reach.{log-sized}
 use Rattle.pitch.specs.Ratios.{twelveF, hundredF, asCents, fromCents}
 use Rattle.scl.specs.Items.{isUsableCents}
 use Rattle.scl.proofs.Items.{cents-ratio}
-use Rattle.notes.specs.Asked.{SomeCents}
-use Rattle.notes.specs.Notes.{float, generationAt, boundedAt, noteAt, pitchAt}
-use Rattle.notes.proofs.Sizes.{mul-sized, usable-sized, sized-usable, bounded-sized}
+use Rattle.rank2.specs.Asked.{SomeCents}
+use Rattle.rank2.specs.Notes.{float, generationAt, boundedAt, noteAt, pitchAt}
+use Rattle.rank2.proofs.Sizes.{mul-sized, usable-sized, sized-usable, bounded-sized}
 
 -- ---- cents
 twelve-sized : Sized 12 twelveF

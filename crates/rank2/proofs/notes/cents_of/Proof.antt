@@ -2,10 +2,10 @@
 -- Assumes nothing.
 use mathlib.Core.Path.{_≡_, sym, _∙_, ap}
 use Rattle.floats.specs.Answers.{saysFloat}
-use Rattle.notes.proofs.Given.{cents-given, cents-never}
 use borrow.Author.Needs.{needs}
-use Rattle.notes.proofs.cents_of.Statement.{statement}
-use Rattle.notes.proofs.cents_of.Tie as tie
+use Rattle.rank2.proofs.Given.{cents-given, cents-never}
+use Rattle.rank2.proofs.notes.cents_of.Statement.{statement}
+use Rattle.rank2.proofs.notes.cents_of.Tie as tie
 
 as-cents-requires : tie.Need-as-cents-requires
 as-cents-requires c κs = search needs
