@@ -5,3 +5,7 @@ pub mod Readings
 pub mod Stored
 pub mod Storing
 pub mod Theorems
+pub mod Answers
+pub mod Opened
+pub mod Passes
+pub mod SearchTheorems

@@ -1,17 +1,18 @@
 -- What a user of E and L may count on, with the sentences of document 01. Assumes nothing.
 use mathlib.Core.Path.{_≡_, refl, sym, _∙_, subst}
-use mathlib.Core.Bool.{true, false}
-use Prim.Native.Nat.{ℕ, suc, _+_, _*_, _/_, _%_, _^_, _≤_, _<_}
+use mathlib.Core.Bool.{true, false, not}
+use Prim.Native.Nat.{ℕ, suc, _+_, _*_, _/_, _%_, _^_, _≤_, _<_, _-_}
 use native.Mathlib.Nat.{mul-div-cancel, lt-of-le-of-lt, mul-le-mul-left}
 use native.Mathlib.Omega.{arith}
-use lib.Dec.{T, lit<}
+use lib.Dec.{T, lit<, lit≤}
 use lib.Pow.{pow-pos}
 use lib.IntN.{pos, negsuc, negℤ}
-use lib.Ieee.{Float, fin, binary64, le, lt, eq, fits, ofBits}
+use lib.Ieee.{Float, fin, binary64, le, lt, eq, fits, ofBits, round, nanBits}
 use lib.Ieee.Scale.{finite}
 use lib.Ieee.Exact.{HasValue}
+use lib.Count.{ones, ones-le}
 use Rattle.base.specs.Said.{gives}
-use Rattle.base.proofs.Said.{One}
+use Rattle.base.proofs.Said.{One, one-result}
 use Rattle.floats.specs.Floats.{twoTo, zeroF, oneF, abs}
 use Rattle.floats.specs.Ranges.{inReach, negligible}
 use Rattle.floats.specs.Answers.{saysFloat}
@@ -20,13 +21,17 @@ use Rattle.floats.proofs.Theorems.{float-one}
 use Rattle.rounding.proofs.Power.{power-finite}
 use Rattle.floats.proofs.Ranges.{reach-says}
 use Rattle.floats.proofs.Value.{unique}
+use Rattle.powers.proofs.Entries.{t-below}
+use Rattle.powers.proofs.Bound.{powers, power-below}
+use Rattle.powers.specs.Exp.{pOf}
+use Rattle.rounding.proofs.Assemble.{no-nan}
+use Rattle.powers.specs.Inner.{Bits}
+use Rattle.powers.proofs.Theorems.{log-bits-one}
 use Rattle.explog.specs.Root.{root}
 use Rattle.explog.specs.Exp.{tOf, pOf}
 use Rattle.explog.specs.Rules.{E, L, inPowers, floorOf, powerOf}
 use Rattle.explog.specs.Samples.{log-of-one}
 use Rattle.explog.proofs.Meaning.{root-is}
-use Rattle.powers.proofs.Entries.{t-below}
-use Rattle.powers.proofs.Bound.{powers, power-below}
 use Rattle.explog.proofs.Plain.{plainFloor, plainPower}
 use Rattle.explog.proofs.Range.{e-range}
 use Rattle.explog.proofs.LiteralE.{e-literal}
@@ -34,6 +39,8 @@ use Rattle.explog.proofs.EndsE.{whole-range}
 use Rattle.explog.proofs.Values.{given, answered, logged, v-zero}
 use Rattle.explog.proofs.Reach.{exp-in-reach, log-in-powers}
 use Rattle.explog.proofs.Sides.{side-of, sided-finite, sided-equal, one-fits, sided-far, and-false, side-off}
+use Rattle.explog.specs.Near.{Near}
+use Rattle.explog.proofs.Cell.{packed}
 
 -- "floor of the square root", of any number below 2 ^ 128
 pub root-floor : (n : ℕ) → n < 2 ^ 128 → (root n * root n ≤ n) × (n < (root n + 1) * (root n + 1))
@@ -100,3 +107,27 @@ exp2-one x = float-one (E x)
 
 pub log2-one : (x : Float) → One saysFloat (L x)
 log2-one x = float-one (L x)
+
+-- where no middle of two f64s lies from so many below r as b has set bits to 14 above it, P rounds to the cell of r
+pub near-rounds : (b r u w n : ℕ) → u + ones b ≤ 511 → w ≤ u + 498 → 124 ≤ n → n ≤ 1924 → Near b r → (r + u) % 1024 < w
+    → ofBits binary64 ((n - 2) * 2 ^ 52 + (r + u) / 1024) ≡ round binary64 false (pOf b 52 * 2 ^ n) (2 ^ 1086)
+near-rounds b r u w n l h from to q t =
+    let p = powers b 52 (lit≤ tt) in
+    let low = q .low in
+    let high = q .high in
+    packed (pOf b 52) n (p .above) (power-below b 52 _ (lit≤ tt) p) from to ((r + u) / 1024) (omega arith) (omega arith)
+
+-- a number of 64 bits has at most 64 of them set
+pub ones-few : (b : ℕ) → b < 2 ^ 64 → ones b ≤ 64
+ones-few = ones-le 64
+
+-- the bits are no NaN's
+pub no-nan-there : (r u n : ℕ) → r < 2 ^ 63 → u ≤ 1024 → n ≤ 1924 → T (not (nanBits binary64 ((n - 2) * 2 ^ 52 + (r + u) / 1024)))
+no-nan-there r u n h l to = no-nan _ (omega arith)
+
+-- two results of one input are equal, for the call that E makes; `near_power` may answer any number within what it says
+pub nearest-to-power-one : (b n : ℕ) → One (λ r. r) (round binary64 false (pOf b 52 * 2 ^ n) (2 ^ 1086))
+nearest-to-power-one b n = one-result (round binary64 false (pOf b 52 * 2 ^ n) (2 ^ 1086))
+
+pub near-log-bits-one : (y r s : ℕ) → Bits y r → Bits y s → r ≡ s
+near-log-bits-one = log-bits-one

@@ -3,3 +3,5 @@ pub mod Exp
 pub mod Log
 pub mod Rules
 pub mod Samples
+pub mod Near
+pub mod Head

@@ -1,4 +1,7 @@
 // E and L: the power of two and its logarithm, by whole numbers, the same on every machine. Document 01, "Logarithm and power".
+mod exp_near;
+mod log_near;
+
 ghost use mathlib.Core.Path.{_≡_};
 ghost use Prim.Native.Nat.{_+_, _-_, _*_, _/_, _^_, _≤_, _<_};
 ghost use lib.Dec.{leb};

@@ -22,7 +22,7 @@ use Rattle.explog.specs.Rules.{E, L, inPowers, logOf}
 use Rattle.explog.proofs.Reach.{sized-powers, powers-sized}
 use Rattle.pitch.specs.Ratios.{fromOctaves, repeated}
 use Rattle.scl.proofs.Items.{Ratio, octaves-ratio, powers-ratio}
-use Rattle.reduction.proofs.Reaches.{log-gives, octaves-sized}
+use Rattle.scl_tables.proofs.Reaches.{log-gives, octaves-sized}
 use Rattle.generate.proofs.Items.{Fine}
 use Rattle.harmonics.specs.Segment.{float, nearAt, wholeAt, harmonicOf}
 use Rattle.harmonics.specs.Harmonics.{asItem, itemAt}

@@ -19,7 +19,7 @@ use Rattle.base.specs.Said.{Said, gives, refuses, pick, andThen}
 use Rattle.base.proofs.Said.{One, one-result, no-value, same-value}
 use Rattle.floats.specs.Ranges.{inReach}
 use Rattle.explog.specs.Rules.{E, logOf}
-use Rattle.reduction.proofs.Reaches.{log-gives}
+use Rattle.scl_tables.proofs.Reaches.{log-gives}
 use Rattle.scl.proofs.Items.{fraction-reach}
 use Rattle.pitch.specs.Ratios.{fromFloat, asOctaves, fromOctaves, dividedInto}
 use Rattle.sorting.specs.Entries.{Entry}

@@ -19,7 +19,7 @@ use Rattle.listing.proofs.Given.{given-entries}
 use Rattle.text.specs.Reading.{Meaning}
 use Rattle.kbm_read.specs.Language.{Values, GiveAll, Begins, required, mapping, sizeOf, blanks, added, WrongEnd}
 use Rattle.kbm_read.specs.Reader.{entryIn, listed, givenFrom, mappingOf}
-use Rattle.kbm_line.specs.declared.Head.{Head}
+use Rattle.kbm_read.specs.declared.line.Head.{Head}
 use Rattle.kbm_read.proofs.EntryTexts.{text-entry}
 use Rattle.kbm_read.proofs.Stands.{finishOn}
 

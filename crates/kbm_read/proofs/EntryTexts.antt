@@ -16,8 +16,8 @@ use Rattle.integers.specs.Integer.{Int, value, none, readInt}
 use Rattle.integers.specs.IntegerText.{IntText}
 use Rattle.kbm_read.specs.Language.{EntryText}
 use Rattle.kbm_read.specs.Reader.{isCross, degreeIn, entryIn}
-use Rattle.kbm_line.specs.declared.EntryRead.{EntryRead}
-use Rattle.kbm_line.specs.declared.EntryRead.the-variants as entry
+use Rattle.kbm_read.specs.declared.line.EntryRead.{EntryRead}
+use Rattle.kbm_read.specs.declared.line.EntryRead.the-variants as entry
 
 -- ENTRIES: what is read is what the language says
 cross-text : (t : List ℕ) → isCross t ≡ true → EntryText t Unmapped

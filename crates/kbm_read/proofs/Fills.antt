@@ -17,10 +17,10 @@ use Rattle.listing.specs.Reader.{givenAfter}
 use Rattle.text.specs.Reading.{Meaning, invalid, blank, comment, content}
 use Rattle.kbm_read.specs.Language.{blanks}
 use Rattle.kbm_read.specs.Reader.{entryIn, foundEntry, foundIn, listed, givenFrom, padded}
-use Rattle.kbm_line.specs.declared.EntryRead.{EntryRead}
-use Rattle.kbm_line.specs.declared.EntryRead.the-variants as entry
-use Rattle.kbm_line.specs.declared.Found.{Found}
-use Rattle.kbm_line.specs.declared.Found.the-variants as found
+use Rattle.kbm_read.specs.declared.line.EntryRead.{EntryRead}
+use Rattle.kbm_read.specs.declared.line.EntryRead.the-variants as entry
+use Rattle.kbm_read.specs.declared.line.Found.{Found}
+use Rattle.kbm_read.specs.declared.line.Found.the-variants as found
 
 -- ONE ENTRY MORE, after those that are written
 pub over-snoc : {A : Type 0} (d xs : List A) (y : A) → length xs < length d → set (over d xs) (length xs) y ≡ over d (xs ++ y ∷ [])

@@ -11,7 +11,7 @@ use Rattle.base.proofs.Integers.{mag-sub}
 use Rattle.base.specs.Numbers.{line-missing, no-room, too-large, inconsistent-count}
 use Rattle.base.specs.Said.{gives, refuses}
 use Rattle.kbm_read.specs.Reader.{whichOf, mappingOf, finished}
-use Rattle.kbm_line.specs.declared.State.{State}
+use Rattle.kbm_read.specs.declared.line.State.{State}
 
 -- the difference of two keys of 16 bits has 32
 pub offset-fits : (x y : ℤ) → SFits w16 x → SFits w16 y → SFits w32 (x -ℤ y)

@@ -11,3 +11,5 @@ pub mod Theorems
 pub mod Samples
 pub mod Numbers
 pub mod Draws
+pub mod Takes
+pub mod LineTheorems

@@ -21,11 +21,11 @@ use Rattle.integers.specs.Integer.{Int, value, none, readInt}
 use Rattle.text.specs.Reading.{Meaning, invalid, blank, comment, content}
 use Rattle.kbm.specs.declared.Kbm.{Kbm}
 use Rattle.kbm_read.specs.Reader.{goesOn, entryPlaced, entryIn, takeDue, takeToken, takeMeaning, whichOf, mappingOf, finished, walk, unread, readOf}
-use Rattle.kbm_line.specs.declared.Due.{Due}
-use Rattle.kbm_line.specs.declared.Due.the-variants as due
-use Rattle.kbm_line.specs.declared.EntryRead.{EntryRead}
-use Rattle.kbm_line.specs.declared.EntryRead.the-variants as entry
-use Rattle.kbm_line.specs.declared.State.{State}
+use Rattle.kbm_read.specs.declared.line.Due.{Due}
+use Rattle.kbm_read.specs.declared.line.Due.the-variants as due
+use Rattle.kbm_read.specs.declared.line.EntryRead.{EntryRead}
+use Rattle.kbm_read.specs.declared.line.EntryRead.the-variants as entry
+use Rattle.kbm_read.specs.declared.line.State.{State}
 
 int-numbered : (k : ℕ) (i : Int) → Numbered (intAt int-value k i)
 int-numbered k (value z) = Numbered.value z

@@ -28,12 +28,12 @@ use Rattle.listing.proofs.Walks.{Reads, Place, placed, wordOn, stepOn, endOn, w
 use Rattle.text.specs.Reading.{Meaning, invalid, blank, comment, content}
 use Rattle.kbm_read.specs.Language.{Required, Value, required, mapping}
 use Rattle.kbm_read.specs.Reader.{goesOn, entryPlaced, entryIn, takeDue, takeToken, takeMeaning, whichOf, mappingOf, finished, unread, walk}
-use Rattle.kbm_line.specs.declared.Due.{Due}
-use Rattle.kbm_line.specs.declared.Due.the-variants as due
-use Rattle.kbm_line.specs.declared.EntryRead.{EntryRead}
-use Rattle.kbm_line.specs.declared.EntryRead.the-variants as entry
-use Rattle.kbm_line.specs.declared.Head.{Head}
-use Rattle.kbm_line.specs.declared.State.{State}
+use Rattle.kbm_read.specs.declared.line.Due.{Due}
+use Rattle.kbm_read.specs.declared.line.Due.the-variants as due
+use Rattle.kbm_read.specs.declared.line.EntryRead.{EntryRead}
+use Rattle.kbm_read.specs.declared.line.EntryRead.the-variants as entry
+use Rattle.kbm_read.specs.declared.line.Head.{Head}
+use Rattle.kbm_read.specs.declared.line.State.{State}
 use Rattle.kbm_read.proofs.EntryTexts.{entry-text, text-entry, no-entry, entry-none}
 use Rattle.kbm_read.proofs.Fields.{readAs, lastOf, pitchOf, read-gives, gives-read, read-wrong, wrong-read}
 use Rattle.base.proofs.Said.{same-value, no-value, no-refusal, same-refuses}

@@ -18,14 +18,14 @@ use Rattle.listing.specs.Reader.{walkLines, givenAfter}
 use Rattle.text.specs.ReadLine.{saidIn}
 use Rattle.text.specs.Reading.{Meaning}
 use Rattle.kbm_read.specs.Language.{added}
-use Rattle.kbm_line.specs.declared.Due.{Due}
-use Rattle.kbm_line.specs.declared.Due.the-variants as due
-use Rattle.kbm_line.specs.declared.EntryRead.{EntryRead}
-use Rattle.kbm_line.specs.declared.EntryRead.the-variants as entry
-use Rattle.kbm_line.specs.declared.Head.{Head}
-use Rattle.kbm_line.specs.declared.State.{State}
-pub use Rattle.kbm_line.specs.Steps.{saysStep, goesOn, takeSize, takeFirst, takeLast, takeMiddle, takeReference, decimalRefused, pitchSaid, takePitch, takeOctave, isCross, degreeIn, entryPlaced, takeEntry, takeDue, takeMeaning, foundEntry, foundIn}
-unfoldable pub use Rattle.kbm_line.specs.Steps.{entryIn, takeToken}
+use Rattle.kbm_read.specs.declared.line.Due.{Due}
+use Rattle.kbm_read.specs.declared.line.Due.the-variants as due
+use Rattle.kbm_read.specs.declared.line.EntryRead.{EntryRead}
+use Rattle.kbm_read.specs.declared.line.EntryRead.the-variants as entry
+use Rattle.kbm_read.specs.declared.line.Head.{Head}
+use Rattle.kbm_read.specs.declared.line.State.{State}
+pub use Rattle.kbm_read.specs.Steps.{saysStep, goesOn, takeSize, takeFirst, takeLast, takeMiddle, takeReference, decimalRefused, pitchSaid, takePitch, takeOctave, isCross, degreeIn, entryPlaced, takeEntry, takeDue, takeMeaning, foundEntry, foundIn}
+unfoldable pub use Rattle.kbm_read.specs.Steps.{entryIn, takeToken}
 
 -- which required line is missing, counted from 1; 0 for none
 abbrev pub whichOf : Due → ℕ

@@ -1,18 +1,20 @@
 // The reader of keyboard mappings. Document 01, "Lines" and "Mapping"; the Rust's `import_kbm`.
 //
 // A first pass goes over the lines and finds the mapping or the first fault; a second, which cannot fail, writes the entries.
+pub mod line;
+
+use crate::line::Due;
+use crate::line::Found;
+use crate::line::Head;
+use crate::line::State;
+use crate::line::Step;
+use crate::line::found_in;
+use crate::line::take_line;
 use base::Refusal;
 use kbm::Entry;
 use kbm::Kbm;
 use kbm::KbmAnswer;
 use kbm::KbmRoot;
-use kbm_line::Due;
-use kbm_line::Found;
-use kbm_line::Head;
-use kbm_line::State;
-use kbm_line::Step;
-use kbm_line::found_in;
-use kbm_line::take_line;
 use key::PianoKey;
 use pitch::Pitch;
 use text::line::read_line;

@@ -179,7 +179,7 @@ pub fn sounds_of(scale: Scale, mapping: Mapping) -> Sounds {
     let map = mapping.map;
     let mut hz = [0.0; MOST];
     let mut numbers = [base::UNUSABLE; MOST];
-    key_pitches::pitches_of(
+    tuning::key_pitches::pitches_of(
         scale.scl,
         &kind,
         &cents,

@@ -3,7 +3,7 @@ use mathlib.Core.Path.{_≡_, refl}
 use mathlib.Core.Bool.{Bool, true, false}
 use Prim.Native.Nat.{ℕ}
 use Rattle.base.specs.Said.{Said, gives, refuses, pick, andThen}
-use Rattle.reduction.proofs.Answered.{never}
+use Rattle.scl_tables.proofs.Answered.{never}
 
 pub then-given : {A B : Type 0} (s : Said A) (f : A → Said B) {v : B} → andThen s f ≡ gives v → (a : A) × ((s ≡ gives a) × (f a ≡ gives v))
 then-given (gives a) f e = (a, (refl, e))

@@ -15,7 +15,7 @@ use Rattle.scl.specs.Items.{denomOf, ratioOf}
 use Rattle.scl.specs.declared.Item.{Item}
 use Rattle.scl.specs.declared.Item.the-variants.{Cents, Fraction}
 use Rattle.scl.proofs.Items.{Ratio, powers-ratio, ratio-reach}
-use Rattle.reduction.proofs.Answered.{never}
+use Rattle.scl_tables.proofs.Answered.{never}
 use Rattle.relative.proofs.Back.{pick-given}
 
 pub record Float64 (r : Float) : Type 0 where

@@ -12,7 +12,7 @@ use Rattle.pitch.specs.Ratios.{centsF, fromOctaves, asOctaves, repeated, stretc
 use Rattle.scl.specs.Items.{denomOf, ratioOf}
 use Rattle.scl.specs.declared.Item.{Item}
 use Rattle.scl.specs.declared.Item.the-variants.{Cents, Fraction}
-use Rattle.reduction.proofs.Reaches.{log-gives}
+use Rattle.scl_tables.proofs.Reaches.{log-gives}
 use Rattle.relative.specs.Refusals.{ReachedOrBeyond, reached, beyond}
 use Rattle.relative.specs.Relative.{stretched}
 

@@ -35,7 +35,7 @@ pub fn ratio_at(
     requires { ⌜ (isItems count (itemTable (now kind) (now cents) (now numer) (now denom)) ≡ true) × (i ≤ count) ⌝ }
     ensures { λ r. ⌜ (gives r ≡ ratioOf (getD (itemsIn count (itemTable (now (kind .entry)) (now (cents .entry)) (now (numer .entry)) (now (denom .entry)))) i noItem)) × (inReach r ≡ true) ⌝ }
 {
-    reduction::ratio_of(scl::item_at(kind, cents, numer, denom, i))
+    scl_tables::reduction::ratio_of(scl::item_at(kind, cents, numer, denom, i))
 }
 
 // How many whole periods a degree lies above place 0.

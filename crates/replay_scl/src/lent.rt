@@ -87,5 +87,5 @@ pub fn find<'i>(
     target: Ratio,
     sorted: bool,
 ) -> DegreeSearch {
-    entry_search::find_in_entries(scl, kind, cents, numer, denom, &list, target, sorted)
+    entries::search::find_in_entries(scl, kind, cents, numer, denom, &list, target, sorted)
 }

@@ -6,8 +6,8 @@ use frozen::say;
 use kbm::Kbm;
 use key::Degree;
 use key::PianoKey;
-use key_pitches::RunAnswer;
 use scl::Scl;
+use tuning::key_pitches::RunAnswer;
 
 fn mapping(line: &[u8]) -> Kbm {
     Kbm {
@@ -59,7 +59,7 @@ fn say_run(k: &[u8], e: &[f64], n: &[u32], d: &[u32], line: &[u8]) {
     let map = entries(line);
     let mut hz = [0.5; 8];
     let mut numbers = [99u32; 8];
-    say_done(key_pitches::pitches_of(
+    say_done(tuning::key_pitches::pitches_of(
         scl,
         k,
         e,

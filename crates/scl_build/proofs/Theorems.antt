@@ -11,7 +11,7 @@ use borrow.Author.Tests.{lt-ltb, leb-true, le-leb}
 use Rattle.base.specs.Numbers.{too-large, unusable, beyond-reach}
 use Rattle.base.specs.Said.{Said, gives, refuses, pick}
 use Rattle.base.proofs.Said.{One, Split, one-result, one-plain}
-use Rattle.reduction.proofs.Answered.{never}
+use Rattle.scl_tables.proofs.Answered.{never}
 use Rattle.floats.specs.Floats.{oneF}
 use Rattle.sorting.specs.Entries.{Entry}
 use Rattle.sorted.specs.Lent.{ListTable}

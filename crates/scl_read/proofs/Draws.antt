@@ -12,7 +12,7 @@ use Rattle.base.proofs.Said.{no-value}
 use Rattle.listing.specs.Drawn.{Drawn, Ample}
 use Rattle.listing.proofs.Ample.{not-no-room, says-few, fault-drawn, fault-stays}
 use Rattle.scl.specs.declared.Item.{Item}
-use Rattle.scl_line.specs.ItemText.{NoItem}
+use Rattle.scl_read.specs.ItemText.{NoItem}
 use Rattle.sorting.specs.Entries.{Entry}
 use Rattle.scl_read.specs.Language.{Required, Line, scale, Values, Wrong, ScaleText, IsScale, WrongEnd, FaultText}
 use Rattle.scl_read.specs.Reader.{givenIn, scaleRead, readOf}

@@ -17,8 +17,8 @@ use Rattle.listing.specs.Listing as listing
 use Rattle.scl.specs.Items.{AllHeld}
 use Rattle.scl.specs.Table.{implicit, areUsable}
 use Rattle.scl.specs.declared.Item.{Item}
-use Rattle.scl_line.proofs.Language.{item-is}
-use Rattle.scl_line.specs.Tokens.{itemIn}
+use Rattle.scl_read.proofs.ItemLanguage.{item-is}
+use Rattle.scl_read.specs.Tokens.{itemIn}
 use Rattle.scl_tables.proofs.Beyond.{scale-looks, sorted-given}
 use Rattle.scl_tables.proofs.Theorems.{list-given}
 use Rattle.scl_tables.specs.Build.{countOf, lastOf, sortedOf, scaleOf, isBeyond}

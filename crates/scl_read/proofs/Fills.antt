@@ -13,13 +13,13 @@ use Rattle.scl.proofs.Table.{Roomy, first}
 use Rattle.scl.proofs.Writing.{first-written}
 use Rattle.scl.specs.Table.{ItemTable, itemsOf, implicit, writtenAt}
 use Rattle.scl.specs.declared.Item.{Item}
-use Rattle.scl_line.specs.Tokens.{itemIn}
-use Rattle.scl_line.specs.declared.item.ItemRead.{ItemRead}
-use Rattle.scl_line.specs.declared.item.ItemRead.the-variants as item
+use Rattle.scl_read.specs.Tokens.{itemIn}
+use Rattle.scl_read.specs.declared.item.ItemRead.{ItemRead}
+use Rattle.scl_read.specs.declared.item.ItemRead.the-variants as item
 use Rattle.text.specs.Reading.{Meaning, invalid, blank, comment, content}
 use Rattle.scl_read.specs.Reader.{foundItem, foundIn, listed, givenFrom, written}
-use Rattle.scl_line.specs.declared.Found.{Found}
-use Rattle.scl_line.specs.declared.Found.the-variants as found
+use Rattle.scl_read.specs.declared.line.Found.{Found}
+use Rattle.scl_read.specs.declared.line.Found.the-variants as found
 
 -- ONE ITEM MORE, after those that are written
 pub written-snoc : (t : ItemTable) (k : ℕ) (xs : List Item) (y : Item) → written t k (xs ++ y ∷ []) ≡ writtenAt (written t k xs) (k + length xs) y

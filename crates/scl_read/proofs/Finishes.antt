@@ -7,7 +7,7 @@ use Rattle.base.specs.Numbers.{line-missing, too-large, inconsistent-count, bey
 use Rattle.base.specs.Said.{gives, refuses}
 use Rattle.scl_tables.specs.Build.{isBeyond}
 use Rattle.scl_read.specs.Reader.{whichOf, finished}
-use Rattle.scl_line.specs.declared.State.{State}
+use Rattle.scl_read.specs.declared.line.State.{State}
 
 -- after the last line: w is the required line that is missing
 module _ (s : State) {w : ℕ} (p : w ≡ whichOf (s .due)) where

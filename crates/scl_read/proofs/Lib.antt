@@ -10,3 +10,8 @@ pub mod Theorems
 pub mod Samples
 pub mod Numbers
 pub mod Draws
+pub mod Finds
+pub mod ItemLanguage
+pub mod Takes
+pub mod LineTheorems
+pub mod TokenReads

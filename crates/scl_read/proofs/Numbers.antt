@@ -19,16 +19,16 @@ use Rattle.scl.specs.Items.{isUsable}
 use Rattle.scl.specs.declared.Denom.the-variants.{Given, Lacking}
 use Rattle.scl.specs.declared.Item.{Item}
 use Rattle.scl.specs.declared.Item.the-variants.{Cents, Fraction}
-use Rattle.scl_line.specs.Tokens.{placeOf, usableItem, centsIn, overDenom, fractionIn, wholeIn, slashedIn, itemIn}
-use Rattle.scl_line.specs.declared.item.ItemRead.{ItemRead}
-use Rattle.scl_line.specs.declared.item.ItemRead.the-variants.{Is, IsNot}
+use Rattle.scl_read.specs.Tokens.{placeOf, usableItem, centsIn, overDenom, fractionIn, wholeIn, slashedIn, itemIn}
+use Rattle.scl_read.specs.declared.item.ItemRead.{ItemRead}
+use Rattle.scl_read.specs.declared.item.ItemRead.the-variants.{Is, IsNot}
 use Rattle.scl_tables.specs.Build.{isBeyond}
 use Rattle.text.specs.ReadLine.{saidIn}
 use Rattle.text.specs.Reading.{Meaning, invalid, blank, comment, content}
 use Rattle.scl_read.specs.Reader.{itemPlaced, takeDue, takeToken, takeMeaning, whichOf, finished, walk, unread, scaleRead, readOf}
-use Rattle.scl_line.specs.declared.Due.{Due}
-use Rattle.scl_line.specs.declared.Due.the-variants as due
-use Rattle.scl_line.specs.declared.State.{State}
+use Rattle.scl_read.specs.declared.line.Due.{Due}
+use Rattle.scl_read.specs.declared.line.Due.the-variants as due
+use Rattle.scl_read.specs.declared.line.State.{State}
 
 -- ---- an item, or a number of 01's
 abbrev Known : ItemRead → Type 0

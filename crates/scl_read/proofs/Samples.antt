@@ -15,7 +15,7 @@ use Rattle.listing.specs.Reader.{walkLines, givenAfter}
 use Rattle.numerals.specs.Scan.{runOf, spelled, scanOf}
 use Rattle.scl.specs.declared.Denom.the-variants.{Given}
 use Rattle.scl.specs.declared.Item.the-variants.{Cents, Fraction}
-use Rattle.scl_line.specs.Tokens.{placeOf, itemIn}
+use Rattle.scl_read.specs.Tokens.{placeOf, itemIn}
 use Rattle.scl_tables.specs.Build.{isBeyond}
 use Rattle.text.specs.Cut.{lines}
 use Rattle.text.specs.Placed.{startsFrom, placedBy}

@@ -22,18 +22,18 @@ use Rattle.listing.proofs.Language.{atStart}
 use Rattle.listing.proofs.Walks.{Reads, Place, placed, wordOn, stepOn, endOn, walkOn}
 use Rattle.scl.specs.Table.{noItem, implicit}
 use Rattle.scl.specs.declared.Item.{Item}
-use Rattle.scl_line.proofs.Language.{is-item, item-is, is-no-item, no-item-is}
-use Rattle.scl_line.specs.ItemText.{ItemText, NoItem}
-use Rattle.scl_line.specs.Tokens.{itemIn, itemAt}
-use Rattle.scl_line.specs.declared.item.ItemRead.{ItemRead}
-use Rattle.scl_line.specs.declared.item.ItemRead.the-variants as item
+use Rattle.scl_read.proofs.ItemLanguage.{is-item, item-is, is-no-item, no-item-is}
+use Rattle.scl_read.specs.ItemText.{ItemText, NoItem}
+use Rattle.scl_read.specs.Tokens.{itemIn, itemAt}
+use Rattle.scl_read.specs.declared.item.ItemRead.{ItemRead}
+use Rattle.scl_read.specs.declared.item.ItemRead.the-variants as item
 use Rattle.scl_tables.specs.Build.{lastOf, isBeyond}
 use Rattle.text.specs.Reading.{Meaning, invalid, blank, comment, content}
 use Rattle.scl_read.specs.Language.{Required, required, Line, Value, Gives, Wrong, scale}
 use Rattle.scl_read.specs.Reader.{itemPlaced, takeCount, takeDue, takeToken, takeMeaning, whichOf, finished, unread, walk}
-use Rattle.scl_line.specs.declared.Due.{Due}
-use Rattle.scl_line.specs.declared.Due.the-variants as due
-use Rattle.scl_line.specs.declared.State.{State}
+use Rattle.scl_read.specs.declared.line.Due.{Due}
+use Rattle.scl_read.specs.declared.line.Due.the-variants as due
+use Rattle.scl_read.specs.declared.line.State.{State}
 
 -- ---- what the required lines say
 pub record Head : Type 0 where

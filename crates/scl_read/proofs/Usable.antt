@@ -17,18 +17,18 @@ use Rattle.listing.specs.Reader.{givenAfter}
 use Rattle.scl.specs.Items.{isUsable, Held, AllHeld}
 use Rattle.scl.specs.Table.{implicit, areUsable}
 use Rattle.scl.specs.declared.Item.{Item}
-use Rattle.scl_line.proofs.Language.{is-item}
-use Rattle.scl_line.specs.ItemText.{ItemText}
-use Rattle.scl_line.specs.Tokens.{itemIn}
-use Rattle.scl_line.specs.declared.item.ItemRead.{ItemRead}
-use Rattle.scl_line.specs.declared.item.ItemRead.the-variants as item
+use Rattle.scl_read.proofs.ItemLanguage.{is-item}
+use Rattle.scl_read.specs.ItemText.{ItemText}
+use Rattle.scl_read.specs.Tokens.{itemIn}
+use Rattle.scl_read.specs.declared.item.ItemRead.{ItemRead}
+use Rattle.scl_read.specs.declared.item.ItemRead.the-variants as item
 use Rattle.text.specs.Reading.{Meaning, invalid, blank, comment, content}
 use Rattle.scl_read.specs.Reader.{saysStep, itemPlaced, takeCount, takeDue, takeToken, takeMeaning, listed, givenFrom}
-use Rattle.scl_line.specs.declared.Due.{Due}
-use Rattle.scl_line.specs.declared.Due.the-variants as due
-use Rattle.scl_line.specs.declared.State.{State}
-use Rattle.scl_line.specs.declared.Step.{Step}
-use Rattle.scl_line.specs.declared.Step.the-variants as step
+use Rattle.scl_read.specs.declared.line.Due.{Due}
+use Rattle.scl_read.specs.declared.line.Due.the-variants as due
+use Rattle.scl_read.specs.declared.line.State.{State}
+use Rattle.scl_read.specs.declared.line.Step.{Step}
+use Rattle.scl_read.specs.declared.line.Step.the-variants as step
 
 -- an item of the language
 pub item-usable : {t : List ℕ} {i : Item} → ItemText t i → isUsable i ≡ true

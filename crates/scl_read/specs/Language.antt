@@ -14,7 +14,7 @@ use Rattle.listing.specs.Listing.{Format}
 use Rattle.listing.specs.Listing as listing
 use Rattle.scl.specs.Table.{implicit}
 use Rattle.scl.specs.declared.Item.{Item}
-use Rattle.scl_line.specs.ItemText.{ItemText, NoItem}
+use Rattle.scl_read.specs.ItemText.{ItemText, NoItem}
 use Rattle.scl_tables.specs.Build.{scaleOf}
 use Rattle.sorting.specs.Entries.{Entry}
 use Rattle.text.specs.Reading.{Meaning, Says, strict}

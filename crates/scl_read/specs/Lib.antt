@@ -1,2 +1,5 @@
 pub mod Language
 pub mod Reader
+pub mod ItemText
+pub mod Steps
+pub mod Tokens

@@ -8,9 +8,9 @@ use Rattle.base.specs.Said.{Said, gives, refuses, refusal, pick, andThen}
 use Rattle.listing.specs.Reader.{walkLines, givenAfter}
 use Rattle.scl.specs.Table.{ItemTable, implicit, writtenAt}
 use Rattle.scl.specs.declared.Item.{Item}
-use Rattle.scl_line.specs.Tokens.{itemIn}
-use Rattle.scl_line.specs.declared.item.ItemRead.{ItemRead}
-use Rattle.scl_line.specs.declared.item.ItemRead.the-variants as item
+use Rattle.scl_read.specs.Tokens.{itemIn}
+use Rattle.scl_read.specs.declared.item.ItemRead.{ItemRead}
+use Rattle.scl_read.specs.declared.item.ItemRead.the-variants as item
 use Rattle.scl_tables.specs.Build.{sortedOf, isBeyond, afterList}
 use Rattle.scl_tables.specs.Room.{roomOf}
 use Rattle.sorted.specs.Lent.{ListTable}
@@ -23,11 +23,11 @@ use Rattle.scl_read.specs.declared.Description.{Description}
 use Rattle.scl_read.specs.declared.SclRead.{SclRead}
 use Rattle.scl_read.specs.declared.SclReadAnswer.{SclReadAnswer}
 use Rattle.scl_read.specs.declared.SclReadAnswer.the-variants as answer
-use Rattle.scl_line.specs.declared.Due.{Due}
-use Rattle.scl_line.specs.declared.Due.the-variants as due
-use Rattle.scl_line.specs.declared.State.{State}
-pub use Rattle.scl_line.specs.Steps.{saysStep, takeCount, itemPlaced, takeItem, takeDue, takeMeaning, foundItem, foundIn}
-unfoldable pub use Rattle.scl_line.specs.Steps.{takeToken}
+use Rattle.scl_read.specs.declared.line.Due.{Due}
+use Rattle.scl_read.specs.declared.line.Due.the-variants as due
+use Rattle.scl_read.specs.declared.line.State.{State}
+pub use Rattle.scl_read.specs.Steps.{saysStep, takeCount, itemPlaced, takeItem, takeDue, takeMeaning, foundItem, foundIn}
+unfoldable pub use Rattle.scl_read.specs.Steps.{takeToken}
 
 -- what a read says
 abbrev pub saysRead : SclReadAnswer → Said SclRead

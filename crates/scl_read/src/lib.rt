@@ -2,16 +2,19 @@
 //
 // A first pass goes over the lines and finds the scale or the first fault; a second, which cannot fail, writes the items, and the
 // sorted list is built of them; a third, to the first line with content, finds the description (`description_of`).
+pub mod item;
+pub mod line;
+
+use crate::line::Due;
+use crate::line::Found;
+use crate::line::State;
+use crate::line::Step;
+use crate::line::found_in;
+use crate::line::take_line;
 use base::Refusal;
 use scl::Item;
 use scl::Scl;
 use scl::SclAnswer;
-use scl_line::Due;
-use scl_line::Found;
-use scl_line::State;
-use scl_line::Step;
-use scl_line::found_in;
-use scl_line::take_line;
 use text::line::LineSays;
 use text::line::read_line;
 use text::lines::next_line;

@@ -29,17 +29,17 @@ use Rattle.sorted.proofs.Facts.{arranged-length, arranged-all}
 use Rattle.sorted.proofs.Usable.{InReach, arranged-usable}
 use Rattle.scl.specs.Items.{isUsable, denomOf, ratioOf, Held, AllHeld}
 use Rattle.scl.specs.Table.{areUsable, noItem}
-use Rattle.reduction.specs.Reduce.{reducedBy}
+use Rattle.scl_tables.specs.Reduce.{reducedBy}
 use Rattle.scl_tables.specs.Build.{entry, entryOf, entriesFrom, overridden, lastOf, countOf, sortedOf, scaleOf, isNone, isBeyond}
 use Rattle.scl.specs.declared.Item.{Item}
 use Rattle.scl.specs.declared.Item.the-variants.{Cents, Fraction}
-use Rattle.reduction.specs.declared.Reduced.{Reduced}
-use Rattle.reduction.proofs.Answered.{never}
+use Rattle.scl_tables.specs.declared.reduction.Reduced.{Reduced}
+use Rattle.scl_tables.proofs.Answered.{never}
 use Rattle.scl.proofs.Items.{Ratio, item-ratio, ratio-reach}
 use Rattle.scl.proofs.Table.{both, usable-at}
 use Rattle.scl_tables.proofs.Override.{turned}
 use Rattle.floats.proofs.Between.{inverse-within, within-more, within-reach}
-use Rattle.reduction.proofs.Reaches.{log-gives, period-one, Reaches, reduced-reaches}
+use Rattle.scl_tables.proofs.Reaches.{log-gives, period-one, Reaches, reduced-reaches}
 
 -- a value is given
 pub record Given {A : Type 0} (s : Said A) : Type 0 where

@@ -18,10 +18,10 @@ use Rattle.sorted.specs.Lent.{AllInReach, from}
 use Rattle.sorted.proofs.Numbering.{length-from, from-snoc}
 use Rattle.scl.specs.Items.{ratioOf}
 use Rattle.scl.specs.Table.{noItem}
-use Rattle.reduction.specs.Reduce.{reducedBy}
+use Rattle.scl_tables.specs.Reduce.{reducedBy}
 use Rattle.scl_tables.specs.Build.{entry, entryOf, entriesFrom}
 use Rattle.scl.specs.declared.Item.{Item}
-use Rattle.reduction.specs.declared.Reduced.{Reduced}
+use Rattle.scl_tables.specs.declared.reduction.Reduced.{Reduced}
 
 -- ---- one entry
 pub entry-told : (period : Float) (i : ℕ) (item : Item) {r : Float} {x : Reduced} → gives r ≡ ratioOf item → gives x ≡ reducedBy period r → gives (entry i (x .ratio) (x .wraps)) ≡ entryOf period i item

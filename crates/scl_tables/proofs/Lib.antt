@@ -5,3 +5,5 @@ pub mod Beyond
 pub mod Parts
 pub mod Numbers
 pub mod Theorems
+pub mod Answered
+pub mod Reaches

@@ -13,7 +13,7 @@ use Rattle.remainder.specs.Euclid.{remEuclid, divEuclid}
 use Rattle.scl.specs.declared.Item.{Item}
 use Rattle.pitch.proofs.Numbers.{log-numbered, from-octaves-numbered, inverse-numbered}
 use Rattle.scl.proofs.Numbers.{as-ratio-numbered}
-use Rattle.reduction.specs.Reduce.{reducedBy}
+use Rattle.scl_tables.specs.Reduce.{reducedBy}
 use Rattle.scl_tables.specs.Build.{entryOf, entriesFrom, lastOf, countOf, sortedOf, scaleOf, sizedOf}
 
 count-numbered : (q : Float) → Numbered (count q)

@@ -7,9 +7,10 @@ use Prim.Native.Nat.{ℕ, zero, suc, _+_, _-_, _≤_, _<_}
 use native.Mathlib.Nat.{le-of-suc-le-suc, not-suc-le-zero}
 use native.Mathlib.Omega.{arith}
 use lib.ListN.{length, take, drop, length-append}
-use lib.Ieee.{Float}
+use lib.Ieee.{Float, binary64, fits}
+use lib.Dec.{lit≤}
 use Rattle.base.specs.Numbers.{beyond-reach}
-use Rattle.base.specs.Said.{gives, refuses}
+use Rattle.base.specs.Said.{gives, refuses, Said}
 use Rattle.base.specs.Tables.{over}
 use Rattle.base.proofs.Said.{One, one-result, same-value}
 use Rattle.floats.specs.Floats.{oneF}
@@ -21,9 +22,17 @@ use Rattle.sorted.proofs.Lists.{have-list, at-within}
 use Rattle.scl.specs.Items.{ratioOf, AllHeld}
 use Rattle.scl.specs.Table.{ItemTable, itemOf, areUsable, writtenAt}
 use Rattle.scl.specs.declared.Item.{Item}
+use Rattle.floats.specs.Ranges.{inReach}
+use Rattle.floats.proofs.Between.{within-reach}
+use Rattle.floats.proofs.Ranges.{reach-says}
+use Rattle.explog.specs.Rules.{L}
 use Rattle.scl_tables.specs.Build.{lastOf, countOf, sortedOf, scaleOf, isBeyond, afterList}
 use Rattle.scl_tables.specs.Room.{roomOf}
 use Rattle.scl_tables.proofs.Beyond.{Fine, Leaves, period-ratio, beyond-is, within-is, sorted-given, sorted-leaves}
+use Rattle.scl_tables.specs.Reduce.{IsPeriod, reducedBy}
+use Rattle.scl_tables.specs.declared.reduction.Period.{Period}
+use Rattle.scl_tables.specs.declared.reduction.Reduced.{Reduced}
+use Rattle.scl_tables.proofs.Reaches.{reduced-reaches}
 
 module _ (items : List Item) (some : 0 < length items) (h : AllHeld items) (u : areUsable items ≡ true) where
   -- "Reading or building a scale of two or more items gives 18 [..] exactly when L(period) = 0, a wraparound count leaves i32, or
@@ -91,3 +100,26 @@ build-list-one items l = one-result (afterList (sortedOf items) l)
 
 pub is-beyond-one : (count : ℕ) (last : Item) → One (λ r. r) (isBeyond count last)
 is-beyond-one count last = one-result (isBeyond count last)
+
+-- of ratios in 2^-900..2^900 no reduction gives 18, and the reduced ratio lies there too
+pub reduction-given : (period ratio : Float) → fits binary64 period ≡ true → fits binary64 ratio ≡ true → inReach period ≡ true → inReach ratio ≡ true
+    → (x : Reduced) × ((reducedBy period ratio ≡ gives x) × (inReach (x .ratio) ≡ true))
+reduction-given period ratio fp fr p r =
+    let t = reduced-reaches 900 period ratio (lit≤ tt) fp fr (reach-says period p) (reach-says ratio r) in
+    (t .value, (t .is, within-reach (t .between)))
+
+-- ---- two results of one input are equal
+given-one : {A : Type 0} (s : Said A) → One gives s
+given-one s x y p q = same-value x y (p ∙ sym q)
+
+pub ratio-of-one : (i : Item) → One gives (ratioOf i)
+ratio-of-one i = given-one (ratioOf i)
+
+pub reduce-one : (period ratio : Float) → One gives (reducedBy period ratio)
+reduce-one period ratio = given-one (reducedBy period ratio)
+
+pub period-of-one : (ratio : Float) (x y : Period) → (x .ratio ≡ ratio) × IsPeriod x → (y .ratio ≡ ratio) × IsPeriod y → x ≡ y
+period-of-one ratio x y p q =
+    let r : x .ratio ≡ y .ratio = p .0 ∙ sym (q .0) in
+    let o : x .octaves ≡ y .octaves = same-value (x .octaves) (y .octaves) (sym (p .1 .octaves) ∙ (λ i. L (r i)) ∙ q .1 .octaves) in
+    λ i. record { ratio = r i; octaves = o i }

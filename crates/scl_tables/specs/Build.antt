@@ -19,7 +19,7 @@ use Rattle.sorted.specs.Repeats.{arranged}
 use Rattle.scl.specs.Items.{ratioOf}
 use Rattle.scl.specs.Table.{noItem}
 use Rattle.scl.specs.declared.Item.{Item}
-use Rattle.reduction.specs.Reduce.{reducedBy}
+use Rattle.scl_tables.specs.Reduce.{reducedBy}
 
 abbrev pub entry : ℕ → Float → ℤ → Entry
 entry place ratio wraps = record { place = place; ratio = ratio; wraps = wraps }

@@ -1,3 +1,4 @@
 pub mod Room
 pub mod Build
 pub mod Writing
+pub mod Reduce

@@ -2,8 +2,10 @@
 // `push_pitch_value` and `SclBuilder::build`; document 01, "Scales and searches".
 //
 // An inner crate: what it asks of the tables, the builder, the reader and the generators have made sure of.
-use reduction::Period;
-use reduction::Reduced;
+pub mod reduction;
+
+use crate::reduction::Period;
+use crate::reduction::Reduced;
 use scl::Denom;
 use scl::Item;
 ghost use mathlib.Core.Path.{_≡_};
@@ -19,7 +21,7 @@ ghost use Rattle.sorting.specs.Entries.{zip};
 ghost use Rattle.sorted.specs.Lent.{AllInReach, from, listTable};
 ghost use Rattle.scl.specs.Items.{isUsable, ratioOf};
 ghost use Rattle.scl.specs.Table.{itemOf, itemsOf, itemsIn, itemTable, areUsable, isItems, writtenAt};
-ghost use Rattle.reduction.specs.Reduce.{IsPeriod};
+ghost use Rattle.scl_tables.specs.Reduce.{IsPeriod};
 ghost use Rattle.scl_tables.specs.Build.{entry, entryOf, entriesFrom, lastOf, sortedOf, isBeyond, isGiven, afterList};
 ghost use Rattle.scl_tables.specs.Room.{roomOf};
 ghost use Rattle.scl_tables.specs.Writing.{storedOf};

@@ -25,9 +25,9 @@ use Rattle.scl.specs.Items.{AllHeld}
 use Rattle.scl.specs.Table.{areUsable}
 use Rattle.scl.specs.declared.Item.{Item}
 use Rattle.scl.proofs.Items.{ratio-reach}
-use Rattle.reduction.specs.Reduce.{reducedBy}
-use Rattle.reduction.specs.declared.Reduced.{Reduced}
-use Rattle.reduction.proofs.Reaches.{log-gives, period-one, reduced-reaches}
+use Rattle.scl_tables.specs.Reduce.{reducedBy}
+use Rattle.scl_tables.specs.declared.reduction.Reduced.{Reduced}
+use Rattle.scl_tables.proofs.Reaches.{log-gives, period-one, reduced-reaches}
 use Rattle.scl_tables.proofs.Beyond.{Given, Fine, Leaves, period-ratio}
 use Rattle.relative.specs.Scales.{noEntry}
 use Rattle.searching.specs.Search.{tolerance, choice, chosenOf, clamped, upperOf, indexOf, foundAt, nearestOf, searchOf}

@@ -17,7 +17,7 @@ use Rattle.pitch.specs.Ratios.{stretchedBy, deviationFrom, inverse}
 use Rattle.sorting.specs.Entries.{Entry}
 use Rattle.scl.specs.Items.{ratioOf}
 use Rattle.scl.specs.declared.Item.{Item}
-use Rattle.reduction.specs.Reduce.{reducedBy}
+use Rattle.scl_tables.specs.Reduce.{reducedBy}
 use Rattle.scl_tables.specs.Build.{lastOf, countOf}
 use Rattle.relative.specs.Scales.{noEntry}
 use Rattle.searching.specs.Search.{tolerance, choice, chosenOf, indexOf, foundAt, nearestAt, nearestOf, upperOf, searchOf}

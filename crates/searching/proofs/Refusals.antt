@@ -22,8 +22,8 @@ use Rattle.sorted.specs.Lent.{ListTable, ratiosOf, listIn, firstNotBelow, isLis
 use Rattle.scl.specs.Items.{ratioOf}
 use Rattle.scl.specs.Table.{ItemTable, itemsIn, isItems}
 use Rattle.scl.specs.declared.Item.{Item}
-use Rattle.reduction.specs.Reduce.{reducedTo, reducedOctaves, reducedBy}
-use Rattle.reduction.proofs.Reaches.{reduced-reach}
+use Rattle.scl_tables.specs.Reduce.{reducedTo, reducedOctaves, reducedBy}
+use Rattle.scl_tables.proofs.Reaches.{reduced-reach}
 use Rattle.scl_tables.specs.Build.{lastOf, countOf}
 use Rattle.relative.specs.Refusals.{ReachedOrBeyond}
 use Rattle.relative.specs.Scales.{noEntry}

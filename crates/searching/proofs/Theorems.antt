@@ -23,9 +23,9 @@ use Rattle.sorted.specs.Lent.{ListTable, listIn, isList}
 use Rattle.scl.specs.Items.{ratioOf}
 use Rattle.scl.specs.Table.{ItemTable, itemsIn, isItems}
 use Rattle.scl.specs.declared.Item.{Item}
-use Rattle.reduction.specs.Reduce.{reducedBy}
-use Rattle.reduction.proofs.Answered.{never}
-use Rattle.reduction.proofs.Reaches.{reduced-reach}
+use Rattle.scl_tables.specs.Reduce.{reducedBy}
+use Rattle.scl_tables.proofs.Answered.{never}
+use Rattle.scl_tables.proofs.Reaches.{reduced-reach}
 use Rattle.scl_tables.specs.Build.{lastOf, countOf}
 use Rattle.relative.specs.Scales.{noEntry}
 use Rattle.relative.proofs.Back.{then-given, pick-other}

@@ -12,8 +12,8 @@ use Rattle.base.specs.Said.{gives}
 use Rattle.sorting.specs.Entries.{Entry}
 use Rattle.scl.specs.Items.{ratioOf}
 use Rattle.scl.specs.declared.Item.{Item}
-use Rattle.reduction.specs.Reduce.{reducedBy}
-use Rattle.reduction.specs.declared.Reduced.{Reduced}
+use Rattle.scl_tables.specs.Reduce.{reducedBy}
+use Rattle.scl_tables.specs.declared.reduction.Reduced.{Reduced}
 use Rattle.scl_tables.specs.Build.{lastOf}
 use Rattle.relative.specs.Scales.{noEntry}
 use Rattle.searching.specs.Search.{tolerance, foundAt, upperOf}

@@ -16,7 +16,7 @@ use Rattle.sorting.specs.Entries.{Entry}
 use Rattle.sorted.specs.Lent.{ratiosOf, firstNotBelow}
 use Rattle.scl.specs.Items.{ratioOf}
 use Rattle.scl.specs.declared.Item.{Item}
-use Rattle.reduction.specs.Reduce.{reducedBy}
+use Rattle.scl_tables.specs.Reduce.{reducedBy}
 use Rattle.scl_tables.specs.Build.{lastOf, countOf}
 use Rattle.relative.specs.Scales.{noEntry}
 use Rattle.searching.specs.declared.Choice.{Choice}

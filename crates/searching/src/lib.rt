@@ -188,13 +188,13 @@ pub fn search(
         return FoundAnswer::Is(found_at(place, ratio, wraps, count, 0, 0, target));
     }
     let last = relative::ratio_at(kind, cents, numer, denom, count, count as usize);
-    let period = reduction::period_of(last);
+    let period = scl_tables::reduction::period_of(last);
     let size = period.octaves;
     let single = count == 1;
     let none = size == 0.0;
     if single & none {
         return FoundAnswer::Refused(OUT_OF_REACH);
     }
-    let reduced = reduction::reduce(period, target);
+    let reduced = scl_tables::reduction::reduce(period, target);
     nearest_entry(place, ratio, wraps, count, reduced.wraps, reduced.ratio)
 }

@@ -23,7 +23,7 @@ use Rattle.searching.specs.Refusals.{OrBeyond}
 use Rattle.searching.specs.Search.{chosenOf, nearestOf, searchOf}
 use Rattle.searching.proofs.Refusals.{reduced-or}
 use Rattle.finding.specs.Find.{pitchSearchFrom, pitchSearchOf}
-use Rattle.key_pitches.specs.Run.{runOf}
+use Rattle.tuning.specs.Run.{runOf}
 use Rattle.telbijan_tuning.specs.Tunings.{periodSaid, relativeSaid, sortedRelativeSaid, pitchSaid, keyPitchSaid, sortedPitchSaid, maybePitchSaid, maybeDegreePitchSaid}
 use Rattle.telbijan_tuning.specs.Searches.{findSaid, findSortedSaid, findPitchSaid, findPitchSortedSaid, findKeySaid}
 use Rattle.telbijan_answers.specs.Details.{Undetailed}

@@ -14,8 +14,7 @@ use Rattle.kbm.specs.declared.Kbm.{Kbm}
 use Rattle.kbm.specs.declared.KbmRoot.{KbmRoot}
 use Rattle.relative.proofs.Numbers as relative
 use Rattle.tuning.proofs.Numbers as tuning
-use Rattle.key_pitches.specs.Run.{runOf}
-use Rattle.key_pitches.proofs.Numbers as run
+use Rattle.tuning.specs.Run.{runOf}
 use Rattle.finding.proofs.Numbers as finding
 use Rattle.telbijan_tuning.specs.Tunings.{periodSaid, relativeSaid, sortedRelativeSaid, pitchSaid, keyPitchSaid, sortedPitchSaid, maybePitchSaid, maybeDegreePitchSaid}
 use Rattle.telbijan_tuning.specs.Searches.{findSaid, findSortedSaid, findPitchSaid, findPitchSortedSaid, findKeySaid}
@@ -46,7 +45,7 @@ pub maybe-pitch-of-degree-numbered : (count : ℕ) (t : ItemTable) (kbm : Kbm) (
 maybe-pitch-of-degree-numbered count t kbm map degree = tuning.maybe-pitch-of-degree-numbered count t kbm map degree
 
 pub pitches-of-numbered : (count : ℕ) (t : ItemTable) (kbm : Kbm) (map : List ℤ) (keys : ℕ) (pitches : List Float) (numbers : List ℕ) → Numbered (runOf count t kbm map keys (length pitches) (length numbers))
-pitches-of-numbered count t kbm map keys pitches numbers = run.run-numbered count t kbm map keys (length pitches) (length numbers)
+pitches-of-numbered count t kbm map keys pitches numbers = tuning.run-numbered count t kbm map keys (length pitches) (length numbers)
 
 -- ---- searches
 pub find-by-relative-pitch-numbered : (count : ℕ) (t : ItemTable) (l : ListTable) (target : Float) → Numbered (findSaid count t l target)

@@ -11,7 +11,7 @@ use Rattle.sorted.specs.Lent.{ListTable}
 use Rattle.scl.specs.Table.{ItemTable, itemsIn}
 use Rattle.kbm.specs.declared.Kbm.{Kbm}
 use Rattle.kbm.specs.declared.KbmRoot.{KbmRoot}
-use Rattle.key_pitches.specs.Run.{keyPitches, runOf, afterHz, afterNumbers}
+use Rattle.tuning.specs.Run.{keyPitches, runOf, afterHz, afterNumbers}
 use Rattle.telbijan_answers.specs.Interface.{result, kept, fieldOf}
 use Rattle.base.specs.Said.{Said}
 use Rattle.searching.specs.declared.approximation.Approximation.{Approximation}

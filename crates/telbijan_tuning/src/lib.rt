@@ -3,12 +3,12 @@ mod searches;
 
 use key::Degree;
 use key::PianoKey;
-use key_pitches::RunAnswer;
 use scl::Scl;
+use tuning::key_pitches::RunAnswer;
 ghost use mathlib.Core.Path.{_≡_};
 ghost use lib.ListN.{length};
 ghost use Rattle.key.specs.Keys.{key};
-ghost use Rattle.key_pitches.specs.Run.{saysRun, keyPitches, runOf, afterHz, afterNumbers};
+ghost use Rattle.tuning.specs.Run.{saysRun, keyPitches, runOf, afterHz, afterNumbers};
 ghost use Rattle.scl.specs.Table.{itemTable, itemsIn};
 ghost use Rattle.sorted.specs.Lent.{listTable};
 ghost use Rattle.telbijan_answers.specs.Interface.{result, kept};
@@ -278,7 +278,7 @@ pub extern "C" fn telbijan_pitches_of(
 {
     let scl = Scl { count };
     let kbm = telbijan_mappings::mapping_with(size, start, end, reference, hz, offset, octave);
-    let said = key_pitches::pitches_of(
+    let said = tuning::key_pitches::pitches_of(
         scl,
         kind,
         cents,

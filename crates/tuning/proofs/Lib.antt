@@ -1,2 +1,3 @@
 pub mod Theorems
 pub mod Numbers
+pub mod Run

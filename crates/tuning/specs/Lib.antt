@@ -1,2 +1,4 @@
 pub mod Keys
 pub mod Refusals
+pub mod Beside
+pub mod Run

@@ -2,6 +2,8 @@
 // searches".
 //
 // Every call tests the tables lent to it and the root first (10); then come the key's refusals, 11 for the root offset, 18.
+pub mod key_pitches;
+
 use integer_math::I32Answer;
 use kbm::DegreeAnswer;
 use kbm::Kbm;

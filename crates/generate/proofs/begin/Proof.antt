@@ -4,7 +4,7 @@ use mathlib.Core.Path.{_≡_, sym, _∙_, ap}
 use Rattle.scl.specs.Table.{itemTable}
 use Rattle.sorted.specs.Lent.{listTable}
 use Rattle.scl_build.specs.Answers.{saysBuilder}
-use Rattle.reduction.proofs.Answered.{told}
+use Rattle.scl_tables.proofs.Answered.{told}
 use Rattle.generate.proofs.Made.{begun, begun-none}
 use borrow.Author.Needs.{needs}
 use Rattle.generate.proofs.begin.Statement.{statement}

@@ -4,7 +4,7 @@ use mathlib.Core.Path.{_≡_, sym, _∙_, ap}
 use Prim.Native.Nat.{_<_, _^_}
 use native.Mathlib.Omega.{arith}
 use Rattle.base.specs.Said.{gives, refuses}
-use Rattle.reduction.proofs.Answered.{told}
+use Rattle.scl_tables.proofs.Answered.{told}
 use borrow.Author.Needs.{needs}
 use Rattle.harmonics.specs.Answers.{saysFraction}
 use Rattle.harmonics.proofs.Plans.{look-none, look-refused, look-given, last-usable}

@@ -4,7 +4,7 @@ use mathlib.Core.Path.{_≡_, sym, _∙_, ap, subst}
 use Prim.Native.Nat.{ℕ}
 use Rattle.base.specs.Said.{gives}
 use Rattle.base.proofs.Said.{and-then}
-use Rattle.reduction.proofs.Answered.{told}
+use Rattle.scl_tables.proofs.Answered.{told}
 use borrow.Author.Needs.{needs}
 use Rattle.harmonics.specs.Answers.{saysSteps}
 use Rattle.harmonics.specs.Segment.{segmentCount}

@@ -3,7 +3,7 @@
 use mathlib.Core.Path.{_≡_, sym, _∙_, ap}
 use Rattle.scl.specs.Table.{itemTable}
 use Rattle.scl_build.specs.Answers.{saysBuilder}
-use Rattle.reduction.proofs.Answered.{told}
+use Rattle.scl_tables.proofs.Answered.{told}
 use Rattle.harmonics.proofs.Pushes.{push-given, push-kept}
 use borrow.Author.Needs.{needs}
 use Rattle.harmonics.proofs.pushed.Statement.{statement}

@@ -29,7 +29,7 @@ use Rattle.explog.proofs.Reach.{log-sized, exp-within, sized-powers}
 use Rattle.pitch.specs.Given.{computed}
 use Rattle.pitch.specs.Ratios.{fromFloat, asOctaves, fromOctaves, dividedInto}
 use Rattle.scl.proofs.Items.{octaves-ratio}
-use Rattle.reduction.proofs.Reaches.{log-gives}
+use Rattle.scl_tables.proofs.Reaches.{log-gives}
 use Rattle.harmonics.specs.Segment.{float, intervalOf, stepsOf}
 use Rattle.harmonics.specs.declared.segment.Divisions.the-variants.{Into}
 use Rattle.harmonics.specs.declared.segment.Steps.the-variants.{Equal}

@@ -22,7 +22,7 @@ use Rattle.scl.specs.Items.{ratioOf, AllHeld}
 use Rattle.scl.specs.Table.{ItemTable, implicit, noItem, areUsable}
 use Rattle.scl.specs.declared.Item.{Item}
 use Rattle.scl.proofs.Items.{powers-ratio}
-use Rattle.reduction.proofs.Reaches.{log-gives}
+use Rattle.scl_tables.proofs.Reaches.{log-gives}
 use Rattle.scl_tables.specs.Build.{lastOf}
 use Rattle.scl_tables.specs.Room.{roomOf}
 use Rattle.harmonics.specs.Segment.{float, nearAt, stepsOf, segmentCount}

@@ -20,19 +20,18 @@ use Rattle.integers.specs.IntegerText.{IntText}
 use Rattle.printing.specs.PrintText.{wholeText}
 use Rattle.decimals.specs.declared.DecimalAnswer.the-variants as decimal
 use Rattle.integers.proofs.Language.{complete}
-use Rattle.kbm.specs.Table.{inI16}
+use Rattle.kbm.specs.Table.{inI16, AreI16}
 use Rattle.kbm.specs.declared.Entry.{Entry}
 use Rattle.kbm.specs.declared.Entry.the-variants.{Mapped, Unmapped}
 use Rattle.kbm.proofs.Entries.{mag-i16}
 use Rattle.listing.specs.Reader.{walkLines, givenAfter}
 use Rattle.kbm_read.specs.Reader.{isCross, entryIn, takeToken, finished, walk, unread, mappingOf, givenFrom}
-use Rattle.kbm_line.specs.declared.Due.the-variants as due
-use Rattle.kbm_line.specs.declared.EntryRead.the-variants as entry
-use Rattle.kbm_line.specs.declared.Head.{Head}
+use Rattle.kbm_read.specs.declared.line.Due.the-variants as due
+use Rattle.kbm_read.specs.declared.line.EntryRead.the-variants as entry
+use Rattle.kbm_read.specs.declared.line.Head.{Head}
 use Rattle.kbm_write.specs.Export.{entryTexts}
 use Rattle.writing.proofs.Plain.{selves}
 use Rattle.writing.proofs.Printed.{signed-reads}
-use Rattle.kbm.specs.Table.{AreI16}
 
 -- a printed integer of a type with a sign is read as that integer
 pub whole-value : (top : ℕ) (z : ℤ) → 0 < top → mag z < top → top < 10 ^ 18 → readInt true top (wholeText z) ≡ value z

@@ -18,7 +18,7 @@ use Rattle.white.specs.Trim.{widthBy, run}
 use Rattle.text.specs.Cut.{lines}
 use Rattle.text.specs.ReadLine.{tokenLength, meaningBy, meanings}
 use Rattle.listing.specs.Reader.{walkLines}
-use Rattle.scl_line.specs.Tokens.{placeOf, itemIn}
+use Rattle.scl_read.specs.Tokens.{placeOf, itemIn}
 use Rattle.scl_read.specs.Reader.{takeToken}
 use Rattle.promises.specs.samples.Samples.{Samples}
 

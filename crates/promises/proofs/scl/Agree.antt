@@ -13,7 +13,7 @@ use Rattle.decimals.proofs.Language.{gives-complete, leaves-complete, one-readi
 use Rattle.integers.specs.IntegerText.{Digits}
 use Rattle.listing.specs.Listing.{Words, GiveAll, Entries}
 use Rattle.scl.specs.declared.Item.{Item}
-use Rattle.scl_line.specs.ItemText.{Has, Free, U32Text, ItemText}
+use Rattle.scl_read.specs.ItemText.{Has, Free, U32Text, ItemText}
 use Rattle.scl_read.specs.Language.{Line, required, scale, Values, ScaleText}
 use Rattle.scl_write.specs.Published as P
 use Rattle.sorting.specs.Entries.{Entry}

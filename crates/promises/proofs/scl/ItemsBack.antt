@@ -21,7 +21,7 @@ use Rattle.scl.specs.declared.Item.{Item}
 use Rattle.scl.specs.declared.Item.the-variants.{Cents, Fraction}
 use Rattle.scl.proofs.Items.{usable-fraction}
 use Rattle.scl.proofs.Table.{both}
-use Rattle.scl_line.specs.ItemText.{Has, Free, U32Text, ItemText}
+use Rattle.scl_read.specs.ItemText.{Has, Free, U32Text, ItemText}
 use Rattle.scl_read.specs.Language.{Line, scale}
 use Rattle.scl_write.specs.Export.{itemText, itemTexts}
 use Rattle.scl_write.proofs.Bound.{cents-few}

@@ -14,7 +14,7 @@ use Rattle.scl.specs.Items.{Held}
 use Rattle.scl.specs.Table.{implicit}
 use Rattle.scl.specs.declared.Item.{Item}
 use Rattle.scl.specs.declared.Item.the-variants.{Cents, Fraction}
-use Rattle.scl_line.specs.ItemText.{ItemText}
+use Rattle.scl_read.specs.ItemText.{ItemText}
 use Rattle.scl_read.specs.Language.{Line, required, scale, ScaleText}
 use Rattle.scl_read.proofs.Ends.{lines-usable, lines-held}
 use Rattle.scl_read.proofs.Usable.{item-usable, item-held}

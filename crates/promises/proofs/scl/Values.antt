@@ -13,7 +13,7 @@ use Rattle.integers.specs.IntegerText.{Digits, IntText}
 use Rattle.scl.specs.declared.Denom.the-variants.{Given, Lacking}
 use Rattle.scl.specs.declared.Item.{Item}
 use Rattle.scl.specs.declared.Item.the-variants.{Cents, Fraction}
-use Rattle.scl_line.specs.ItemText.{Has, Free, Split, ItemText}
+use Rattle.scl_read.specs.ItemText.{Has, Free, Split, ItemText}
 use Rattle.scl_write.specs.Published as P
 use Rattle.writing.proofs.Plain.{Plain, Word, each-append}
 use Rattle.promises.specs.scl.Agree.{Same}

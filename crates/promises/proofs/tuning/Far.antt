@@ -23,7 +23,7 @@ use Rattle.scl.proofs.Items.{powers-ratio, ratio-reach}
 use Rattle.scl_tables.specs.Build.{lastOf, countOf}
 use Rattle.scl_tables.proofs.Beyond.{Given}
 use Rattle.kbm.specs.declared.KbmRoot.{KbmRoot}
-use Rattle.reduction.proofs.Reaches.{log-gives}
+use Rattle.scl_tables.proofs.Reaches.{log-gives}
 use Rattle.relative.specs.Refusals.{ReachedOrBeyond}
 use Rattle.relative.specs.Relative.{placeOf, relativePitchOf}
 use Rattle.relative.proofs.Back.{then-given, pick-given}

@@ -46,10 +46,10 @@ use Rattle.relative.specs.Pitches.{pitchOf}
 use Rattle.tuning.specs.Keys.{keyPitchOf, maybePitchOf, maybeDegreePitchOf}
 use Rattle.tuning.specs.Refusals.{KeySounds}
 use Rattle.tuning.proofs.Theorems.{key-sounds, maybe-pitch-of-degree-refused, maybe-pitch-of-degree-is}
-use Rattle.key_pitches.specs.Beside.{Beside}
-use Rattle.key_pitches.specs.Run.{keyPitches, isTuning, runOf, afterNumbers}
-use Rattle.key_pitches.proofs.Numbers.{stored-number}
-use Rattle.key_pitches.proofs.Run.{run-done}
+use Rattle.tuning.specs.Beside.{Beside}
+use Rattle.tuning.specs.Run.{keyPitches, isTuning, runOf, afterNumbers}
+use Rattle.tuning.proofs.Numbers.{stored-number}
+use Rattle.tuning.proofs.Run.{run-done}
 use Rattle.promises.specs.tuning.Far.{FarPitch}
 use Rattle.promises.proofs.tuning.Far.{pitch-far}
 use Rattle.promises.proofs.tuning.Mappings.{read-root}

@@ -2,7 +2,7 @@
 -- Assumes nothing.
 use mathlib.Core.Path.{refl}
 use Rattle.floats.specs.Answers.{saysFloat}
-use Rattle.reduction.proofs.Answered.{told}
+use Rattle.scl_tables.proofs.Answered.{told}
 use Rattle.rank2.proofs.Calls.{some-octaves, no-octaves}
 use borrow.Author.Needs.{needs}
 use Rattle.rank2.proofs.is_some.Statement.{statement}

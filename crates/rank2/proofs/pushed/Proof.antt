@@ -2,7 +2,7 @@
 -- Assumes nothing.
 use Rattle.scl.specs.Table.{itemTable}
 use Rattle.scl_build.specs.Answers.{saysBuilder}
-use Rattle.reduction.proofs.Answered.{told}
+use Rattle.scl_tables.proofs.Answered.{told}
 use Rattle.rank2.proofs.Pushes.{push-given, push-kept}
 use borrow.Author.Needs.{needs}
 use Rattle.rank2.proofs.pushed.Statement.{statement}

@@ -8,7 +8,7 @@ use Rattle.base.specs.Said.{Said, andThen, gives}
 use Rattle.sorted.specs.Lent.{ListTable, listIn, listTable}
 use Rattle.scl.specs.Items.{ratioOf}
 use Rattle.scl.specs.Table.{ItemTable, itemTable, itemsIn}
-use Rattle.reduction.specs.declared.Reduced.{Reduced}
+use Rattle.scl_tables.specs.declared.reduction.Reduced.{Reduced}
 use Rattle.relative.proofs.Places.{items-count, items-last}
 use Rattle.searching.specs.Search.{nearestOf}
 use Rattle.searching.proofs.Opened.{search-none, search-some}

@@ -1,7 +1,7 @@
 -- `code_of_run` meets its contract: 0 or coded. Assumes nothing.
 use mathlib.Core.Path.{refl}
 use borrow.Author.Needs.{needs}
-use Rattle.key_pitches.specs.Run.{saysRun}
+use Rattle.tuning.specs.Run.{saysRun}
 use Rattle.telbijan_answers.proofs.Interface.{accepted, refused}
 use Rattle.telbijan_tuning.proofs.code_of_run.Statement.{statement}
 use Rattle.telbijan_tuning.proofs.code_of_run.Tie as tie

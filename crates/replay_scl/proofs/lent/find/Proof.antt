@@ -56,14 +56,14 @@ use Rattle.scl.proofs.Scl as S
 use Rattle.scl.proofs.Scl.Laws as S′
 use Rattle.pitch.proofs.Ratio as R
 use Rattle.pitch.proofs.Ratio.Laws as R′
-use Rattle.searching.proofs.DegreeSearch as E
-use Rattle.searching.proofs.DegreeSearch.Laws as E′
+use Rattle.searching.proofs.approximation.DegreeSearch as E
+use Rattle.searching.proofs.approximation.DegreeSearch.Laws as E′
 use Rattle.entries.proofs.SortedEntry as T
 use Rattle.entries.proofs.SortedEntry.Laws as T′
-use Rattle.entry_search.proofs.find_in_entries as g
-use Rattle.entry_search.proofs.find_in_entries.Symbol as g-def
-use Rattle.entry_search.proofs.find_in_entries.Symbol.{name as #entry-search·find-in-entries}
-use Rattle.entry_search.proofs.find_in_entries.Met as g-thm
+use Rattle.entries.proofs.search.find_in_entries as g
+use Rattle.entries.proofs.search.find_in_entries.Symbol as g-def
+use Rattle.entries.proofs.search.find_in_entries.Symbol.{name as #entries·search·find-in-entries}
+use Rattle.entries.proofs.search.find_in_entries.Met as g-thm
 use Rattle.replay_scl.proofs.lent.find.Key.{name as #replay-scl·lent·find}
 use Rattle.replay_scl.proofs.lent.find as f
 use Rattle.replay_scl.proofs.lent.find.Statement as stated
@@ -213,7 +213,7 @@ module _ {M : Type 1} (𝓤 : URA M) (H : Heap 𝓤) (A : Atoms 𝓤) (W : Given
   abbrev listTy : Ty
   listTy = sliceTy (tyRef erased imm entryTy)
 
-  module _ (𝓣 : Tables 𝓤 H) (known₁ : Triple 𝓤 (𝓣 .C #entry-search·find-in-entries) (Find 𝓤 H A mem run)) (l₀ l₁ l₂ l₃ l₄ l₅ l₆ l₇ l₈ l₉ l₁₀ l₁₁ : ℕ) where
+  module _ (𝓣 : Tables 𝓤 H) (known₁ : Triple 𝓤 (𝓣 .C #entries·search·find-in-entries) (Find 𝓤 H A mem run)) (l₀ l₁ l₂ l₃ l₄ l₅ l₆ l₇ l₈ l₉ l₁₀ l₁₁ : ℕ) where
     abbrev C : Calls 𝓤 H
     C = 𝓣 .C
 
@@ -254,7 +254,7 @@ module _ {M : Type 1} (𝓤 : URA M) (H : Heap 𝓤) (A : Atoms 𝓤) (W : Given
         returns ! (look ! 22 refl) $ forget ! 0 refl $ forget ! 2 refl $ forget ! 4 refl $ forget ! 6 refl $ forget ! 8 refl $ forget ! 10 refl $ forget ! 12 refl $ forget ! 14 refl $ forget ! 16 refl $ forget ! 18 refl $ forget ! 20 refl $ forget ! 22 refl $
         move ! (22 ∷ 23 ∷ []) $ free1 ! $ move ! (20 ∷ 21 ∷ []) $ free1 ! $ move ! (18 ∷ 19 ∷ []) $ free1 ! $ move ! (16 ∷ 17 ∷ []) $ free1 ! $ move ! (14 ∷ 15 ∷ []) $ free1 ! $ move ! (12 ∷ 13 ∷ []) $ free1 ! $ move ! (10 ∷ 11 ∷ []) $ free1 ! $ move ! (8 ∷ 9 ∷ []) $ free1 ! $ move ! (6 ∷ 7 ∷ []) $ free1 ! $ move ! (4 ∷ 5 ∷ []) $ free1 ! $ move ! (2 ∷ 3 ∷ []) $ free1 ! $ free1 ! $ free0 ! $ by ! (exits a u is)))))))
 
-  walk : (𝓣 : Tables 𝓤 H) → Triple 𝓤 (𝓣 .C #entry-search·find-in-entries) (Find 𝓤 H A mem run) → ent 𝓤 (onEntry 𝓤 H A f.signature (κ, tt) (q, tt) args vals) (WpFn 𝓤 H (𝓣 .C) (𝓣 .Λ) code.function (vs ∷ vk ∷ vc ∷ vn ∷ vd ∷ vx ∷ vt ∷ vbool sorted ∷ []) Post)
+  walk : (𝓣 : Tables 𝓤 H) → Triple 𝓤 (𝓣 .C #entries·search·find-in-entries) (Find 𝓤 H A mem run) → ent 𝓤 (onEntry 𝓤 H A f.signature (κ, tt) (q, tt) args vals) (WpFn 𝓤 H (𝓣 .C) (𝓣 .Λ) code.function (vs ∷ vk ∷ vc ∷ vn ∷ vd ∷ vx ∷ vt ∷ vbool sorted ∷ []) Post)
   walk 𝓣 known₁ =
       qed W ((‵ (flft κ q) ⊛ ‵ ftrue) ∷ ‵ (owns (S.the-row ∷ ShrSlice (named 0) κ u8 ∷ ShrSlice (named 0) κ f64 ∷ ShrSlice (named 0) κ u32 ∷ ShrSlice (named 0) κ u32 ∷ Entries 8 ∷ R.the-row ∷ bool ∷ []) args vals) ∷ []) ∵
       split ! $ move ! (2 ∷ []) $ fsplit ! $ move ! (1 ∷ []) $ fsplit ! $ move ! (1 ∷ []) $ fsplit ! $ move ! (1 ∷ []) $ fsplit ! $ move ! (1 ∷ []) $ fsplit ! $
@@ -266,7 +266,7 @@ module _ {M : Type 1} (𝓤 : URA M) (H : Heap 𝓤) (A : Atoms 𝓤) (W : Given
       pass1 ! (init ! 10 refl (array-typed T.the-row (λ x us is. LL.lawful T.the-type T′.the-laws 𝓤 H A W .typed x us is) 8 xs (vx ∷ []) gxs .0)) $ pass1 ! (init ! 8 refl (LL.lawful R.the-type R′.the-laws 𝓤 H A W .typed tg (vt ∷ []) gtg .0)) $ pass1 ! (init ! 6 refl (tt, tt)) $ pass0 ! $
       by ! (begin 𝓣 known₁ l₀ l₁ l₂ l₃ l₄ l₅ l₆ l₇ l₈ l₉ l₁₀ l₁₁)))))))))))))
 
-module _ {M : Type 1} (𝓤 : URA M) (H : Heap 𝓤) (A : Atoms 𝓤) (W : Given 𝓤 H A) (mem : Memory → SProp 𝓤) (run : Routine → Fun 𝓤) (𝓣 : Tables 𝓤 H) (known₁ : Triple 𝓤 (𝓣 .C #entry-search·find-in-entries) (Find 𝓤 H A mem run)) where
+module _ {M : Type 1} (𝓤 : URA M) (H : Heap 𝓤) (A : Atoms 𝓤) (W : Given 𝓤 H A) (mem : Memory → SProp 𝓤) (run : Routine → Fun 𝓤) (𝓣 : Tables 𝓤 H) (known₁ : Triple 𝓤 (𝓣 .C #entries·search·find-in-entries) (Find 𝓤 H A mem run)) where
   find-walks : Walks 𝓤 H A f.ended stayed (WpFn 𝓤 H (𝓣 .C) (𝓣 .Λ) code.function) (f.clauses 𝓤 H A mem run)
   find-walks = walked 𝓤 H A f.ended stayed (f.clauses 𝓤 H A mem run) (WpFn 𝓤 H (𝓣 .C) (𝓣 .Λ) code.function)
       (λ κs. (LL.vals S.the-type S′.the-laws, (slice-vals, (slice-vals, (slice-vals, (slice-vals, (array-vals (LL.vals T.the-type T′.the-laws), (LL.vals R.the-type R′.the-laws, (bool-vals, tt)))))))))
@@ -313,4 +313,4 @@ find-spec 𝓤 H 𝓜 𝓖 𝓡 =
     entered 𝓤 H (tripleOf 𝓤 H (𝓖 .A) f.signature (f.spec 𝓤 H (𝓖 .A) (𝓜 .mem) (𝓡 .run)))
     (tables 𝓤 H 𝓜 𝓡 code.env .C) (tables 𝓤 H 𝓜 𝓡 code.env .Λ) #replay-scl·lent·find code.function (code.unfolded 𝓤 H 𝓜 𝓡)
     (find-meets 𝓤 H (𝓖 .A) (givenOf 𝓤 H 𝓜 𝓖) (𝓜 .mem) (𝓡 .run) (tablesOf 𝓤 H 𝓜 (tables 𝓤 H 𝓜 𝓡 code.env))
-    (cited 𝓤 H (Find 𝓤 H (𝓖 .A) (𝓜 .mem) (𝓡 .run)) 𝓜 𝓡 code.env #entry-search·find-in-entries g-def.routine code.calls-entry-search·find-in-entries (g-thm.met 𝓤 H 𝓜 𝓖 𝓡)))
+    (cited 𝓤 H (Find 𝓤 H (𝓖 .A) (𝓜 .mem) (𝓡 .run)) 𝓜 𝓡 code.env #entries·search·find-in-entries g-def.routine code.calls-entries·search·find-in-entries (g-thm.met 𝓤 H 𝓜 𝓖 𝓡)))

@@ -2,7 +2,7 @@
 -- Assumes nothing.
 use borrow.Author.Needs.{needs}
 use Rattle.floats.specs.Answers.{saysFloat}
-use Rattle.reduction.proofs.Answered.{told}
+use Rattle.scl_tables.proofs.Answered.{told}
 use Rattle.scl.specs.Table.{itemTable}
 use Rattle.scl_build.proofs.Pushes.{ratio-pushed, ratio-refused}
 use Rattle.scl_build.proofs.SclBuilder.push_ratio.Statement.{statement}

@@ -1,4 +1,0 @@
-pub mod Answers
-pub mod Opened
-pub mod Passes
-pub mod Theorems

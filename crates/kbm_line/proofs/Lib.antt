@@ -1,2 +1,0 @@
-pub mod Takes
-pub mod Theorems

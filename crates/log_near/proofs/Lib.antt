@@ -1,4 +1,0 @@
-pub mod Squares
-pub mod Crown
-pub mod Close
-pub mod Theorems
