@@ -1,5 +1,5 @@
 //! Freezes questions and their answers for the programs `replay`, `replay_scl` and `replay_tuning`, which put the questions to the proved library, so that
-//! `rt ci` needs no Rust: `oracle freeze CRATES` writes stdin and stdout of each. The crate `frozen` says how a line of either is written.
+//! `rt ci` needs no Rust: `oracle freeze CRATES` writes stdin and stdout of each. The crates `frozen` and `said` say how a line of either is written.
 
 use crate::lent::Float;
 use crate::tally::{Code, Said, Who};

@@ -1,14 +1,13 @@
-// Frozen questions, and the answers to them: what the programs share that replay them. Such a program reads its questions, a line for each,
-// makes the calls and writes the answers, a line for each; its file `stdout` has the frozen ones, and `rt` compares byte for byte.
+// Frozen questions: what a line asks of a program that replays them. Such a program reads its questions, a line for each, makes the calls
+// and writes the answers, a line for each; its file `stdout` has the frozen ones, and `rt` compares byte for byte.
 //
 // A question is `WHO CALL ARGUMENTS`, its fields parted by single spaces: WHO is `rust` where the answer is the Rust's own, `second` where
 // it stands on the second E and L, `rules` where the Rust is not asked. A float is 16 hex digits of its bits, or `nan`; bytes
-// are their hex digits, or `-` for none. An answer is the name of the call and the fields of its answer (`say`). A line that is no
-// question of a call that the program has is answered by `?`, which no frozen answer is.
+// are their hex digits, or `-` for none. An answer is the name of the call and the fields of its answer (the crate `said`). A line that is
+// no question of a call that the program has is answered by `?`, which no frozen answer is.
 pub mod columns;
 pub mod given;
 mod kinds;
-pub mod say;
 
 ghost use mathlib.Core.Path.{_≡_};
 ghost use lib.ListN.{length};
@@ -154,7 +153,7 @@ fn is_question(line: &[u8], head: &[u8], row: &[u8]) -> bool {
 }
 
 // The number of the call that a line asks for, among the calls of a program, each three fields: its name, the kinds of its arguments, and those
-// of a row, both of them nothing where there are none. Writes the name; `?` for no question.
+// of a row, both of them nothing where there are none. NONE for no question.
 pub fn asked(line: &[u8], calls: &[u8]) -> usize {
     let name = field(line, 1);
     let mut at = 0;
@@ -166,15 +165,21 @@ pub fn asked(line: &[u8], calls: &[u8]) -> usize {
                 token(calls, next(calls, at)),
                 token(calls, start(calls, at, 2)),
             ) {
-                say::raw(name);
                 return k;
             }
         }
         at = start(calls, at, 3);
         k += 1;
     }
-    say::raw(b"?");
     NONE
+}
+
+// The name of the call that a line asks for, whose number is `asked`'s; nothing for NONE.
+pub fn name(line: &[u8], call: usize) -> &[u8] {
+    if call == NONE {
+        return &line[0..0];
+    }
+    field(line, 1)
 }
 
 // The first bytes, so many; all where there are fewer.

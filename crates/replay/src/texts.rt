@@ -2,7 +2,6 @@
 // 2^32.
 use decimals::DecimalAnswer;
 use frozen::given;
-use frozen::say;
 use text::line::LineSays;
 
 // What lent bytes are before a call; what no place is.
@@ -13,24 +12,24 @@ const FULL: usize = 18446744073709551615;
 // `line TEXT AT`: where the line ends, and where the next starts.
 fn say_line(text: &[u8], at: usize) {
     let ends = text::lines::next_line(text, at);
-    say::size(ends.end);
-    say::size(ends.next);
+    said::size(ends.end);
+    said::size(ends.next);
 }
 
 // `says TEXT FROM TO`: `not_utf8`, `blank`, `comment`, or start, end and token's end.
 fn say_said(text: &[u8], from: usize, to: usize) {
     match text::line::read_line(text, from, to) {
-        LineSays::NotUtf8 => say::word(b"not_utf8"),
-        LineSays::Blank => say::word(b"blank"),
-        LineSays::Comment => say::word(b"comment"),
+        LineSays::NotUtf8 => said::word(b"not_utf8"),
+        LineSays::Blank => said::word(b"blank"),
+        LineSays::Comment => said::word(b"comment"),
         LineSays::Content {
             start: a,
             end: b,
             token_end: c,
         } => {
-            say::size(a);
-            say::size(b);
-            say::size(c);
+            said::size(a);
+            said::size(b);
+            said::size(c);
         }
     }
 }
@@ -38,9 +37,9 @@ fn say_said(text: &[u8], from: usize, to: usize) {
 // `decimal TEXT`: `none`, `unsupported`, or the value.
 fn say_decimal(text: &[u8]) {
     match decimals::read_decimal(text) {
-        DecimalAnswer::Is(x) => say::float(x),
-        DecimalAnswer::Unsupported => say::word(b"unsupported"),
-        DecimalAnswer::Bad => say::word(b"none"),
+        DecimalAnswer::Is(x) => said::float(x),
+        DecimalAnswer::Unsupported => said::word(b"unsupported"),
+        DecimalAnswer::Bad => said::word(b"none"),
     }
 }
 
@@ -52,7 +51,7 @@ fn say_integer(call: usize, text: &[u8]) {
         41 => probes::texts::probe_read_i16(text),
         _ => probes::texts::probe_read_i32(text),
     };
-    say::float(std::num::nearest_i64_to_f64(number));
+    said::float(std::num::nearest_i64_to_f64(number));
 }
 
 fn say_of(call: usize, text: &[u8], line: &[u8]) {
@@ -93,9 +92,9 @@ pub fn say_print(call: usize, line: &[u8]) {
     let place = given::size(line, 3);
     let reached = printed(call, frozen::first_mut(&mut bytes, room), place, line);
     if reached == FULL {
-        say::word(b"full");
+        said::word(b"full");
     } else {
-        say::size(reached);
+        said::size(reached);
     }
-    say::bytes(frozen::first(&bytes, room));
+    said::bytes(frozen::first(&bytes, room));
 }

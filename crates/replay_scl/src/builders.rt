@@ -1,7 +1,6 @@
 // Runs of a builder. A step is four fields: what it is, 0 a new builder, 1 cents, 2 a ratio, 3 an integer, 4 a fraction; a float, a numerator
 // and a denominator. What a step does not take is 0.
 use frozen::given;
-use frozen::say;
 use pitch::Ratio;
 use scl_build::SclBuilder;
 use scl_build::SclBuilderAnswer;
@@ -151,8 +150,8 @@ fn stepped_on(items: Items, builder: SclBuilder, of: Step) -> Stepped {
 // The new count, or a refusal.
 fn say_step(answer: SclBuilderAnswer) {
     match answer {
-        SclBuilderAnswer::Is(builder) => say::size(builder.count),
-        SclBuilderAnswer::Refused(refusal) => say::refusal(refusal),
+        SclBuilderAnswer::Is(builder) => said::size(builder.count),
+        SclBuilderAnswer::Refused(refusal) => said::refusal(refusal),
     }
 }
 
@@ -220,7 +219,7 @@ fn say_built(done: Done) {
         &mut ratio,
         &mut wraps,
     ));
-    say::places(&kind, &cents, &numer, &denom, &place, &ratio, &wraps);
+    said::places(&kind, &cents, &numer, &denom, &place, &ratio, &wraps);
 }
 
 // `build STEPS ..`, a new builder first: the count after each step, and that of the scale, each of them or a refusal; then the places.
@@ -253,7 +252,7 @@ fn say_items(items: Items) {
     let place = [8u32; 16];
     let ratio = [0.5; 16];
     let wraps = [8; 16];
-    say::places(&kind, &cents, &numer, &denom, &place, &ratio, &wraps);
+    said::places(&kind, &cents, &numer, &denom, &place, &ratio, &wraps);
 }
 
 // `finish ROOM COUNT`, the build of a state that need not be the columns': the count or a refusal, then the places.

@@ -3,7 +3,6 @@
 use crate::lent::Reading;
 use entries::SortedEntry;
 use frozen::given;
-use frozen::say;
 use pitch::Ratio;
 use scl::Scl;
 use scl_build::SclBuilder;
@@ -19,7 +18,7 @@ fn say_list(list: [SortedEntry; 8]) {
     let mut k: usize = 0;
     while k < 8 {
         let e = list[k];
-        say::entry(e.place, e.ratio, e.wraps);
+        said::entry(e.place, e.ratio, e.wraps);
         k += 1;
     }
 }
@@ -38,7 +37,7 @@ fn say_read(
     let said = done.answer;
     let list = done.list;
     crate::say_answer(said);
-    say::places(kind, cents, numer, denom, place, ratio, wraps);
+    said::places(kind, cents, numer, denom, place, ratio, wraps);
     say_list(list);
 }
 
@@ -72,7 +71,7 @@ fn say_built<'i>(
     let said = done.answer;
     let list = done.list;
     crate::say_count(said);
-    say::places(kind, cents, numer, denom, &place, &ratio, &wraps);
+    said::places(kind, cents, numer, denom, &place, &ratio, &wraps);
     say_list(list);
 }
 

@@ -1,7 +1,6 @@
 // Scales that are computed: `harmonics OTONAL START SIZE DIVISIONS`, OTONAL 1 or 0, DIVISIONS 1 and their number or 0 and 0; and `rank2
 // GENERATOR UP DOWN PERIOD`. The answer is the count or a refusal, then what stands in every place of the columns.
 use frozen::given;
-use frozen::say;
 use harmonics::segment::Divisions;
 use harmonics::segment::SegmentType;
 use pitch::Ratio;
@@ -41,7 +40,7 @@ pub fn say_segment(line: &[u8]) {
         &mut ratio,
         &mut wraps,
     ));
-    say::places(&kind, &cents, &numer, &denom, &place, &ratio, &wraps);
+    said::places(&kind, &cents, &numer, &denom, &place, &ratio, &wraps);
 }
 
 pub fn say_temperament(line: &[u8]) {
@@ -65,5 +64,5 @@ pub fn say_temperament(line: &[u8]) {
         &mut ratio,
         &mut wraps,
     ));
-    say::places(&kind, &cents, &numer, &denom, &place, &ratio, &wraps);
+    said::places(&kind, &cents, &numer, &denom, &place, &ratio, &wraps);
 }

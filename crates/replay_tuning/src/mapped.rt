@@ -2,7 +2,6 @@
 // the mapping's table. A run answers `done` or a refusal, then all 8 places of its pitches and numbers.
 use frozen::columns;
 use frozen::given;
-use frozen::say;
 use kbm::Kbm;
 use key::Degree;
 use key::PianoKey;
@@ -35,8 +34,8 @@ fn entries(line: &[u8]) -> [i32; 8] {
 
 fn say_done(answer: RunAnswer) {
     match answer {
-        RunAnswer::Done => say::word(b"done"),
-        RunAnswer::Refused(refusal) => say::refusal(refusal),
+        RunAnswer::Done => said::word(b"done"),
+        RunAnswer::Refused(refusal) => said::refusal(refusal),
     }
 }
 
@@ -44,8 +43,8 @@ fn say_done(answer: RunAnswer) {
 fn say_sounds(hz: &[f64; 8], numbers: &[u32; 8]) {
     let mut k: usize = 0;
     while k < 8 {
-        say::float(hz[k]);
-        say::natural(numbers[k]);
+        said::float(hz[k]);
+        said::natural(numbers[k]);
         k += 1;
     }
 }

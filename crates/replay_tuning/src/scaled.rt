@@ -1,7 +1,6 @@
 // Pitches and searches in a scale. A call goes by its number among those of `main.rt`.
 use frozen::columns;
 use frozen::given;
-use frozen::say;
 use kbm::KbmRoot;
 use key::Degree;
 use key::PianoKey;
@@ -22,10 +21,10 @@ pub fn root(line: &[u8]) -> KbmRoot {
 fn say_key(answer: KeySearch) {
     match answer {
         KeySearch::Key(found) => {
-            say::int(found.approx_value);
-            say::float(found.deviation);
+            said::int(found.approx_value);
+            said::float(found.deviation);
         }
-        KeySearch::Refused(refusal) => say::refusal(refusal),
+        KeySearch::Refused(refusal) => said::refusal(refusal),
     }
 }
 

@@ -5,10 +5,10 @@ use Rattle.frozen.proofs.asked.Statement.{statement}
 use Rattle.frozen.proofs.asked.Tie as tie
 
 abbrev Inv-loop : tie.InvT-loop
-Inv-loop line calls name at₀ k₀ t6 at k = Unit {0}
+Inv-loop line calls name at₀ k₀ at k = Unit {0}
 
 abbrev μ-loop : tie.MeasureT-loop
-μ-loop line calls name at₀ k₀ t6 at k = 64 - k
+μ-loop line calls name at₀ k₀ at k = 64 - k
 
 field-requires : tie.Need-field-requires Inv-loop μ-loop
 field-requires c κs = search needs
@@ -37,9 +37,6 @@ token-requires-3 c κs = search needs
 is-question-requires : tie.Need-is-question-requires Inv-loop μ-loop
 is-question-requires c κs = search needs
 
-raw-requires : tie.Need-raw-requires Inv-loop μ-loop
-raw-requires c κs = search needs
-
 returns : tie.Need-returns Inv-loop μ-loop
 returns c = search needs
 
@@ -54,12 +51,6 @@ loop-less c = search needs
 
 loop-again : tie.Need-loop-again Inv-loop μ-loop
 loop-again c = tt
-
-slice-aggregate-raw : tie.Need-slice-aggregate-raw Inv-loop μ-loop
-slice-aggregate-raw c = search needs
-
-raw-requires-2 : tie.Need-raw-requires-2 Inv-loop μ-loop
-raw-requires-2 c κs = search needs
 
 returns-2 : tie.Need-returns-2 Inv-loop μ-loop
 returns-2 c = search needs
@@ -79,12 +70,9 @@ asked-spec =
     start-requires
     token-requires-3
     is-question-requires
-    raw-requires
     returns
     start-requires-2
     add-k
     loop-less
     loop-again
-    slice-aggregate-raw
-    raw-requires-2
     returns-2)

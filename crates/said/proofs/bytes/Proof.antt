@@ -2,8 +2,8 @@
 use Prim.Native.Nat.{_-_}
 use borrow.Author.Needs.{needs}
 use lib.ListN.{length}
-use Rattle.frozen.proofs.say.bytes.Statement.{statement}
-use Rattle.frozen.proofs.say.bytes.Tie as tie
+use Rattle.said.proofs.bytes.Statement.{statement}
+use Rattle.said.proofs.bytes.Tie as tie
 
 abbrev Inv-loop : tie.InvT-loop
 Inv-loop bytes k₀ k = Unit {0}

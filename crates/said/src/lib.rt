@@ -1,11 +1,20 @@
-// The fields of an answer, each written after a space: integers in decimal, a float as 16 hex digits of its bits or `nan`, a refusal as
-// `!NUMBER DETAIL`, bytes as hex digits or `-` for none.
+// Answers to frozen questions, as the programs that replay them write them to standard output. Each field is written after a space: integers
+// in decimal, a float as 16 hex digits of its bits or `nan`, a refusal as `!NUMBER DETAIL`, bytes as hex digits or `-` for none.
 use base::Refusal;
 use libc::STDOUT_FILENO;
 
 // Bytes as they are, with no space.
-pub fn raw(bytes: &[u8]) {
+fn raw(bytes: &[u8]) {
     io::write_all(STDOUT_FILENO, bytes);
+}
+
+// The name that begins an answer: that of a call, or `?` where there is none.
+pub fn name(name: &[u8]) {
+    if name.len() == 0 {
+        raw(b"?");
+    } else {
+        raw(name);
+    }
 }
 
 // The end of an answer.
