@@ -34,7 +34,7 @@ pub const FORMAL_OCTAVE_MISSING: u32 = 15;
 pub const KEY_OUT_OF_RANGE: u32 = 16;
 // 17: the key is unmapped.
 pub const UNMAPPED_KEY: u32 = 17;
-// 18: a computed pitch or ratio is outside 2^-900..2^900.
+// 18: beyond reach: a period of 1.0, 0 divisions, or a computed pitch or ratio outside its range.
 pub const BEYOND_REACH: u32 = 18;
 
 // Why a call refused: the number, and the place that it is about.
