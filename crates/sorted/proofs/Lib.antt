@@ -4,6 +4,7 @@ pub mod Facts
 pub mod Numbering
 pub mod Passes
 pub mod Usable
+pub mod Climbs
 pub mod Lists
 pub mod Samples
 pub mod Theorems

@@ -1,5 +1,5 @@
 -- A lent list: its test in the code's steps, and what the test means. Assumes nothing.
-use mathlib.Core.Path.{_≡_, refl, sym, _∙_, ap}
+use mathlib.Core.Path.{_≡_, refl, sym, _∙_}
 use mathlib.Core.Logic.{_↔_}
 use mathlib.Core.Bool.{Bool, true, false, _&&_}
 use mathlib.Core.List.{List, [], _∷_}
@@ -40,11 +40,8 @@ module _ (count : ℕ) (t : ListTable) where
             let lw = length-take-le (count + 1) (t .wraps) (omega (arith, w)) in
             columns-zip (take (count + 1) (t .places)) (take (count + 1) (t .ratios)) (take (count + 1) (t .wraps)) (lr ∙ sym lp) (lw ∙ sym lp)
 
-        pub list-tests : {a b : Bool} → a ≡ usable (take (count + 1) (t .ratios)) → b ≡ areWithin count (take (count + 1) (t .places)) → (a && b) ≡ isList count t
-        list-tests {a} {b} e f =
-            let ratios : a ≡ usable (ratiosOf (listIn count t)) = e ∙ ap usable (list-columns .ratios) in
-            let places : b ≡ areWithin count (placesOf (listIn count t)) = f ∙ ap (areWithin count) (list-columns .places) in
-            rw (have-list, ratios, places)
+        pub list-tests : {tested : Bool} → tested ≡ (usable (take (count + 1) (t .ratios)) && areWithin count (take (count + 1) (t .places))) → tested ≡ isList count t
+        list-tests e = e ∙ rw (have-list, sym (list-columns .ratios), sym (list-columns .places))
 
 -- ---- what it means
 within-at : (n : ℕ) (ps : List ℕ) → areWithin n ps ≡ true → AllAtMost n ps

@@ -1,53 +1,72 @@
 -- Going over the columns of a lent list: what is done and what is left decide together. Assumes nothing.
-use mathlib.Core.Path.{_≡_, sym, _∙_, ap}
-use mathlib.Core.Bool.{Bool, true, _&&_, and-assoc, and-true}
+use mathlib.Core.Path.{_≡_, refl, sym, _∙_, ap}
+use mathlib.Core.Logic.{inl, inr}
+use mathlib.Core.Bool.{Bool, true, _&&_, and-assoc, and-true, and-false}
 use mathlib.Core.List.{List}
 use Prim.Native.Nat.{ℕ, suc, _+_, _≤_, _<_}
 use native.Mathlib.Numerals.{add-one}
 use native.Mathlib.Omega.{arith}
-use lib.Dec.{leb}
+use lib.Dec.{leb, ltb}
 use lib.ListN.{length, getD, take, drop, drop-of-length-le}
 use lib.Seq.{drop-cons, getD-take, length-take-le}
-use lib.Ieee.{Float, nan}
-use Rattle.sorted.specs.Lent.{goesOn, usableAfter, usable, areWithin}
+use lib.Ieee.{Float, nan, le}
+use borrow.Author.Tests.{leb-true, ltb-true, ltb-false, le-leb}
+use Rattle.base.specs.Said.{pick}
+use Rattle.base.proofs.Integers.{bool-cases}
+use Rattle.sorted.specs.Lent.{usable, areWithin}
+use Rattle.sorted.proofs.Climbs.{lowest, highest, climbs, climbs-usable}
 
 -- the next test: `all` is that of what is done
 goes : (all t rest : Bool) {whole before : Bool} → whole ≡ (all && before) → before ≡ (t && rest) → whole ≡ ((all && t) && rest)
 goes all t rest e f = e ∙ ap (λ (x : Bool). all && x) f ∙ sym (and-assoc all t rest)
 
-ends : (all : Bool) {whole rest : Bool} → whole ≡ (all && rest) → rest ≡ true → all ≡ whole
-ends all e f = sym (e ∙ ap (λ (x : Bool). all && x) f ∙ and-true all)
+-- the higher of two is within the count where both are
+higher-within : (a c n : ℕ) → (leb a n && leb c n) ≡ leb (pick (ltb a c) c a) n
+higher-within a c n = elim (bool-cases (ltb a c)) [
+  | inl h ↦ rw h (elim (bool-cases (leb c n)) [
+    | inl k ↦ rw (k, le-leb a n (omega (arith, ltb-true a c h, leb-true c n k)))
+    | inr k ↦ rw k (and-false (leb a n))
+  ])
+  | inr h ↦ rw h (elim (bool-cases (leb a n)) [
+    | inl k ↦ rw (k, le-leb c n (omega (arith, ltb-false a c h, leb-true a n k)))
+    | inr k ↦ rw k
+  ])
+]
 
--- ---- the ratios
-pub record Rising (rs : List Float) (n : ℕ) (all : Bool) (last : Float) (i : ℕ) : Type 0 where
+-- before entry i: whether the ratios go up so far, the last of them, and the highest place
+pub record Passed (ps : List ℕ) (rs : List Float) (n count : ℕ) (all : Bool) (last : Float) (high i : ℕ) : Type 0 where
   pub end : i ≤ n
-  pub same : usable (take n rs) ≡ (all && usableAfter last (drop i (take n rs)))
+  pub ratios : climbs lowest (take n rs) ≡ (all && climbs last (drop i (take n rs)))
+  pub places : areWithin count (take n ps) ≡ (leb high count && areWithin count (drop i (take n ps)))
 
-module _ {rs : List Float} {n : ℕ} {all : Bool} {last : Float} {i : ℕ} (room : n ≤ length rs) (s : Rising rs n all last i) where
-  pub rising-turn : i < n → {t : Bool} → t ≡ goesOn last (getD rs i nan) → Rising rs n (all && t) (getD rs i nan) (i + 1)
-  unfolding usableAfter
-  rising-turn h {t} e =
-      let l : i < length (take n rs) = omega (arith, length-take-le n rs room, h) in
-      let next : usableAfter last (drop i (take n rs)) ≡ (t && usableAfter (getD rs i nan) (drop (suc i) (take n rs))) = rw (drop-cons (take n rs) i nan l, getD-take n rs i nan h, e) in
-      record { end = omega (arith, h); same = rw add-one (goes all t (usableAfter (getD rs i nan) (drop (suc i) (take n rs))) (s .same) next) }
+pub starts : (ps : List ℕ) (rs : List Float) (n count : ℕ) → Passed ps rs n count true lowest 0 0
+starts ps rs n count = record { end = omega arith; ratios = refl; places = rw (le-leb 0 count (omega arith)) }
 
-  pub rising-end : n ≤ i → all ≡ usable (take n rs)
-  unfolding usableAfter
-  rising-end h = ends all (s .same) (rw (drop-of-length-le (take n rs) {i = i} (omega (arith, length-take-le n rs room, h))))
+module _
+    {ps : List ℕ} {rs : List Float} {n count : ℕ} {all : Bool} {last : Float} {high i : ℕ}
+    (room : (n ≤ length ps) × (n ≤ length rs)) (s : Passed ps rs n count all last high i)
+  where
+    pub turn : i < n → {next : ℕ} → next ≡ pick (ltb high (getD ps i 0)) (getD ps i 0) high → Passed ps rs n count (all && le last (getD rs i nan)) (getD rs i nan) next (i + 1)
+    unfolding climbs areWithin
+    turn h {next} e =
+        let r = getD rs i nan in
+        let p = getD ps i 0 in
+        let lr : i < length (take n rs) = omega (arith, length-take-le n rs (room .1), h) in
+        let lp : i < length (take n ps) = omega (arith, length-take-le n ps (room .0), h) in
+        let up : climbs last (drop i (take n rs)) ≡ (le last r && climbs r (drop (suc i) (take n rs))) = rw (drop-cons (take n rs) i nan lr, getD-take n rs i nan h) in
+        let more : areWithin count (drop i (take n ps)) ≡ (leb p count && areWithin count (drop (suc i) (take n ps))) = rw (drop-cons (take n ps) i 0 lp, getD-take n ps i 0 h) in
+        record {
+          end = omega (arith, h);
+          ratios = rw add-one (goes all (le last r) (climbs r (drop (suc i) (take n rs))) (s .ratios) up);
+          places = rw (add-one, e, sym (higher-within high p count)) (goes (leb high count) (leb p count) (areWithin count (drop (suc i) (take n ps))) (s .places) more);
+        }
 
--- ---- the places
-pub record Within (ps : List ℕ) (n count : ℕ) (all : Bool) (i : ℕ) : Type 0 where
-  pub end : i ≤ n
-  pub same : areWithin count (take n ps) ≡ (all && areWithin count (drop i (take n ps)))
-
-module _ {ps : List ℕ} {n count : ℕ} {all : Bool} {i : ℕ} (room : n ≤ length ps) (s : Within ps n count all i) where
-  pub within-turn : i < n → {t : Bool} → t ≡ leb (getD ps i 0) count → Within ps n count (all && t) (i + 1)
-  unfolding areWithin
-  within-turn h {t} e =
-      let l : i < length (take n ps) = omega (arith, length-take-le n ps room, h) in
-      let next : areWithin count (drop i (take n ps)) ≡ (t && areWithin count (drop (suc i) (take n ps))) = rw (drop-cons (take n ps) i 0 l, getD-take n ps i 0 h, e) in
-      record { end = omega (arith, h); same = rw add-one (goes all t (areWithin count (drop (suc i) (take n ps))) (s .same) next) }
-
-  pub within-end : n ≤ i → all ≡ areWithin count (take n ps)
-  unfolding areWithin
-  within-end h = ends all (s .same) (rw (drop-of-length-le (take n ps) {i = i} (omega (arith, length-take-le n ps room, h))))
+    -- nothing is left: the last ratio and the highest place decide
+    pub ends : n ≤ i → {t : Bool} → t ≡ leb high count → ((all && le last highest) && t) ≡ (usable (take n rs) && areWithin count (take n ps))
+    unfolding climbs areWithin
+    ends h {t} e =
+        let none : climbs last (drop i (take n rs)) ≡ le last highest = rw (drop-of-length-le (take n rs) {i = i} (omega (arith, length-take-le n rs (room .1), h))) in
+        let no-more : areWithin count (drop i (take n ps)) ≡ true = rw (drop-of-length-le (take n ps) {i = i} (omega (arith, length-take-le n ps (room .0), h))) in
+        let ratios : (all && le last highest) ≡ usable (take n rs) = sym (s .ratios ∙ ap (λ (x : Bool). all && x) none) ∙ climbs-usable (take n rs) in
+        let places : leb high count ≡ areWithin count (take n ps) = sym (s .places ∙ ap (λ (x : Bool). leb high count && x) no-more ∙ and-true (leb high count)) in
+        rw (ratios, e ∙ places)

@@ -54,12 +54,12 @@ not-true : (a : Bool) → not a ≡ true → a ≡ false
 not-true true h = absurd (true≢false (sym h))
 not-true false h = refl
 
-record Next (p r : Float) (rs : List Float) : Type 0 where
-  good : inReach r ≡ true
-  up : lt r p ≡ false
-  more : usableAfter r rs ≡ true
+pub record Next (p r : Float) (rs : List Float) : Type 0 where
+  pub good : inReach r ≡ true
+  pub up : lt r p ≡ false
+  pub more : usableAfter r rs ≡ true
 
-next : (p r : Float) (rs : List Float) → usableAfter p (r ∷ rs) ≡ true → Next p r rs
+pub next : (p r : Float) (rs : List Float) → usableAfter p (r ∷ rs) ≡ true → Next p r rs
 unfolding goesOn usableAfter
 next p r rs h =
     let here = both (inReach r && not (lt r p)) (usableAfter r rs) h in
@@ -95,7 +95,7 @@ usable-rises p (r ∷ rs) h zero (suc j) l k =
 usable-rises p (r ∷ rs) h (suc i) (suc j) l k = usable-rises r rs (next p r rs h .more) i j (le-of-suc-le-suc l) (le-of-suc-le-suc k)
 
 -- ---- and what a search asks for passes
-passes : (p : Float) (rs : List Float) → AllInReach rs → NeverFalls rs → (0 < length rs → lt (getD rs 0 nan) p ≡ false) → usableAfter p rs ≡ true
+pub passes : (p : Float) (rs : List Float) → AllInReach rs → NeverFalls rs → (0 < length rs → lt (getD rs 0 nan) p ≡ false) → usableAfter p rs ≡ true
 unfolding goesOn usableAfter
 passes p [] a f h = refl
 passes p (r ∷ rs) a f h =

@@ -55,7 +55,7 @@ pub record Listed (count : ℕ) (t : ListTable) : Type 0 where
   pub rises : NeverFalls (ratiosOf (listIn count t))
   pub within : AllAtMost count (placesOf (listIn count t))
 
--- ---- the same as tests that the code makes
+-- ---- the same as tests
 -- after the ratio p, r lies in the range and is not below p
 unfoldable pub goesOn : Float → Float → Bool
 goesOn p r = inReach r && not (lt r p)

@@ -3,17 +3,19 @@
 //
 // An inner crate: what `number`, `arrange` and `first_not_below` ask of their columns, their callers have made sure of.
 ghost use mathlib.Core.Path.{_≡_};
+ghost use mathlib.Core.Bool.{_&&_};
 ghost use Prim.Native.Nat.{_≤_, _<_};
 ghost use lib.ListN.{length, getD, set, take};
 ghost use lib.Ieee.{nan};
 ghost use lib.IntN.{pos};
-ghost use lib.Dec.{T, leb};
+ghost use lib.Dec.{T, leb, ltb};
 ghost use lib.Ieee.Positive.{positive};
 ghost use Rattle.sorting.specs.Asked.{AllPositive};
 ghost use Rattle.sorting.specs.Entries.{zip, Columns};
 ghost use Rattle.sorted.specs.Repeats.{near, keep, arranged};
 ghost use Rattle.sorting.specs.Stable.{NeverFalls};
-ghost use Rattle.sorted.specs.Lent.{goesOn, usable, areWithin, listTable, isList, firstNotBelow, from};
+ghost use Rattle.base.specs.Said.{pick};
+ghost use Rattle.sorted.specs.Lent.{usable, areWithin, listTable, isList, firstNotBelow, from};
 
 // Whether the quotient of two ratios is as good as 1.
 fn is_near(a: f64, c: f64) -> bool
@@ -92,31 +94,11 @@ pub fn first_not_below(ratio: &[f64], x: f64) -> usize
     lo
 }
 
-// Whether the ratio r may stand after the ratio p.
-fn goes_on(p: f64, r: f64) -> bool
-    ensures { λ t. ⌜ t ≡ goesOn p r ⌝ }
+// The higher of two places.
+fn higher(a: u32, c: u32) -> u32
+    ensures { λ r. ⌜ r ≡ pick (ltb a c) c a ⌝ }
 {
-    let reached = floats::is_in_reach(r);
-    let falls = r < p;
-    reached & !falls
-}
-
-// Whether the first n ratios lie in 2^-900..2^900 and never fall. No branch is taken on a ratio, so that the compiler can test
-// several at a time.
-fn are_rising(ratio: &[f64], n: usize) -> bool
-    requires { ⌜ n ≤ length (now ratio) ⌝ }
-    ensures { λ r. ⌜ r ≡ usable (take n (now (ratio .entry))) ⌝ }
-{
-    let mut all = true;
-    let mut last = 0.0;
-    let mut i: usize = 0;
-    while i < n {
-        let r = ratio[i];
-        all = all & goes_on(last, r);
-        last = r;
-        i += 1;
-    }
-    all
+    if a < c { c } else { a }
 }
 
 // Whether a place is at most n.
@@ -126,22 +108,30 @@ fn is_at_most(place: u32, n: usize) -> bool
     (place as usize) <= n
 }
 
-// Whether the first n places are at most `count`, again without a branch.
-fn are_within(place: &[u32], n: usize, count: usize) -> bool
-    requires { ⌜ n ≤ length (now place) ⌝ }
-    ensures { λ r. ⌜ r ≡ areWithin count (take n (now (place .entry))) ⌝ }
+// Whether the ratios of the first n entries lie in 2^-900..2^900 and never fall, and their places are at most `count`: from 2^-900 on each
+// ratio is at least the one before it, the last is at most 2^900, and the highest place is at most `count`. One comparison for a ratio, one
+// for a place and no branch, so that the compiler can make several at a time.
+fn are_entries(place: &[u32], ratio: &[f64], n: usize, count: usize) -> bool
+    requires { ⌜ (n ≤ length (now place)) × (n ≤ length (now ratio)) ⌝ }
+    ensures { λ r. ⌜ r ≡ (usable (take n (now (ratio .entry))) && areWithin count (take n (now (place .entry)))) ⌝ }
 {
     let mut all = true;
+    let mut last = floats::REACH_LOW;
+    let mut highest: u32 = 0;
     let mut i: usize = 0;
     while i < n {
-        all = all & is_at_most(place[i], count);
+        let r = ratio[i];
+        all = all & (last <= r);
+        last = r;
+        highest = higher(highest, place[i]);
         i += 1;
     }
-    all
+    let rising = all & (last <= floats::REACH_HIGH);
+    rising & is_at_most(highest, count)
 }
 
 // Whether the columns hold the list of `count` items: place 0 and a place for each, ratios in 2^-900..2^900 that never fall, places
-// within the count. Ratios and places are gone over once each; of the wraparounds only the number is looked at.
+// within the count. Ratios and places are gone over once; of the wraparounds only the number is looked at.
 pub fn is_list(place: &[u32], ratio: &[f64], wraps: &[i32], count: usize) -> bool
     ensures { λ r. ⌜ r ≡ isList count (listTable (now (place .entry)) (now (ratio .entry)) (now (wraps .entry))) ⌝ }
 {
@@ -149,8 +139,7 @@ pub fn is_list(place: &[u32], ratio: &[f64], wraps: &[i32], count: usize) -> boo
         if count < ratio.len() {
             if count < wraps.len() {
                 let n = count + 1;
-                let rising = are_rising(ratio, n);
-                return rising & are_within(place, n, count);
+                return are_entries(place, ratio, n, count);
             }
         }
     }

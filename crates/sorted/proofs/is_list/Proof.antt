@@ -1,4 +1,4 @@
--- `is_list` meets its contract: room in each column, then the ratios, then the places.
+-- `is_list` meets its contract: room in each column, then the entries.
 -- Assumes nothing.
 use borrow.Author.Needs.{needs}
 use Rattle.sorted.specs.Lent.{listTable}
@@ -9,19 +9,16 @@ use Rattle.sorted.proofs.is_list.Tie as tie
 add-n : tie.Need-add-n
 add-n c = search needs
 
-are-rising-requires : tie.Need-are-rising-requires
-are-rising-requires c κs = search needs
-
-are-within-requires : tie.Need-are-within-requires
-are-within-requires c κs = search needs
+are-entries-requires : tie.Need-are-entries-requires
+are-entries-requires c κs = search needs
 
 returns : tie.Need-returns
 returns c =
-    let third = c .before .before in
+    let third = c .before in
     let second = third .before in
     let first = second .before in
     let args = first .before .before .before .args in
-    list-tests (args .count) (listTable (args .place .now) (args .ratio .now) (args .wraps .now)) (first .if1 .taken) (second .if2 .taken) (third .if3 .taken) (c .before .are-rising .ensures) (c .are-within .ensures)
+    list-tests (args .count) (listTable (args .place .now) (args .ratio .now) (args .wraps .now)) (first .if1 .taken) (second .if2 .taken) (third .if3 .taken) (c .are-entries .ensures)
 
 returns-2 : tie.Need-returns-2
 returns-2 c =
@@ -41,4 +38,4 @@ returns-4 c =
 pub is-list-spec : {M : Type 1} → statement M
 is-list-spec =
     tie.close
-    (tie.spec add-n are-rising-requires are-within-requires returns returns-2 returns-3 returns-4)
+    (tie.spec add-n are-entries-requires returns returns-2 returns-3 returns-4)
