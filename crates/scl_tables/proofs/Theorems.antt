@@ -1,4 +1,4 @@
--- What the sorted list of a scale is, and when there is none. Document 01, "Scales and searches". Assumes nothing.
+-- What the sorted list of a scale is, when there is none, and what a reduction gives. Document 01, "Scales and searches". Assumes nothing.
 use mathlib.Core.Path.{_≡_, refl, sym, _∙_, ap, subst}
 use mathlib.Core.Logic.{_↔_}
 use mathlib.Core.Bool.{true}
