@@ -36,7 +36,7 @@ fn is_supported(x: Numeral) -> bool
             false
         }
     } else {
-        false
+        false // an exponent or a word
     }
 }
 

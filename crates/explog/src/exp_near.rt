@@ -27,7 +27,7 @@ fn power_bits(b: u64) -> u64
 
 // A number near P: the first steps from a table, times the products of the next ones, times all the rest, whose factors are so
 // near 1 that they are added.
-pub fn near_power(b: u64) -> u64
+fn near_power(b: u64) -> u64
     ensures { λ r. ⌜ Near b r ⌝ }
 {
     let head = wide::mul_shift62(power_first::first_steps(b), power_products::product_1(b));

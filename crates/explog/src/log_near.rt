@@ -24,7 +24,7 @@ const ABOVE: u64 = 8;
 const NEXT: u64 = 709;
 
 // 2^62 times the power of two whose exponent has the 30 bits h after the point, from below, within 16.
-pub fn root_power(h: u64) -> u64
+fn root_power(h: u64) -> u64
     ensures { λ r. ⌜ Head h r ⌝ }
 {
     let head = wide::mul_shift62(log_roots::root_1(h), log_roots::root_2(h));

@@ -1,4 +1,4 @@
--- Samples of document 01's generators as the Rust has them, and that each call has one result. Assumes nothing.
+-- Samples of document 01's generators as the Rust has them, and that each call on a segment has one result. Assumes nothing.
 use mathlib.Core.Path.{_≡_, refl}
 use mathlib.Core.Logic.{inl, inr}
 use Prim.Native.Nat.{ℕ}

@@ -1,4 +1,4 @@
--- What the answers of this crate say, in document 01's numbers and values. Assumes nothing.
+-- What the answers of segments say, in document 01's numbers and values. Assumes nothing.
 use Rattle.base.specs.Said.{Said, gives, refusal}
 use Rattle.harmonics.specs.declared.segment.Fraction.{Fraction}
 use Rattle.harmonics.specs.declared.segment.FractionAnswer.{FractionAnswer}

@@ -1,4 +1,4 @@
--- Two results of one input are equal, for every public call. Assumes nothing.
+-- Two results of one input are equal, for every public call on a line or on a token. Assumes nothing.
 use mathlib.Core.Path.{refl}
 use mathlib.Core.Logic.{inl, inr}
 use mathlib.Core.List.{List}

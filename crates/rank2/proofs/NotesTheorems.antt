@@ -1,4 +1,4 @@
--- Each call has one result. Assumes nothing.
+-- Each call on notes has one result. Assumes nothing.
 use mathlib.Core.Path.{_≡_, sym, _∙_}
 use Prim.Native.Nat.{ℕ}
 use lib.Ieee.{Float}

@@ -1,4 +1,5 @@
--- Which refusals the relative pitches leave, and that each call has one result. Document 01, "Scales and searches". Assumes nothing.
+-- Which refusals relative pitches and pitches above a root leave, and that each call has one result. Document 01, "Scales and
+-- searches". Assumes nothing.
 use mathlib.Core.Path.{_≡_, refl, sym, _∙_, ap}
 use mathlib.Core.Bool.{Bool, true, false}
 use mathlib.Core.List.{List}
@@ -100,7 +101,7 @@ module _ (count : ℕ) (t : ItemTable) where
     pub sorted-relative-pitch-refusals : (d : ℤ) → ReachedOrBeyond (tested (isScale count t l) (sortedRelativePitchOf (itemsIn count t) (listIn count l) d))
     sorted-relative-pitch-refusals d = rw (h, k) (sorted-refusals d)
 
--- ---- two results of one input are equal
+-- ---- two results of one input are equal: relative pitches
 pub period-one : (count : ℕ) (t : ItemTable) → One saysRatio (tested (isItems count t) (ratioOf (lastOf (itemsIn count t))))
 period-one count t = ratio-one (tested (isItems count t) (ratioOf (lastOf (itemsIn count t))))
 
@@ -159,7 +160,7 @@ module _ (root : KbmRoot) where
   unfolding held
   offset-turned m n = rw (turned (root .offset) m n)
 
--- ---- refusals
+-- ---- refusals of a pitch above a root: 11 for the offset, then 18 alone
 module _ (items : List Item) (hz : Float) (h : inReach hz ≡ true) where
   pub root-reached : (at : ℤ) → ReachedOrBeyond (rootPitch items hz at)
   unfolding rootPitch
@@ -196,7 +197,7 @@ module _ (root : KbmRoot) (o : isRoot root ≡ true) (m : mag (root .offset) < 2
   unfolding sortedPitchOf
   sorted-pitch-refusals items es d k = after-offset (λ at. sortedPitchFrom items es (root .pitch .0) at d) (λ at. sorted-from-reached items (root .pitch .0) hz-reach es at d k)
 
--- ---- two results of one input are equal
+-- ---- two results of one input are equal: pitches above a root
 pub root-degree-one : (root : KbmRoot) → One saysI32 (rootDegree root)
 root-degree-one root = i32-one (rootDegree root)
 

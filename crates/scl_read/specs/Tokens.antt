@@ -1,4 +1,4 @@
--- Document 01, "Scale": what the reader of an item computes. `ItemText` says what an item is, `proofs/Language` that the two agree.
+-- Document 01, "Scale": what the reader of an item computes. `ItemText` says what an item is, `proofs/ItemLanguage` that the two agree.
 -- Assumes nothing.
 use mathlib.Core.Bool.{false}
 use mathlib.Core.List.{List, [], _∷_}

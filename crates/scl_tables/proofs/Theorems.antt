@@ -1,4 +1,4 @@
--- What the sorted list of a scale is, and when there is none. Document 01, "Scales and searches". Assumes nothing.
+-- What the sorted list of a scale is, when there is none, and what a reduction gives. Document 01, "Scales and searches". Assumes nothing.
 use mathlib.Core.Path.{_≡_, refl, sym, _∙_, ap, subst}
 use mathlib.Core.Logic.{_↔_}
 use mathlib.Core.Bool.{true}
@@ -88,7 +88,7 @@ left-list count items es l n v =
     rw (have-list count (afterList (gives es) l) (room-over (placesOf es) (l .places) count lp) (room-over (ratiosOf es) (l .ratios) count lr) (room-over (wrapsOf es) (l .wraps) count lw), list, v .ratios)
     (at-within count (placesOf es) (within-places count es fine))
 
--- ---- two results of one input are equal
+-- ---- two results of one input are equal: what is written
 pub room-of-one : (t : ItemTable) (l : ListTable) → One (λ r. r) (roomOf t l)
 room-of-one t l = one-result (roomOf t l)
 
@@ -108,7 +108,7 @@ reduction-given period ratio fp fr p r =
     let t = reduced-reaches 900 period ratio (lit≤ tt) fp fr (reach-says period p) (reach-says ratio r) in
     (t .value, (t .is, within-reach (t .between)))
 
--- ---- two results of one input are equal
+-- ---- two results of one input are equal: ratios and reductions
 given-one : {A : Type 0} (s : Said A) → One gives s
 given-one s x y p q = same-value x y (p ∙ sym q)
 

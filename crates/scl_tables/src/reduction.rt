@@ -1,7 +1,7 @@
 // The ratio of a usable item, and a ratio reduced by a scale's period, as the Rust's `SclBuilder::build` does it for each item and a
 // search for its target. Document 01, "Scales and searches".
 //
-// An inner crate: for what it is asked of, 18 never arises.
+// An inner module: for what it is asked of, 18 never arises.
 use floats::FloatAnswer;
 use integer_math::I32Answer;
 use pitch::Ratio;

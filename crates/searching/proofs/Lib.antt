@@ -5,4 +5,4 @@ pub mod Given
 pub mod Refusals
 pub mod Theorems
 pub mod Numbers
-pub mod DegreeNumbers
+pub mod Exact

@@ -1,4 +1,4 @@
--- What the answers of this crate say, in document 01's numbers and values. Assumes nothing.
+-- What the one search and its choice between two neighbours answer, in document 01's numbers and values. Assumes nothing.
 use Rattle.base.specs.Said.{Said, gives, refusal}
 use Rattle.searching.specs.declared.Choice.{Choice}
 use Rattle.searching.specs.declared.ChoiceAnswer.{ChoiceAnswer}

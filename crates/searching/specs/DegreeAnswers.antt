@@ -1,4 +1,4 @@
--- What the answers of a search say, in document 01's numbers and values. Assumes nothing.
+-- What the answers with a degree or a key say, in document 01's numbers and values. Assumes nothing.
 use Rattle.base.specs.Said.{Said, gives, refusal}
 use Rattle.searching.specs.declared.approximation.Approximation.{Approximation}
 use Rattle.searching.specs.declared.approximation.DegreeSearch.{DegreeSearch}

@@ -49,7 +49,6 @@ unfolding midiOf
 midi-numbered k = numbered-pick (leZ (pos 0) (k .0) && leZ (k .0) (pos 127)) (Numbered.value _) (Numbered.number (omega arith) (omega arith))
 
 -- ---- ratios and pitches
--- ---- a line for each call
 pub from-float-numbered : (x : Float) → Numbered (fromFloat x)
 from-float-numbered x = given-numbered x (Numbered.value x)
 

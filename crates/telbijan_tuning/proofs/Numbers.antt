@@ -1,5 +1,5 @@
 -- What the functions of this crate say is a value or one of document 01's numbers, so a result is 0 exactly where a value is stored
--- (`zero-accepted` of telbijan_answers). A line for each; of the numbers that a run of keys stores, `stored-number` of key_pitches.
+-- (`zero-accepted` of telbijan_answers). A line for each; of the numbers that a run of keys stores, `stored-number` of tuning.
 -- Assumes nothing.
 use mathlib.Core.List.{List}
 use Prim.Native.Nat.{ℕ}

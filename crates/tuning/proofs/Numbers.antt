@@ -77,7 +77,7 @@ module _ (count : ℕ) (t : ItemTable) where
       (tested-numbered (isTable (kbm .count) map)
       (numbered-then (numbered-then (held-numbered (kbm .root .reference .0 +ℤ d)) (λ z. Numbered.value (key z))) (maybe-numbered (itemsIn count t) kbm map)))
 
--- ---- a value or one of document 01's numbers
+-- ---- a run of keys
 pub run-numbered : (count : ℕ) (t : ItemTable) (kbm : Kbm) (map : List ℤ) (keys hz numbers : ℕ) → Numbered (runOf count t kbm map keys hz numbers)
 run-numbered count t kbm map keys hz numbers =
     tested-numbered (isTuning count t kbm map) (numbered-pick (leb keys hz && leb keys numbers) (Numbered.value tt) (Numbered.number (omega arith) (omega arith)))
@@ -85,7 +85,7 @@ run-numbered count t kbm map keys hz numbers =
 pub key-numbered : (items : List Item) (kbm : Kbm) (map : List ℤ) (first : PianoKey) (k : ℕ) → Numbered (keyPitches items kbm map first k)
 key-numbered items kbm map first k = numbered-then (numbered-then (held-numbered (first .0 +ℤ pos k)) (λ z. Numbered.value (key z))) (maybe-numbered items kbm map)
 
--- ---- beside each key
+-- ---- beside each key of it
 -- s says what t says
 shift : {s t : Said Float} {n : ℕ} → t ≡ s → Beside s n → Beside t n
 shift e (Beside.sounds x h) = Beside.sounds x (e ∙ h)

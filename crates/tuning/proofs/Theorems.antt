@@ -96,7 +96,7 @@ module _ (count : ℕ) (t : ItemTable) (it : isItems count t ≡ true) where
     unfolding held
     maybe-pitch-of-degree-is d e = rw (it, o, u, e) refl
 
--- ---- two results of one input are equal
+-- ---- two results of one input are equal: the single calls
 pub pitch-of-one : (count : ℕ) (t : ItemTable) (root : KbmRoot) (d : ℤ) → One saysPitch (tested (isItems count t && isRoot root) (pitchOf (itemsIn count t) root d))
 pitch-of-one count t root d = pitch-one (tested (isItems count t && isRoot root) (pitchOf (itemsIn count t) root d))
 
@@ -112,7 +112,7 @@ maybe-pitch-of-one count t kbm map k = pitch-one (tested (isItems count t && isR
 pub maybe-pitch-of-degree-one : (count : ℕ) (t : ItemTable) (kbm : Kbm) (map : List ℤ) (d : ℤ) → One saysPitch (tested (isItems count t && isRoot (kbm .root)) (tested (isTable (kbm .count) map) (maybeDegreePitchOf (itemsIn count t) kbm map d)))
 maybe-pitch-of-degree-one count t kbm map d = pitch-one (tested (isItems count t && isRoot (kbm .root)) (tested (isTable (kbm .count) map) (maybeDegreePitchOf (itemsIn count t) kbm map d)))
 
--- ---- two results of one input are equal
+-- ---- and a run of keys: its answer, and what it leaves
 run-split : Split (λ (u : Unit {0}). run.Done) run.Refused
 run-split run.Done = inl (tt, refl)
 run-split (run.Refused r) = inr (r, refl)

@@ -1,5 +1,5 @@
 -- Trimming as the code does it: how many bytes of white space stand at the start of a row of bytes and, by the reverse, at its end.
--- `Reading` says what is trimmed, `proofs/TrimLanguage` that the two agree. Assumes nothing.
+-- `White` says what is trimmed, `proofs/TrimLanguage` that the two agree. Assumes nothing.
 use mathlib.Core.List.{List, [], _∷_, reverse}
 use mathlib.Core.Bool.{Bool, true, false}
 use Prim.Native.Nat.{ℕ, zero, suc, _-_}

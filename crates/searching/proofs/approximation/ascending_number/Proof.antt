@@ -2,7 +2,7 @@
 -- Assumes nothing.
 use mir.Syntax.{w64}
 use Rattle.base.proofs.Machine.{widen-fits, widened}
-use Rattle.searching.proofs.DegreeNumbers.{near-32, plus-fits, plus-is, times-fits}
+use Rattle.searching.proofs.Exact.{near-32, plus-fits, plus-is, times-fits}
 use borrow.Author.Needs.{needs}
 use Rattle.searching.proofs.approximation.ascending_number.Statement.{statement}
 use Rattle.searching.proofs.approximation.ascending_number.Tie as tie

@@ -4,7 +4,7 @@ use lib.IntN.{_-ℤ_, _-ℤ_}
 use mir.Syntax.{w64}
 use Rattle.base.proofs.Integers.{mag-sub}
 use Rattle.base.proofs.Machine.{exact-fits, exact-is, widen-fits}
-use Rattle.searching.proofs.DegreeNumbers.{near-33, plus-fits, plus-is, times-fits}
+use Rattle.searching.proofs.Exact.{near-33, plus-fits, plus-is, times-fits}
 use borrow.Author.Needs.{needs}
 use Rattle.searching.proofs.approximation.declared_number.Statement.{statement}
 use Rattle.searching.proofs.approximation.declared_number.Tie as tie
