@@ -28,6 +28,7 @@
 //! # Ok::<(), telbijan::Refusal>(())
 //! ```
 #![no_std]
+#![warn(missing_docs)]
 #[cfg(feature = "alloc")]
 extern crate alloc;
 
