@@ -1,7 +1,7 @@
 //! Keyboard mappings: a table of entries that a caller lends or owns, and the numbers beside it.
 
 use crate::scale::{ask_items, items};
-use crate::{raw, Refusal, ScaleRef};
+use crate::{number, raw, Refusal, ScaleRef};
 
 /// What stands in a mapping's table for a key that is unmapped.
 pub const UNMAPPED: i32 = i32::MIN;
@@ -124,7 +124,7 @@ impl Tuning<'_> {
     /// stays as it was. The tables are tested once. 10 where they cannot be used, 12 where `numbers` has fewer places than `hz`.
     pub fn pitches_of(self, first: i32, hz: &mut [f64], numbers: &mut [u32]) -> Result<(), Refusal> {
         let (s, (a, b, c, d, e, f, g, h, i)) = (self.items(), mapping!(self.mapping));
-        let Ok(keys) = u32::try_from(hz.len()) else { return Refusal::of(12) };
+        let Ok(keys) = u32::try_from(hz.len()) else { return Refusal::of(u64::from(number::NO_ROOM)) };
         ask_items!(telbijan_pitches_of, s, self.scale.count(), a, b, c, d, e, f, g, h, i, first, keys, hz.as_mut_ptr(), hz.len(), numbers.as_mut_ptr(), numbers.len())
     }
 }
