@@ -1,6 +1,6 @@
 /* Reads a mapping file and prints the degrees of some keys.
  *
- * Build:  tools/archive target/libtelbijan.a && cc -Iinclude examples/degrees.c target/libtelbijan.a -o target/degrees
+ * Build:  tools/archive target/native/libtelbijan.a && cc -Iinclude examples/degrees.c target/native/libtelbijan.a -o target/degrees
  * Run:    target/degrees examples/white_keys.kbm
  */
 #include <errno.h>

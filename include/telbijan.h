@@ -3,9 +3,10 @@
  * Every function is total: no argument stops it or draws a made-up answer, but for what C leaves to the caller: pointers are
  * aligned for their type and point to as many elements as their lengths say, no pointer is null (one with length 0 may point
  * anywhere else; the calls on structs take NULL for a text, a description or an export of 0 bytes), no two lent parts of memory overlap, and the calling thread rounds
- * to nearest, ties to even, and does not flush subnormal numbers to zero. Nothing is allocated, and there
- * are no globals: calls may run on any number of threads, each with its own memory to write to. What an out-pointer points to
- * needs no value before the call.
+ * to nearest, ties to even, and does not flush subnormal numbers to zero. All memory is the
+ * caller's, lent for the length of a call: nothing is allocated or freed, no pointer is kept, and there
+ * are no globals: calls may run on any number of threads, each with its own memory to write to; any number may read the same
+ * tables, while none writes to them. What an out-pointer points to needs no value before the call.
  *
  * A result is 0, or a refusal: its low byte is the number, and the rest the detail, which is a line of the text (from 1),
  * the number of a required line, or 0. A refusal leaves all lent memory, and every value behind a pointer, as it was.
@@ -313,9 +314,9 @@ uint64_t telbijan_find_key_by_pitch(const uint8_t *kind, size_t kind_length, con
 
 /* ==== The same calls on structs ====================================================================================================
  *
- * The calls above, for people: a scale, a mapping and a refusal as plain structs. Each function here hands its struct to one of the calls
- * above and does nothing else, so all that is said there holds here. A refusal leaves the structs as they were too. Copies of a
- * struct lend the same memory: one of them writes, or many read.
+ * The calls above, for people: a scale, a mapping and a refusal as plain structs. Each function here hands its struct to the one call above
+ * that its comment names and keeps in the struct what that stores, so all that is said there holds here; the numbers are those that it may
+ * answer. A refusal leaves the structs as they were too. Copies of a struct lend the same memory: one of them writes, or many read.
  */
 
 /* What a call answers: number 0 where it was accepted; else why, and where (TELBIJAN_NUMBER, TELBIJAN_DETAIL). */
@@ -324,6 +325,7 @@ typedef struct telbijan_refusal {
     uint64_t detail;
 } telbijan_refusal;
 
+/* A result taken apart. */
 static inline telbijan_refusal telbijan_refusal_of(uint64_t result) {
     telbijan_refusal said;
     said.number = TELBIJAN_NUMBER(result);
@@ -331,6 +333,7 @@ static inline telbijan_refusal telbijan_refusal_of(uint64_t result) {
     return said;
 }
 
+/* Whether a call was accepted: its values are stored, and what it was to write is written. */
 static inline bool telbijan_is_accepted(telbijan_refusal said) {
     return said.number == TELBIJAN_ACCEPTED;
 }
@@ -416,7 +419,7 @@ typedef struct telbijan_mapping_builder {
     size_t count;
 } telbijan_mapping_builder;
 
-/* The columns of a scale as the calls above take them. */
+/* Scale, root and mapping as the calls above take them; the argument is written out more than once. */
 #define TELBIJAN_ITEMS(s) (s)->kind, (s)->room, (s)->cents, (s)->room, (s)->numer, (s)->room, (s)->denom, (s)->room
 #define TELBIJAN_COLUMNS(s) TELBIJAN_ITEMS(s), (s)->place, (s)->room, (s)->ratio, (s)->room, (s)->wraps, (s)->room
 #define TELBIJAN_ROOT(r) (r).reference, (r).hz, (r).offset
@@ -428,56 +431,68 @@ static inline const uint8_t *telbijan_bytes(const char *bytes, size_t length) {
     return (const uint8_t *)(length == 0 ? "" : bytes);
 }
 
+/* The same of bytes to be written: of none it is the address of `real`, and nothing is written there by way of it. */
 static inline uint8_t *telbijan_room(char *bytes, size_t length, size_t *real) {
     return length == 0 ? (uint8_t *)real : (uint8_t *)bytes;
 }
 
 /* ---- Scales. */
 
-/* `text` may be NULL where `length` is 0. */
+/* A scale file, read by telbijan_read_scl; its description is a part of the text. `text` may be NULL where `length` is 0. 1 to 6, 9, 10, 12, 13,
+ * 14, 18. */
 static inline telbijan_refusal telbijan_scale_read(telbijan_scale *scale, const char *text, size_t length, telbijan_span *description) {
     return telbijan_refusal_of(telbijan_read_scl(telbijan_bytes(text, length), length, TELBIJAN_COLUMNS(scale), &scale->count, &description->start, &description->end));
 }
 
-/* `description` may be NULL where `length` is 0, and `out` where `room` is 0. */
+/* The text of a scale, by telbijan_export_scl: TELBIJAN_SCL_ROOM bytes are enough. `description` may be NULL where `length` is 0, and `out` where
+ * `room` is 0. 10, 12. */
 static inline telbijan_refusal telbijan_scale_export(const telbijan_scale *scale, const char *description, size_t length, char *out, size_t room, size_t *written) {
     return telbijan_refusal_of(telbijan_export_scl(telbijan_bytes(description, length), length, TELBIJAN_ITEMS(scale), scale->count, telbijan_room(out, room, written), room, written));
 }
 
+/* A segment of the harmonic series, as telbijan_create_harmonics_scale makes it without divisions: 10, 12. */
 static inline telbijan_refusal telbijan_scale_harmonics(telbijan_scale *scale, bool otonal, uint16_t start, uint16_t size) {
     return telbijan_refusal_of(telbijan_create_harmonics_scale(otonal, start, size, false, 0, TELBIJAN_COLUMNS(scale), &scale->count));
 }
 
+/* The harmonics nearest to so many equal divisions of a segment, by the same call: 10, 12, 18. */
 static inline telbijan_refusal telbijan_scale_divided_harmonics(telbijan_scale *scale, bool otonal, uint16_t start, uint16_t size, uint16_t divisions) {
     return telbijan_refusal_of(telbijan_create_harmonics_scale(otonal, start, size, true, divisions, TELBIJAN_COLUMNS(scale), &scale->count));
 }
 
+/* A rank-2 temperament, as telbijan_create_rank2_temperament_scale makes it: 13, 10, 12, 18. */
 static inline telbijan_refusal telbijan_scale_rank2(telbijan_scale *scale, double generator, uint16_t positive, uint16_t negative, double period) {
     return telbijan_refusal_of(telbijan_create_rank2_temperament_scale(generator, positive, negative, period, TELBIJAN_COLUMNS(scale), &scale->count));
 }
 
+/* The ratio of the last item, by telbijan_period: 10. */
 static inline telbijan_refusal telbijan_scale_period(const telbijan_scale *scale, double *period) {
     return telbijan_refusal_of(telbijan_period(TELBIJAN_ITEMS(scale), scale->count, period));
 }
 
+/* The ratio of a degree to degree 0, by telbijan_relative_pitch_of: 10, 18. */
 static inline telbijan_refusal telbijan_scale_relative_pitch_of(const telbijan_scale *scale, int32_t degree, double *relative) {
     return telbijan_refusal_of(telbijan_relative_pitch_of(TELBIJAN_ITEMS(scale), scale->count, degree, relative));
 }
 
+/* The same of a degree in ascending order, by telbijan_sorted_relative_pitch_of. */
 static inline telbijan_refusal telbijan_scale_sorted_relative_pitch_of(const telbijan_scale *scale, int32_t degree, double *relative) {
     return telbijan_refusal_of(telbijan_sorted_relative_pitch_of(TELBIJAN_COLUMNS(scale), scale->count, degree, relative));
 }
 
+/* The degree whose ratio comes nearest to `target`, by telbijan_find_by_relative_pitch: 10, 18, 11. */
 static inline telbijan_refusal telbijan_scale_find(const telbijan_scale *scale, double target, telbijan_found *found) {
     return telbijan_refusal_of(telbijan_find_by_relative_pitch(TELBIJAN_COLUMNS(scale), scale->count, target, &found->number, &found->deviation));
 }
 
+/* The same, the degree counted in ascending order, by telbijan_find_by_relative_pitch_sorted. */
 static inline telbijan_refusal telbijan_scale_find_sorted(const telbijan_scale *scale, double target, telbijan_found *found) {
     return telbijan_refusal_of(telbijan_find_by_relative_pitch_sorted(TELBIJAN_COLUMNS(scale), scale->count, target, &found->number, &found->deviation));
 }
 
 /* ---- A scale, built: begin, push, build. `scale` lends the columns; what it holds is lost. */
 
+/* Nothing is pushed yet; place 0 of the columns is written, by telbijan_new_scl: 12 where there is no place. */
 static inline telbijan_refusal telbijan_scale_begin(telbijan_scale_builder *builder, const telbijan_scale *scale) {
     size_t room = 0;
     uint64_t result = telbijan_new_scl(TELBIJAN_COLUMNS(scale), &room);
@@ -488,22 +503,27 @@ static inline telbijan_refusal telbijan_scale_begin(telbijan_scale_builder *buil
     return telbijan_refusal_of(result);
 }
 
+/* One item more, in cents, by telbijan_push_cents: 10, 12. */
 static inline telbijan_refusal telbijan_scale_push_cents(telbijan_scale_builder *builder, double cents) {
     return telbijan_refusal_of(telbijan_push_cents(TELBIJAN_ITEMS(&builder->scale), builder->scale.room, builder->count, cents, &builder->count));
 }
 
+/* One ratio more, kept as its cents, by telbijan_push_ratio: 10, 12. */
 static inline telbijan_refusal telbijan_scale_push_ratio(telbijan_scale_builder *builder, double ratio) {
     return telbijan_refusal_of(telbijan_push_ratio(TELBIJAN_ITEMS(&builder->scale), builder->scale.room, builder->count, ratio, &builder->count));
 }
 
+/* One integer more, by telbijan_push_int: 10, 12. */
 static inline telbijan_refusal telbijan_scale_push_int(telbijan_scale_builder *builder, uint32_t number) {
     return telbijan_refusal_of(telbijan_push_int(TELBIJAN_ITEMS(&builder->scale), builder->scale.room, builder->count, number, &builder->count));
 }
 
+/* One fraction more, by telbijan_push_fraction: 10, 12. */
 static inline telbijan_refusal telbijan_scale_push_fraction(telbijan_scale_builder *builder, uint32_t numer, uint32_t denom) {
     return telbijan_refusal_of(telbijan_push_fraction(TELBIJAN_ITEMS(&builder->scale), builder->scale.room, builder->count, numer, denom, &builder->count));
 }
 
+/* The scale of what was pushed, by telbijan_build_scl, in the builder's columns, to which `scale` points then: 10, 13, 18. */
 static inline telbijan_refusal telbijan_scale_build(const telbijan_scale_builder *builder, telbijan_scale *scale) {
     uint16_t count = 0;
     uint64_t result = telbijan_build_scl(TELBIJAN_COLUMNS(&builder->scale), builder->scale.room, builder->count, &count);
@@ -516,23 +536,25 @@ static inline telbijan_refusal telbijan_scale_build(const telbijan_scale_builder
 
 /* ---- Mappings. */
 
-/* `text` may be NULL where `length` is 0. */
+/* A mapping file, read by telbijan_read_kbm. `text` may be NULL where `length` is 0. 1, 2, 3, 7 to 14. */
 static inline telbijan_refusal telbijan_mapping_read(telbijan_mapping *mapping, const char *text, size_t length) {
     return telbijan_refusal_of(telbijan_read_kbm(telbijan_bytes(text, length), length, mapping->map, mapping->room, &mapping->count, &mapping->start, &mapping->end,
         &mapping->root.reference, &mapping->root.hz, &mapping->root.offset, &mapping->octave));
 }
 
-/* `out` may be NULL where `room` is 0. */
+/* The text of a mapping, by telbijan_export_kbm: TELBIJAN_KBM_ROOM bytes are enough. `out` may be NULL where `room` is 0. 10, 11, 12. */
 static inline telbijan_refusal telbijan_mapping_export(const telbijan_mapping *mapping, char *out, size_t room, size_t *written) {
     return telbijan_refusal_of(telbijan_export_kbm(TELBIJAN_MAPPING(mapping), telbijan_room(out, room, written), room, written));
 }
 
+/* The degree of a key, by telbijan_scale_degree_of: 10, 16, 11, 17. */
 static inline telbijan_refusal telbijan_mapping_degree_of(const telbijan_mapping *mapping, int32_t key, int32_t *degree) {
     return telbijan_refusal_of(telbijan_scale_degree_of(TELBIJAN_MAPPING(mapping), key, degree));
 }
 
 /* ---- A mapping, built: `mapping` lends the table, and has root and range; its count and octave do not matter. */
 
+/* Nothing is pushed yet, and nothing written: 10 for a root whose pitch cannot be used (telbijan_kbm_root). */
 static inline telbijan_refusal telbijan_mapping_begin(telbijan_mapping_builder *builder, const telbijan_mapping *mapping) {
     uint64_t result = telbijan_kbm_root(TELBIJAN_ROOT(mapping->root));
     if (result == TELBIJAN_ACCEPTED) {
@@ -542,15 +564,17 @@ static inline telbijan_refusal telbijan_mapping_begin(telbijan_mapping_builder *
     return telbijan_refusal_of(result);
 }
 
+/* One entry more, a degree, by telbijan_push_mapped_key: 10, 12. */
 static inline telbijan_refusal telbijan_mapping_push(telbijan_mapping_builder *builder, int16_t degree) {
     return telbijan_refusal_of(telbijan_push_mapped_key(builder->mapping.map, builder->mapping.room, builder->mapping.room, builder->count, degree, &builder->count));
 }
 
+/* One entry more that has none, by telbijan_push_unmapped_key: 10, 12. */
 static inline telbijan_refusal telbijan_mapping_push_unmapped(telbijan_mapping_builder *builder) {
     return telbijan_refusal_of(telbijan_push_unmapped_key(builder->mapping.map, builder->mapping.room, builder->mapping.room, builder->count, &builder->count));
 }
 
-/* With a formal octave; the other is for a mapping without entries, which needs none. */
+/* The mapping of what was pushed, with a formal octave, by telbijan_build_kbm: 10, 13. The other is for a mapping without entries, which needs none. */
 static inline telbijan_refusal telbijan_mapping_build(const telbijan_mapping_builder *builder, int16_t octave, telbijan_mapping *mapping) {
     telbijan_mapping built = builder->mapping;
     uint64_t result = telbijan_build_kbm(built.map, built.room, built.room, builder->count, built.start, built.end, TELBIJAN_ROOT(built.root), true, octave, &built.count, &built.octave);
@@ -559,6 +583,7 @@ static inline telbijan_refusal telbijan_mapping_build(const telbijan_mapping_bui
     return telbijan_refusal_of(result);
 }
 
+/* Without a formal octave, by the same call: 10, 15 where an entry was pushed. */
 static inline telbijan_refusal telbijan_mapping_build_linear(const telbijan_mapping_builder *builder, telbijan_mapping *mapping) {
     telbijan_mapping built = builder->mapping;
     uint64_t result = telbijan_build_kbm(built.map, built.room, built.room, builder->count, built.start, built.end, TELBIJAN_ROOT(built.root), false, 0, &built.count, &built.octave);
@@ -569,39 +594,49 @@ static inline telbijan_refusal telbijan_mapping_build_linear(const telbijan_mapp
 
 /* ---- Pitches and searches: a scale above a root, or through a mapping. */
 
+/* The pitch of a degree above a root, by telbijan_pitch_of: 10, 11, 18. */
 static inline telbijan_refusal telbijan_tuning_pitch_of(const telbijan_scale *scale, telbijan_root root, int32_t degree, double *hz) {
     return telbijan_refusal_of(telbijan_pitch_of(TELBIJAN_ITEMS(scale), scale->count, TELBIJAN_ROOT(root), degree, hz));
 }
 
+/* The pitch of a key, whose degree is its distance from the reference key, by telbijan_pitch_of_key: 10, 11, 18. */
 static inline telbijan_refusal telbijan_tuning_pitch_of_key(const telbijan_scale *scale, telbijan_root root, int32_t key, double *hz) {
     return telbijan_refusal_of(telbijan_pitch_of_key(TELBIJAN_ITEMS(scale), scale->count, TELBIJAN_ROOT(root), key, hz));
 }
 
+/* The pitch of a degree in ascending order, by telbijan_sorted_pitch_of: 10, 11, 18. */
 static inline telbijan_refusal telbijan_tuning_sorted_pitch_of(const telbijan_scale *scale, telbijan_root root, int32_t degree, double *hz) {
     return telbijan_refusal_of(telbijan_sorted_pitch_of(TELBIJAN_COLUMNS(scale), scale->count, TELBIJAN_ROOT(root), degree, hz));
 }
 
+/* The pitch of a key through a mapping, by telbijan_maybe_pitch_of: 10, 16, 11, 17, 18. */
 static inline telbijan_refusal telbijan_tuning_maybe_pitch_of(const telbijan_scale *scale, const telbijan_mapping *mapping, int32_t key, double *hz) {
     return telbijan_refusal_of(telbijan_maybe_pitch_of(TELBIJAN_ITEMS(scale), scale->count, TELBIJAN_MAPPING(mapping), key, hz));
 }
 
+/* The same of the key so many steps above the mapping's reference key, by telbijan_maybe_pitch_of_degree. */
 static inline telbijan_refusal telbijan_tuning_maybe_pitch_of_degree(const telbijan_scale *scale, const telbijan_mapping *mapping, int32_t degree, double *hz) {
     return telbijan_refusal_of(telbijan_maybe_pitch_of_degree(TELBIJAN_ITEMS(scale), scale->count, TELBIJAN_MAPPING(mapping), degree, hz));
 }
 
-/* `hz` and `numbers` have `keys` places each. */
+/* The pitches of a run of keys through a mapping, and beside each 0 or why it has none, by telbijan_pitches_of: 10. `hz` and `numbers` have `keys`
+ * places each; the pitch of a refused key stays as it was. */
 static inline telbijan_refusal telbijan_tuning_pitches_of(const telbijan_scale *scale, const telbijan_mapping *mapping, int32_t first, uint32_t keys, double *hz, uint32_t *numbers) {
     return telbijan_refusal_of(telbijan_pitches_of(TELBIJAN_ITEMS(scale), scale->count, TELBIJAN_MAPPING(mapping), first, keys, hz, keys, numbers, keys));
 }
 
+/* The degree whose pitch above a root comes nearest to `hz`, by telbijan_find_by_pitch: 10, 11, 18. */
 static inline telbijan_refusal telbijan_tuning_find_by_pitch(const telbijan_scale *scale, telbijan_root root, double hz, telbijan_found *found) {
     return telbijan_refusal_of(telbijan_find_by_pitch(TELBIJAN_COLUMNS(scale), scale->count, TELBIJAN_ROOT(root), hz, &found->number, &found->deviation));
 }
 
+/* The same, the degree counted in ascending order, by telbijan_find_by_pitch_sorted. */
 static inline telbijan_refusal telbijan_tuning_find_by_pitch_sorted(const telbijan_scale *scale, telbijan_root root, double hz, telbijan_found *found) {
     return telbijan_refusal_of(telbijan_find_by_pitch_sorted(TELBIJAN_COLUMNS(scale), scale->count, TELBIJAN_ROOT(root), hz, &found->number, &found->deviation));
 }
 
+/* The key that many degrees above the reference key, by telbijan_find_key_by_pitch: 10, 11, 18. Each key counts as one degree: no
+ * mapping plays a part, so that a key which a mapping leaves out or gives another degree may be found. */
 static inline telbijan_refusal telbijan_tuning_find_key_by_pitch(const telbijan_scale *scale, telbijan_root root, double hz, telbijan_found *found) {
     return telbijan_refusal_of(telbijan_find_key_by_pitch(TELBIJAN_COLUMNS(scale), scale->count, TELBIJAN_ROOT(root), hz, &found->number, &found->deviation));
 }

@@ -6,9 +6,10 @@ use std::process::Command;
 fn main() {
     println!("cargo:rerun-if-env-changed=TELBIJAN_LIB_DIR");
     let folder = match std::env::var_os("TELBIJAN_LIB_DIR") {
-        Some(folder) => PathBuf::from(folder),
-        None => built(),
+        Some(folder) if !folder.is_empty() => PathBuf::from(folder),
+        _ => built(),
     };
+    assert!(folder.join("libtelbijan.a").exists(), "there is no libtelbijan.a in {}: TELBIJAN_LIB_DIR is the folder that has it", folder.display());
     println!("cargo:rerun-if-changed={}", folder.join("libtelbijan.a").display());
     println!("cargo:rustc-link-search=native={}", folder.display());
     println!("cargo:rustc-link-lib=static=telbijan");

@@ -5,7 +5,7 @@
 
 use std::io::{self, BufWriter, Write};
 use std::process::ExitCode;
-use telbijan::{ratio, Mapping, Refusal, Scale};
+use telbijan::{number, ratio, Mapping, Refusal, Scale};
 
 /// The most keys that are shown.
 const MOST: i64 = 1024;
@@ -17,7 +17,7 @@ fn read<T>(name: &str, parse: impl FnOnce(&[u8]) -> Result<T, Refusal>) -> Resul
     let text = std::fs::read(name).map_err(|_| format!("{name}: cannot be opened"))?;
     parse(&text).map_err(|refusal| match refusal.line() {
         Some(line) => format!("{name}:{line}: {}", refusal.reason()),
-        None if refusal.number() == 2 => format!("{name}: required line {} is missing", refusal.detail()),
+        None if refusal.number() == number::LINE_MISSING => format!("{name}: required line {} is missing", refusal.detail()),
         None => format!("{name}: {}", refusal.reason()),
     })
 }
@@ -46,7 +46,7 @@ fn print(out: &mut impl Write, scale: &Scale, mapping: &Mapping) -> io::Result<(
     for key in (first..end.min(first + MOST)).map(|key| key as i32) {
         match line(scale, mapping, key) {
             Ok(words) => writeln!(out, "{key} {words}")?,
-            Err(refusal) if refusal.number() == 17 => writeln!(out, "{key} unmapped")?,
+            Err(refusal) if refusal.number() == number::UNMAPPED_KEY => writeln!(out, "{key} unmapped")?,
             Err(refusal) => writeln!(out, "{key} {}", refusal.reason())?,
         }
     }

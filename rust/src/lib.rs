@@ -3,13 +3,13 @@
 //! lent as it was. This crate is a safe wrapper, with no dependencies; without the feature `alloc` it is `no_std` and allocates nothing.
 //!
 //! ```
-//! use telbijan::{Mapping, Scale};
+//! use telbijan::{number, Mapping, Scale};
 //!
 //! let scale = Scale::read(b"A just third and a fifth\n3\n5/4\n3/2\n2/1\n")?;
 //! let mapping = Mapping::read(b"0\n0\n127\n60\n60\n264.0\n0\n")?;
 //! let tuning = mapping.over(&scale);
 //! assert_eq!(tuning.pitch_of(62)?, 396.0);
-//! assert_eq!(tuning.pitch_of(128).unwrap_err().number(), 16);
+//! assert_eq!(tuning.pitch_of(128).unwrap_err().number(), number::KEY_OUT_OF_RANGE);
 //! # Ok::<(), telbijan::Refusal>(())
 //! ```
 //!
@@ -28,6 +28,7 @@
 //! # Ok::<(), telbijan::Refusal>(())
 //! ```
 #![no_std]
+#![warn(missing_docs)]
 #[cfg(feature = "alloc")]
 extern crate alloc;
 
@@ -44,5 +45,5 @@ pub use mapping::{read_mapping, MappingRef, Numbers, Root, Tuning, UNMAPPED};
 pub use mapping_builder::MappingBuilder;
 #[cfg(feature = "alloc")]
 pub use owned::{Mapping, Scale};
-pub use refusal::{reason, Refusal};
+pub use refusal::{number, reason, Refusal};
 pub use scale::{Builder, Columns, Found, ScaleRef};

@@ -1,7 +1,7 @@
 //! Keyboard mappings: a table of entries that a caller lends or owns, and the numbers beside it.
 
 use crate::scale::{ask_items, items};
-use crate::{raw, Refusal, ScaleRef};
+use crate::{number, raw, Refusal, ScaleRef};
 
 /// What stands in a mapping's table for a key that is unmapped.
 pub const UNMAPPED: i32 = i32::MIN;
@@ -9,8 +9,11 @@ pub const UNMAPPED: i32 = i32::MIN;
 /// The key that a tuning hangs on, its pitch in Hz, and the root's distance from the key.
 #[derive(Clone, Copy, Debug, PartialEq)]
 pub struct Root {
+    /// The reference key.
     pub reference: i32,
+    /// Its pitch in Hz, from 2^-10 to 2^20.
     pub hz: f64,
+    /// The middle key minus the reference key.
     pub offset: i32,
 }
 
@@ -18,17 +21,24 @@ pub struct Root {
 /// make a formal octave.
 #[derive(Clone, Copy, Debug, PartialEq)]
 pub struct Numbers {
+    /// The entries, from the table's first place on.
     pub count: u16,
+    /// The first key.
     pub start: i32,
+    /// The key after the last.
     pub end: i32,
+    /// What the keys hang on.
     pub root: Root,
+    /// The formal octave.
     pub octave: i16,
 }
 
 /// A mapping in a borrowed table.
 #[derive(Clone, Copy, Debug)]
 pub struct MappingRef<'a> {
+    /// The table: degrees from -32768 to 32767, and `UNMAPPED`.
     pub map: &'a [i32],
+    /// What stands beside it.
     pub numbers: Numbers,
 }
 
@@ -78,7 +88,9 @@ impl MappingRef<'_> {
 /// A scale and a mapping: what a player asks.
 #[derive(Clone, Copy, Debug)]
 pub struct Tuning<'a> {
+    /// The pitches of the degrees.
     pub scale: ScaleRef<'a>,
+    /// The degrees of the keys.
     pub mapping: MappingRef<'a>,
 }
 
@@ -112,7 +124,7 @@ impl Tuning<'_> {
     /// stays as it was. The tables are tested once. 10 where they cannot be used, 12 where `numbers` has fewer places than `hz`.
     pub fn pitches_of(self, first: i32, hz: &mut [f64], numbers: &mut [u32]) -> Result<(), Refusal> {
         let (s, (a, b, c, d, e, f, g, h, i)) = (self.items(), mapping!(self.mapping));
-        let Ok(keys) = u32::try_from(hz.len()) else { return Refusal::of(12) };
+        let Ok(keys) = u32::try_from(hz.len()) else { return Refusal::of(u64::from(number::NO_ROOM)) };
         ask_items!(telbijan_pitches_of, s, self.scale.count(), a, b, c, d, e, f, g, h, i, first, keys, hz.as_mut_ptr(), hz.len(), numbers.as_mut_ptr(), numbers.len())
     }
 }

@@ -57,6 +57,22 @@ impl Scale {
         }
     }
 
+    /// Keeps the places of its items alone.
+    fn trim(&mut self) {
+        fn cut<T>(column: &mut Vec<T>, places: usize) {
+            column.truncate(places);
+            column.shrink_to_fit();
+        }
+        let places = usize::from(self.count) + 1;
+        cut(&mut self.kind, places);
+        cut(&mut self.cents, places);
+        cut(&mut self.numer, places);
+        cut(&mut self.denom, places);
+        cut(&mut self.place, places);
+        cut(&mut self.ratio, places);
+        cut(&mut self.wraps, places);
+    }
+
     /// Reads a scale file. There is always room: over 65,535 items give 13, never 12.
     ///
     /// ```
@@ -74,6 +90,7 @@ impl Scale {
         let mut scale = Scale::empty(lines(text));
         let (count, description) = scale.columns().read(text)?;
         scale.count = count;
+        scale.trim();
         scale.description = core::str::from_utf8(&text[description]).unwrap_or("").into();
         Ok(scale)
     }
@@ -100,6 +117,7 @@ impl Scale {
             return Err(Refusal::UNUSABLE);
         }
         scale.count = count;
+        scale.trim();
         Ok(scale)
     }
 

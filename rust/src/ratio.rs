@@ -78,9 +78,13 @@ pub fn is_negligible(ratio: f64) -> Result<bool, Refusal> {
 /// A fraction near a ratio within an octave, how far the ratio lies above it, and the octaves taken off.
 #[derive(Clone, Copy, Debug, PartialEq)]
 pub struct NearestFraction {
+    /// The fraction's numerator.
     pub numer: u16,
+    /// Its denominator.
     pub denom: u16,
+    /// How far the ratio, its octaves taken off, lies above the fraction, a ratio.
     pub deviation: f64,
+    /// The octaves that were taken off.
     pub octaves: i32,
 }
 

@@ -13,7 +13,7 @@ pub struct Refusal {
 impl Refusal {
     /// 10, with no line.
     #[cfg(feature = "alloc")]
-    pub(crate) const UNUSABLE: Refusal = Refusal { number: 10, detail: 0 };
+    pub(crate) const UNUSABLE: Refusal = Refusal { number: number::UNUSABLE, detail: 0 };
 
     /// The answer that a call gave, where it was not accepted.
     pub(crate) fn of(result: u64) -> Result<(), Refusal> {
@@ -24,7 +24,7 @@ impl Refusal {
         }
     }
 
-    /// The number, from 1 to 18.
+    /// The number, from 1 to 18; the module `number` names them.
     pub fn number(self) -> u8 {
         self.number
     }
@@ -36,7 +36,7 @@ impl Refusal {
 
     /// The line that is at fault, where a line is.
     pub fn line(self) -> Option<u64> {
-        (self.detail != 0 && self.number != 2).then_some(self.detail)
+        (self.detail != 0 && self.number != number::LINE_MISSING).then_some(self.detail)
     }
 
     /// A sentence for the number.
@@ -45,27 +45,67 @@ impl Refusal {
     }
 }
 
+/// The numbers by name, as the header for C has them.
+pub mod number {
+    /// A line is not UTF-8; the detail is the line.
+    pub const NOT_UTF8: u8 = 1;
+    /// A required line is missing; the detail says which, counted from 1.
+    pub const LINE_MISSING: u8 = 2;
+    /// Not an integer of its type; the detail is the line.
+    pub const INT_VALUE: u8 = 3;
+    /// Not a cents value; the detail is the line.
+    pub const CENTS_VALUE: u8 = 4;
+    /// Not a numerator; the detail is the line.
+    pub const NUMER: u8 = 5;
+    /// Not a denominator; the detail is the line.
+    pub const DENOM: u8 = 6;
+    /// Not a decimal; the detail is the line.
+    pub const FLOAT_VALUE: u8 = 7;
+    /// Not a mapping entry; the detail is the line.
+    pub const KEYBOARD_MAPPING: u8 = 8;
+    /// A numeral with an exponent, a word, or over 18 digits; the detail is the line.
+    pub const UNSUPPORTED_NUMERAL: u8 = 9;
+    /// A value, a state or a lent table that cannot be used; the detail is the line, or 0 outside a text.
+    pub const UNUSABLE: u8 = 10;
+    /// A number leaves its type; the detail is the line, or 0.
+    pub const OVERFLOW: u8 = 11;
+    /// What was lent is too small; the detail is the line, or 0.
+    pub const NO_ROOM: u8 = 12;
+    /// Over 65,535 entries.
+    pub const TOO_LARGE: u8 = 13;
+    /// The text has another count of notes or entries than it says.
+    pub const INCONSISTENT_COUNT: u8 = 14;
+    /// A builder with entries and no formal octave.
+    pub const FORMAL_OCTAVE_MISSING: u8 = 15;
+    /// The key is outside the range.
+    pub const KEY_OUT_OF_RANGE: u8 = 16;
+    /// The key is unmapped.
+    pub const UNMAPPED_KEY: u8 = 17;
+    /// Beyond reach: a period of 1.0, 0 divisions, or a computed pitch or ratio outside its range.
+    pub const BEYOND_REACH: u8 = 18;
+}
+
 /// A sentence for each number.
 pub fn reason(number: u8) -> &'static str {
     match number {
-        1 => "a line is not UTF-8",
-        2 => "a required line is missing",
-        3 => "not an integer of its type",
-        4 => "not a cents value",
-        5 => "not a numerator",
-        6 => "not a denominator",
-        7 => "not a decimal",
-        8 => "not a mapping entry",
-        9 => "a numeral with an exponent, a word, or over 18 digits",
-        10 => "a value, a state or a lent table that cannot be used",
-        11 => "a number leaves its type",
-        12 => "what was lent is too small",
-        13 => "over 65,535 entries",
-        14 => "the text has another count of notes or entries than it says",
-        15 => "a builder with entries and no formal octave",
-        16 => "the key is outside the range",
-        17 => "the key is unmapped",
-        18 => "beyond reach: a period of 1.0, 0 divisions, or a computed pitch or ratio outside its range",
+        number::NOT_UTF8 => "a line is not UTF-8",
+        number::LINE_MISSING => "a required line is missing",
+        number::INT_VALUE => "not an integer of its type",
+        number::CENTS_VALUE => "not a cents value",
+        number::NUMER => "not a numerator",
+        number::DENOM => "not a denominator",
+        number::FLOAT_VALUE => "not a decimal",
+        number::KEYBOARD_MAPPING => "not a mapping entry",
+        number::UNSUPPORTED_NUMERAL => "a numeral with an exponent, a word, or over 18 digits",
+        number::UNUSABLE => "a value, a state or a lent table that cannot be used",
+        number::OVERFLOW => "a number leaves its type",
+        number::NO_ROOM => "what was lent is too small",
+        number::TOO_LARGE => "over 65,535 entries",
+        number::INCONSISTENT_COUNT => "the text has another count of notes or entries than it says",
+        number::FORMAL_OCTAVE_MISSING => "a builder with entries and no formal octave",
+        number::KEY_OUT_OF_RANGE => "the key is outside the range",
+        number::UNMAPPED_KEY => "the key is unmapped",
+        number::BEYOND_REACH => "beyond reach: a period of 1.0, 0 divisions, or a computed pitch or ratio outside its range",
         _ => "no number of this library",
     }
 }
@@ -73,7 +113,7 @@ pub fn reason(number: u8) -> &'static str {
 impl Display for Refusal {
     fn fmt(&self, f: &mut Formatter<'_>) -> fmt::Result {
         match (self.number, self.line()) {
-            (2, _) => write!(f, "required line {}: {}", self.detail, self.reason()),
+            (number::LINE_MISSING, _) => write!(f, "required line {}: {}", self.detail, self.reason()),
             (_, Some(line)) => write!(f, "line {line}: {}", self.reason()),
             _ => f.write_str(self.reason()),
         }

@@ -6,12 +6,19 @@ use core::ops::Range;
 /// The columns of a scale, lent to be written: place 0 holds the implicit unison, so that n items need n + 1 places.
 #[derive(Debug)]
 pub struct Columns<'a> {
+    /// Of an item: 0 for `cents`, 1 for the fraction `numer` / `denom`, 2 for the integer `numer`.
     pub kind: &'a mut [u8],
+    /// Of an item of kind 0, from -38,400 to 38,400; else 0.
     pub cents: &'a mut [f64],
+    /// Of an item of kind 1 or 2, at least 1; else 0.
     pub numer: &'a mut [u32],
+    /// Of an item of kind 1, at least 1; else 0.
     pub denom: &'a mut [u32],
+    /// Of an entry of the sorted list: the place of its item.
     pub place: &'a mut [u32],
+    /// Of an entry: the item's ratio, reduced by the period.
     pub ratio: &'a mut [f64],
+    /// Of an entry: how many periods that took away.
     pub wraps: &'a mut [i32],
 }
 
@@ -31,7 +38,9 @@ pub struct ScaleRef<'a> {
 /// The nearest degree or key, and how far the target lies above it, a ratio.
 #[derive(Clone, Copy, Debug, PartialEq)]
 pub struct Found {
+    /// The degree, or the key where a key was asked for.
     pub number: i32,
+    /// How far the target lies above it, a ratio.
     pub deviation: f64,
 }
 
@@ -149,7 +158,8 @@ impl<'a> ScaleRef<'a> {
         ask_scale!(telbijan_find_by_pitch_sorted, self, self.count, root.reference, root.hz, root.offset, hz, &mut found.number, &mut found.deviation).map(|()| found)
     }
 
-    /// The key whose pitch comes nearest, that degree above the reference key; 11 where the key passes 32 bits too.
+    /// The key whose pitch comes nearest, that degree above the reference key; 11 where the key passes 32 bits too. Each key counts as one degree:
+    /// no mapping plays a part.
     pub fn find_key_by_pitch(self, root: Root, hz: f64) -> Result<Found, Refusal> {
         let mut found = Found { number: 0, deviation: 0.0 };
         ask_scale!(telbijan_find_key_by_pitch, self, self.count, root.reference, root.hz, root.offset, hz, &mut found.number, &mut found.deviation).map(|()| found)

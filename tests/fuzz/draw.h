@@ -164,6 +164,19 @@ static void same(telbijan_refusal said, uint64_t result, const char *where) {
         fail("a number has its reason", where);
 }
 
+/* Lent bytes as a call on structs may be given them: NULL where there are none, for which it hands on a real address. */
+static const char *given_text(const uint8_t *text, size_t length) {
+    const char *given = length == 0 ? NULL : (const char *)text;
+    MUST(telbijan_bytes(given, length) != NULL);
+    return given;
+}
+
+static char *given_room(uint8_t *out, size_t room, size_t *written) {
+    char *given = room == 0 ? NULL : (char *)out;
+    MUST(telbijan_room(given, room, written) != NULL);
+    return given;
+}
+
 static bool same_bits(double x, double y) {
     return memcmp(&x, &y, sizeof x) == 0;
 }

@@ -29,7 +29,7 @@ static bool same_numbers(telbijan_mapping m, telbijan_mapping n) {
 static void mapping_alike(telbijan_mapping m, const uint8_t *text, size_t length, uint64_t result) {
     telbijan_mapping n = {(int32_t *)column(1, MAP, m.room), m.room, 1, 2, 3, {4, 5, 6}, 7}, old = n;
     keep(1);
-    SAME(telbijan_mapping_read(&n, (const char *)text, length), result);
+    SAME(telbijan_mapping_read(&n, given_text(text, length), length), result);
     if (result == 0)
         may_change(1, MAP, 4, 0, n.count);
     judge(1, result, HERE);
@@ -62,7 +62,7 @@ static uint64_t export_mapping(telbijan_mapping m, size_t room, size_t *took) {
         may_change(0, BYTES, 1, 0, *written), values_change(0);
     JUDGE();
     *took = *written;
-    SAME(telbijan_mapping_export(&m, (char *)other, room, took), result);
+    SAME(telbijan_mapping_export(&m, given_room(other, room, took), room, took), result);
     MUST(*took == *written), alike(BYTES, BYTES, HERE);
     return result;
 }

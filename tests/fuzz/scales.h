@@ -10,7 +10,7 @@ static void read_alike(const columns *c, const uint8_t *text, size_t length, uin
     telbijan_span span = {7, 7};
     d.s.count = 0x5a5a;
     keep(1);
-    SAME(telbijan_scale_read(&d.s, (const char *)text, length, &span), result);
+    SAME(telbijan_scale_read(&d.s, given_text(text, length), length, &span), result);
     if (result == 0)
         columns_change(1, WRAPS, 0, (size_t)d.s.count + 1);
     judge(1, result, HERE);
@@ -48,7 +48,7 @@ static uint64_t export_scale(const columns *c, const uint8_t *description, size_
         size_t also = *written;
         uint8_t *other = (uint8_t *)column(1, BYTES, room);
         s.count = count;
-        SAME(telbijan_scale_export(&s, (const char *)description, length, (char *)other, room, &also), result);
+        SAME(telbijan_scale_export(&s, given_text(description, length), length, given_room(other, room, &also), room, &also), result);
         MUST(also == *written), alike(BYTES, BYTES, HERE);
     }
     *took = *written;

@@ -58,6 +58,16 @@ fn each_number() {
 }
 
 #[test]
+fn names() {
+    use telbijan::number::*;
+    let names = [
+        NOT_UTF8, LINE_MISSING, INT_VALUE, CENTS_VALUE, NUMER, DENOM, FLOAT_VALUE, KEYBOARD_MAPPING, UNSUPPORTED_NUMERAL,
+        UNUSABLE, OVERFLOW, NO_ROOM, TOO_LARGE, INCONSISTENT_COUNT, FORMAL_OCTAVE_MISSING, KEY_OUT_OF_RANGE, UNMAPPED_KEY, BEYOND_REACH,
+    ];
+    assert!(names.into_iter().eq(1..=18));
+}
+
+#[test]
 fn required_lines() {
     assert_eq!((scl(b"").number(), scl(b"").detail(), scl(b"").line()), (2, 1, None));
     assert_eq!((kbm(b"").detail(), kbm(b"0\n0\n127\n60\n60\n440.0\n").detail()), (1, 7));
