@@ -28,6 +28,7 @@ fn theirs(text: Vec<u8>, part: fn(Mapping, &[i32]) -> String) -> String {
         None => "panics".to_string(),
         Some(Ok((mapping, entries))) => part(mapping, &entries),
         Some(Err((1, _))) => "an io error".to_string(),
+        Some(Err((number, 0))) => format!("its error for {number}"),
         Some(Err((number, line))) => format!("its error for {number} at line {line}"),
     }
 }
@@ -119,6 +120,13 @@ fn files() -> Vec<Row> {
         row("mapping", "size `+3`, first key `+7`: size, first key, octave", || theirs([b"+3\n+7\n", &changed(1, b"127")[..3], b"\n62\n60\n440\n5\n"].concat(), numbers), "3 7 5", || ours([b"+3\n+7\n", &changed(1, b"127")[..3], b"\n62\n60\n440\n5\n"].concat(), 9, numbers), "3 7 5"),
         row("mapping", "entry `4`, form feed, `6`", || theirs(changed(9, b"4\x0c6"), entries), "0 4 x", || ours(changed(9, b"4\x0c6"), 9, entries), "0 4 x"),
         row("mapping", "entry `4`, U+000B, `6`", || theirs(changed(9, b"4\x0b6"), entries), "its error for 8 at line 9", || ours(changed(9, b"4\x0b6"), 9, entries), "8 at line 9"),
+        row("mapping", "size `-0`", || theirs(changed(1, b"-0"), read), "its error for 3 at line 1", || ours(changed(1, b"-0"), 9, read), "3 at line 1"),
+        row("mapping", "reference pitch `440.0000000000000000`, 19 digits", || theirs(changed(6, b"440.0000000000000000"), hz), "440.0", || ours(changed(6, b"440.0000000000000000"), 9, hz), "9 at line 6"),
+        row("mapping", "reference pitch `0.5000000000000000000`, 19 digits after the dot", || theirs(changed(6, b"0.5000000000000000000"), hz), "0.5", || ours(changed(6, b"0.5000000000000000000"), 9, hz), "9 at line 6"),
+        row("mapping", "reference pitch `0.0009`", || theirs(changed(6, b"0.0009"), hz), "0.0009", || ours(changed(6, b"0.0009"), 9, hz), "10 at line 6"),
+        row("Scala: text after a number", "reference pitch `440.0Hz`", || theirs(changed(6, b"440.0Hz"), hz), "its error for 7 at line 6", || ours(changed(6, b"440.0Hz"), 9, hz), "7 at line 6"),
+        row("Scala: text after a number", "reference pitch `440.0 Hz`", || theirs(changed(6, b"440.0 Hz"), hz), "440.0", || ours(changed(6, b"440.0 Hz"), 9, hz), "440.0"),
+        row("Scala: more degrees than the size", "size 1, two entries", || theirs(changed(1, b"1"), entries), "its error for 14", || ours(changed(1, b"1"), 9, entries), "14"),
         row("Scala: comments", "` ! text` as line 9", || theirs(changed(9, b" ! text"), entries), "0 x x", || ours(changed(9, b" ! text"), 9, entries), "0 x x"),
         row("Scala: ISO 8859-1", "byte E9 in line 9", || theirs(changed(9, b"! \xe9"), entries), "an io error", || ours(changed(9, b"! \xe9"), 9, entries), "1 at line 9"),
         row("Scala: empty lines", "line 9 empty", || theirs(changed(9, b""), entries), "0 x x", || ours(changed(9, b""), 9, entries), "0 x x"),

@@ -1,7 +1,7 @@
 // The reader of keyboard mappings. Document 01, "Lines" and "Mapping"; the Rust's `import_kbm`.
 //
 // A first pass goes over the lines and finds the mapping or the first fault; a second, which cannot fail, writes the entries.
-pub mod line;
+mod line;
 
 use crate::line::Due;
 use crate::line::Found;

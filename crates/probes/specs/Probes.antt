@@ -14,9 +14,9 @@ use Rattle.text.specs.declared.line.LineSays.{LineSays}
 use Rattle.text.specs.declared.line.LineSays.the-variants.{NotUtf8, Blank, Comment, Content}
 
 -- an integer, or 2^32, which none of 32 bits is
-abbrev pub numberOf : Int → ℤ
-numberOf (value z) = z
-numberOf none = pos (2 ^ 32)
+abbrev pub integerOf : Int → ℤ
+integerOf (value z) = z
+integerOf none = pos (2 ^ 32)
 
 -- 0 no UTF-8, 1 blank, 2 a comment, 3 content
 abbrev pub lineKind : LineSays → ℕ

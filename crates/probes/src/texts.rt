@@ -18,7 +18,7 @@ ghost use Rattle.decimals.specs.DecimalScan.{readDecimal};
 ghost use Rattle.printing.specs.PrintText.{textOf, wholeText, placed, written};
 ghost use Rattle.text.specs.Cut.{cut};
 ghost use Rattle.text.specs.ReadLine.{lineOf, strictly};
-ghost use Rattle.probes.specs.Probes.{numberOf, lineKind, lineStart, lineEnd, lineToken, decimalKind, decimalValue, placeOf, printable};
+ghost use Rattle.probes.specs.Probes.{integerOf, lineKind, lineStart, lineEnd, lineToken, decimalKind, decimalValue, placeOf, printable};
 
 // What no integer of 32 bits is, and what no place is.
 const NONE: i64 = 4294967296;
@@ -80,7 +80,7 @@ pub extern "C" fn probe_read_line(
 }
 
 fn number_of_u16(answer: U16) -> i64
-    ensures { λ r. ⌜ r ≡ numberOf (u16Of answer) ⌝ }
+    ensures { λ r. ⌜ r ≡ integerOf (u16Of answer) ⌝ }
 {
     match answer {
         U16::Is(n) => n as i64,
@@ -90,13 +90,13 @@ fn number_of_u16(answer: U16) -> i64
 
 #[no_mangle]
 pub extern "C" fn probe_read_u16(s: &[u8]) -> i64
-    ensures { λ r. ⌜ r ≡ numberOf (readInt false (2 ^ 16) (now (s .entry))) ⌝ }
+    ensures { λ r. ⌜ r ≡ integerOf (readInt false (2 ^ 16) (now (s .entry))) ⌝ }
 {
     number_of_u16(integers::read_u16(s))
 }
 
 fn number_of_u32(answer: U32) -> i64
-    ensures { λ r. ⌜ r ≡ numberOf (u32Of answer) ⌝ }
+    ensures { λ r. ⌜ r ≡ integerOf (u32Of answer) ⌝ }
 {
     match answer {
         U32::Is(n) => n as i64,
@@ -106,13 +106,13 @@ fn number_of_u32(answer: U32) -> i64
 
 #[no_mangle]
 pub extern "C" fn probe_read_u32(s: &[u8]) -> i64
-    ensures { λ r. ⌜ r ≡ numberOf (readInt false (2 ^ 32) (now (s .entry))) ⌝ }
+    ensures { λ r. ⌜ r ≡ integerOf (readInt false (2 ^ 32) (now (s .entry))) ⌝ }
 {
     number_of_u32(integers::read_u32(s))
 }
 
 fn number_of_i16(answer: I16) -> i64
-    ensures { λ r. ⌜ r ≡ numberOf (i16Of answer) ⌝ }
+    ensures { λ r. ⌜ r ≡ integerOf (i16Of answer) ⌝ }
 {
     match answer {
         I16::Is(n) => n as i64,
@@ -122,13 +122,13 @@ fn number_of_i16(answer: I16) -> i64
 
 #[no_mangle]
 pub extern "C" fn probe_read_i16(s: &[u8]) -> i64
-    ensures { λ r. ⌜ r ≡ numberOf (readInt true (2 ^ 15) (now (s .entry))) ⌝ }
+    ensures { λ r. ⌜ r ≡ integerOf (readInt true (2 ^ 15) (now (s .entry))) ⌝ }
 {
     number_of_i16(integers::read_i16(s))
 }
 
 fn number_of_i32(answer: I32) -> i64
-    ensures { λ r. ⌜ r ≡ numberOf (i32Of answer) ⌝ }
+    ensures { λ r. ⌜ r ≡ integerOf (i32Of answer) ⌝ }
 {
     match answer {
         I32::Is(n) => n as i64,
@@ -138,7 +138,7 @@ fn number_of_i32(answer: I32) -> i64
 
 #[no_mangle]
 pub extern "C" fn probe_read_i32(s: &[u8]) -> i64
-    ensures { λ r. ⌜ r ≡ numberOf (readInt true (2 ^ 31) (now (s .entry))) ⌝ }
+    ensures { λ r. ⌜ r ≡ integerOf (readInt true (2 ^ 31) (now (s .entry))) ⌝ }
 {
     number_of_i32(integers::read_i32(s))
 }

@@ -2,8 +2,8 @@
 //
 // A first pass goes over the lines and finds the scale or the first fault; a second, which cannot fail, writes the items, and the
 // sorted list is built of them; a third, to the first line with content, finds the description (`description_of`).
-pub mod item;
-pub mod line;
+mod item;
+mod line;
 
 use crate::line::Due;
 use crate::line::Found;

@@ -38,7 +38,7 @@ use Rattle.relative.proofs.Back.{pick-given}
 use Rattle.relative.proofs.Theorems.{from-reached}
 use Rattle.tuning.specs.Keys.{keyPitchOf, maybePitchOf, maybeDegreePitchOf}
 use Rattle.tuning.specs.Beside.{Beside}
-use Rattle.tuning.specs.Run.{keyPitches, numberOf, isTuning, runOf, afterNumbers}
+use Rattle.tuning.specs.Run.{keyPitches, numberBeside, isTuning, runOf, afterNumbers}
 use Rattle.tuning.proofs.Theorems.{number-at}
 
 -- ---- the degree of a key
@@ -95,10 +95,10 @@ shift e (Beside.unmapped h) = Beside.unmapped (e ∙ h)
 shift e (Beside.beyond h) = Beside.beyond (e ∙ h)
 
 -- its number
-along : {s t : Said Float} → t ≡ s → Beside s (numberOf s) → Beside t (numberOf t)
-along {s} {t} e h = subst (Beside t) (sym (ap numberOf e)) (shift e h)
+along : {s t : Said Float} → t ≡ s → Beside s (numberBeside s) → Beside t (numberBeside t)
+along {s} {t} e h = subst (Beside t) (sym (ap numberBeside e)) (shift e h)
 
-reached-beside : {s : Said Float} → ReachedOrBeyond s → Beside s (numberOf s)
+reached-beside : {s : Said Float} → ReachedOrBeyond s → Beside s (numberBeside s)
 reached-beside (ReachedOrBeyond.reached x r e) = along e (Beside.sounds x refl)
 reached-beside (ReachedOrBeyond.beyond e) = along e (Beside.beyond refl)
 
@@ -106,22 +106,22 @@ module _ (items : List Item) (root : KbmRoot) (o : isRoot root ≡ true) where
   hz-reach : inReach (root .pitch .0) ≡ true
   hz-reach = within-reach (within-more (lit≤ tt) (lit≤ tt) (pitch-says (root .pitch .0) o))
 
-  pitch-beside : (d : ℤ) → Beside (pitchOf items root d) (numberOf (pitchOf items root d))
+  pitch-beside : (d : ℤ) → Beside (pitchOf items root d) (numberBeside (pitchOf items root d))
   unfolding pitchOf held
   pitch-beside d = go (inI32 (pos 0 -ℤ root .offset))
     where
-      go : (b : Bool) → Beside (andThen (pick b (gives (pos 0 -ℤ root .offset)) (refuses overflow 0)) (λ at. pitchFrom items (root .pitch .0) at d)) (numberOf (andThen (pick b (gives (pos 0 -ℤ root .offset)) (refuses overflow 0)) (λ at. pitchFrom items (root .pitch .0) at d)))
+      go : (b : Bool) → Beside (andThen (pick b (gives (pos 0 -ℤ root .offset)) (refuses overflow 0)) (λ at. pitchFrom items (root .pitch .0) at d)) (numberBeside (andThen (pick b (gives (pos 0 -ℤ root .offset)) (refuses overflow 0)) (λ at. pitchFrom items (root .pitch .0) at d)))
       go true = reached-beside (from-reached items (root .pitch .0) hz-reach (pos 0 -ℤ root .offset) d)
       go false = Beside.passed refl
 
 module _ (items : List Item) (kbm : Kbm) (map : List ℤ) (o : isRoot (kbm .root) ≡ true) where
-  maybe-beside : (k : PianoKey) → Beside (maybePitchOf items kbm map k) (numberOf (maybePitchOf items kbm map k))
+  maybe-beside : (k : PianoKey) → Beside (maybePitchOf items kbm map k) (numberBeside (maybePitchOf items kbm map k))
   maybe-beside k = go (has kbm (tableOf (kbm .count) map) k)
     where
       by : {d : Said ℤ} → degreeOf kbm (tableOf (kbm .count) map) k ≡ d → maybePitchOf items kbm map k ≡ andThen d (pitchOf items (kbm .root))
       by e = ap (λ (s : Said ℤ). andThen s (pitchOf items (kbm .root))) e
 
-      go : Has kbm (tableOf (kbm .count) map) k (degreeOf kbm (tableOf (kbm .count) map) k) → Beside (maybePitchOf items kbm map k) (numberOf (maybePitchOf items kbm map k))
+      go : Has kbm (tableOf (kbm .count) map) k (degreeOf kbm (tableOf (kbm .count) map) k) → Beside (maybePitchOf items kbm map k) (numberBeside (maybePitchOf items kbm map k))
       go (Has.outside a e) = along (by e) (Beside.outside refl)
       go (Has.far a b e) = along (by e) (Beside.passed refl)
       go (Has.plain a b c e) = along (by e) (pitch-beside items (kbm .root) o _)
@@ -129,11 +129,11 @@ module _ (items : List Item) (kbm : Kbm) (map : List ℤ) (o : isRoot (kbm .root
       go (Has.passed a b q z r c e) = along (by e) (Beside.passed refl)
       go (Has.degree a b q z r c e) = along (by e) (pitch-beside items (kbm .root) o _)
 
-  key-beside : (first : PianoKey) (k : ℕ) → Beside (keyPitches items kbm map first k) (numberOf (keyPitches items kbm map first k))
+  key-beside : (first : PianoKey) (k : ℕ) → Beside (keyPitches items kbm map first k) (numberBeside (keyPitches items kbm map first k))
   unfolding held
   key-beside first k = go (inI32 (first .0 +ℤ pos k))
     where
-      go : (b : Bool) → Beside (andThen (andThen (pick b (gives (first .0 +ℤ pos k)) (refuses overflow 0)) (λ z. gives (key z))) (maybePitchOf items kbm map)) (numberOf (andThen (andThen (pick b (gives (first .0 +ℤ pos k)) (refuses overflow 0)) (λ z. gives (key z))) (maybePitchOf items kbm map)))
+      go : (b : Bool) → Beside (andThen (andThen (pick b (gives (first .0 +ℤ pos k)) (refuses overflow 0)) (λ z. gives (key z))) (maybePitchOf items kbm map)) (numberBeside (andThen (andThen (pick b (gives (first .0 +ℤ pos k)) (refuses overflow 0)) (λ z. gives (key z))) (maybePitchOf items kbm map)))
       go true = maybe-beside (key (first .0 +ℤ pos k))
       go false = Beside.passed refl
 
@@ -147,5 +147,5 @@ stored-number count t kbm map first keys hz numbers e k h =
     let q = pick-given (leb keys hz && leb keys (length numbers)) (gives tt) no-room (p .1) in
     let root = both (isRoot (kbm .root)) (isTable (kbm .count) map) (both (isItems count t) (isRoot (kbm .root) && isTable (kbm .count) map) (p .0) .1) .0 in
     let room : keys ≤ length numbers = leb-true keys (length numbers) (both (leb keys hz) (leb keys (length numbers)) (q .0) .1) in
-    let is : getD (afterNumbers (runOf count t kbm map keys hz (length numbers)) f keys numbers) k 0 ≡ numberOf (f k) = ap (λ (s : Said (Unit {0})). getD (afterNumbers s f keys numbers) k 0) e ∙ number-at f keys numbers k h room in
+    let is : getD (afterNumbers (runOf count t kbm map keys hz (length numbers)) f keys numbers) k 0 ≡ numberBeside (f k) = ap (λ (s : Said (Unit {0})). getD (afterNumbers s f keys numbers) k 0) e ∙ number-at f keys numbers k h room in
     subst (Beside (f k)) (sym is) (key-beside (itemsIn count t) kbm map root first k)

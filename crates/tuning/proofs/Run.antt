@@ -24,7 +24,7 @@ use Rattle.scl.specs.declared.Item.{Item}
 use Rattle.relative.specs.Relative.{relativePitchOf}
 use Rattle.relative.specs.Pitches.{rootDegree, rootPitch, above, pitchFrom, pitchOf}
 use Rattle.tuning.specs.Keys.{maybePitchOf}
-use Rattle.tuning.specs.Run.{keyAt, keyPitches, rootSaid, keySaid, stepSaid, sounded, numberOf, soundedTo, numbersTo, isTuning, runOf}
+use Rattle.tuning.specs.Run.{keyAt, keyPitches, rootSaid, keySaid, stepSaid, sounded, numberBeside, soundedTo, numbersTo, isTuning, runOf}
 
 -- ---- 64 bits hold a key and a number of 32 bits above it
 module _ {z : ℤ} (f : SFits w32 z) (k : ℕ) (h : k < 4294967296) where
@@ -87,7 +87,7 @@ soundedTo-length f (suc n) l = sounded-length (f n) n (soundedTo f n l) ∙ soun
 pub numbersTo-length : (f : ℕ → Said Float) (n : ℕ) (l : List ℕ) → length (numbersTo f n l) ≡ length l
 unfolding numbersTo
 numbersTo-length f zero l = refl
-numbersTo-length f (suc n) l = length-set (numbersTo f n l) n (numberOf (f n)) ∙ numbersTo-length f n l
+numbersTo-length f (suc n) l = length-set (numbersTo f n l) n (numberBeside (f n)) ∙ numbersTo-length f n l
 
 plus-one : (k : ℕ) → k + 1 ≡ suc k
 plus-one k = omega arith
@@ -98,7 +98,7 @@ module _ (f : ℕ → Said Float) (k : ℕ) {s : Said Float} (e : s ≡ f k) whe
   unfolding soundedTo
   hz-turn l p q = q ∙ rw (e, p, plus-one k)
 
-  pub numbers-turn : {before after : List ℕ} (l : List ℕ) → before ≡ numbersTo f k l → after ≡ set before k (numberOf s) → after ≡ numbersTo f (k + 1) l
+  pub numbers-turn : {before after : List ℕ} (l : List ℕ) → before ≡ numbersTo f k l → after ≡ set before k (numberBeside s) → after ≡ numbersTo f (k + 1) l
   unfolding numbersTo
   numbers-turn l p q = q ∙ rw (e, p, plus-one k)
 

@@ -36,7 +36,7 @@ use Rattle.relative.specs.Pitches.{pitchOf, sortedPitchOf}
 use Rattle.relative.specs.RootedRefusals.{Pitched}
 use Rattle.tuning.specs.Keys.{keyPitchOf, maybePitchOf, maybeDegreePitchOf}
 use Rattle.tuning.specs.Refusals.{KeySounds}
-use Rattle.tuning.specs.Run.{saysRun, sounded, soundedTo, numberOf, numbersTo, runOf, afterHz, afterNumbers}
+use Rattle.tuning.specs.Run.{saysRun, sounded, soundedTo, numberBeside, numbersTo, runOf, afterHz, afterNumbers}
 use Rattle.tuning.specs.declared.key_pitches.RunAnswer.the-variants as run
 use Rattle.tuning.proofs.Run.{soundedTo-length, numbersTo-length}
 
@@ -132,12 +132,12 @@ at-most : {k n : ℕ} → k < suc n → k ≤ n
 at-most h = omega (arith, h)
 
 -- beside it stands its number
-pub number-at : (f : ℕ → Said Float) (n : ℕ) (l : List ℕ) (k : ℕ) → k < n → n ≤ length l → getD (numbersTo f n l) k 0 ≡ numberOf (f k)
+pub number-at : (f : ℕ → Said Float) (n : ℕ) (l : List ℕ) (k : ℕ) → k < n → n ≤ length l → getD (numbersTo f n l) k 0 ≡ numberBeside (f k)
 unfolding numbersTo
 number-at f zero l k h r = absurd (omega (arith, h))
 number-at f (suc n) l k h r = elim (eq-or-lt-of-le (at-most h)) [
-  | inl e ↦ rw (e, getD-set-same (numbersTo f n l) n (numberOf (f n)) 0 (omega (arith, r, numbersTo-length f n l)))
-  | inr lt ↦ rw (getD-set-other (numbersTo f n l) n k (numberOf (f n)) 0 (λ e. omega (arith, e, lt))) (number-at f n l k lt (omega (arith, r)))
+  | inl e ↦ rw (e, getD-set-same (numbersTo f n l) n (numberBeside (f n)) 0 (omega (arith, r, numbersTo-length f n l)))
+  | inr lt ↦ rw (getD-set-other (numbersTo f n l) n k (numberBeside (f n)) 0 (λ e. omega (arith, e, lt))) (number-at f n l k lt (omega (arith, r)))
 ]
 
 -- and its place holds what it sounds

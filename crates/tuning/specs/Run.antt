@@ -54,9 +54,9 @@ sounded (gives x) k l = set l k x
 sounded (refuses n d) k l = l
 
 -- the number that goes beside it, 0 for a pitch
-abbrev pub numberOf : Said Float → ℕ
-numberOf (gives x) = 0
-numberOf (refuses n d) = n
+abbrev pub numberBeside : Said Float → ℕ
+numberBeside (gives x) = 0
+numberBeside (refuses n d) = n
 
 -- the first n places
 unfoldable pub soundedTo : (ℕ → Said Float) → ℕ → List Float → List Float
@@ -65,7 +65,7 @@ soundedTo f (suc n) l = sounded (f n) n (soundedTo f n l)
 
 unfoldable pub numbersTo : (ℕ → Said Float) → ℕ → List ℕ → List ℕ
 numbersTo f zero l = l
-numbersTo f (suc n) l = set (numbersTo f n l) n (numberOf (f n))
+numbersTo f (suc n) l = set (numbersTo f n l) n (numberBeside (f n))
 
 -- ---- the call
 abbrev pub isTuning : ℕ → ItemTable → Kbm → List ℤ → Bool

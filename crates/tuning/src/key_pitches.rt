@@ -20,7 +20,7 @@ ghost use Rattle.kbm.specs.Table.{isTable};
 ghost use Rattle.pitch.specs.Answers.{saysPitch, saysRatio};
 ghost use Rattle.scl.specs.Table.{itemTable, itemsIn, isItems};
 ghost use Rattle.relative.specs.Pitches.{above};
-ghost use Rattle.tuning.specs.Run.{saysRun, keyAt, rootSaid, keySaid, stepSaid, keyPitches, sounded, numberOf, soundedTo, numbersTo, isTuning, runOf, afterHz, afterNumbers};
+ghost use Rattle.tuning.specs.Run.{saysRun, keyAt, rootSaid, keySaid, stepSaid, keyPitches, sounded, numberBeside, soundedTo, numbersTo, isTuning, runOf, afterHz, afterNumbers};
 
 // A run of keys was answered, or refused as a whole.
 pub enum RunAnswer {
@@ -136,7 +136,7 @@ fn run_pitch(
 // Stores what a key answered: its pitch and 0, or its refusal's number, with the pitch as it was.
 fn store(answer: PitchAnswer, hz: &mut [f64], numbers: &mut [u32], k: usize)
     requires { ⌜ (k < length (now hz)) × (k < length (now numbers)) ⌝ }
-    ensures { λ _. ⌜ (now (hz .exit) ≡ sounded (saysPitch answer) k (now (hz .entry))) × (now (numbers .exit) ≡ set (now (numbers .entry)) k (numberOf (saysPitch answer))) ⌝ }
+    ensures { λ _. ⌜ (now (hz .exit) ≡ sounded (saysPitch answer) k (now (hz .entry))) × (now (numbers .exit) ≡ set (now (numbers .entry)) k (numberBeside (saysPitch answer))) ⌝ }
 {
     match answer {
         PitchAnswer::Is(pitch) => {

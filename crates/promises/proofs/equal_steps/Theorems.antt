@@ -38,21 +38,12 @@ use Rattle.harmonics.specs.Harmonics.{asItem, itemAt, harmonicsOf, madeHarmonic
 use Rattle.harmonics.proofs.Plans.{steps-reach, none-start, no-place}
 use Rattle.harmonics.proofs.Reaches.{Ways, ways}
 use Rattle.harmonics.proofs.Theorems.{no-divisions}
-use Rattle.promises.specs.equal_steps.Causes.{Tested, NoDivisions, Beyond}
+use Rattle.promises.specs.equal_steps.Causes.{Tested, NoDivisions, Beyond, Items}
 use Rattle.promises.proofs.equal_steps.Divided.{step, step-reach, steps-said, steps-in-powers}
 
 -- numbers of refusals stay apart
 apart : {A X : Type 0} {a b c d : ℕ} → _≡_ {A = Said A} (refuses a b) (refuses c d) → (a ≡ c → ⊥) → X
 apart e h = absurd (h (same-refuses e .0))
-
--- the items of a segment: as many as it is asked for, each usable
-pub record Items (type : SegmentType) (start size : ℕ) (divisions : Divisions) : Type 0 where
-  pub items : List Item
-  pub are : harmonicsOf type start size divisions ≡ gives items
-  pub size-is : length items ≡ segmentCount size divisions
-  pub usable : areUsable items ≡ true
-  pub held : AllHeld items
-  pub last : (steps : Steps) → stepsOf start size divisions ≡ gives steps → 0 < segmentCount size divisions → (i : Item) → itemAt type start size steps (segmentCount size divisions) ≡ gives i → lastOf (implicit ∷ items) ≡ i
 
 none-or : (divisions : Divisions) → NoDivisions divisions ⊎ (NoDivisions divisions → ⊥)
 none-or Lacking = inr (λ e. let z : _≡_ {A = ℕ} 0 1 = cc in omega (arith, z))

@@ -37,7 +37,7 @@ use Rattle.utf8.specs.Utf8Machine.{leadOf, utf8Step}
 use Rattle.utf8.specs.Utf8Machine as utf8
 use Rattle.text.proofs.LineLanguage.{strict-text}
 use Rattle.promises.specs.kbm.KeysOfText.{Silent}
-use Rattle.promises.specs.kbm.Samples.{copyText, exampleKbm, exampleEntries, CopyKeys, farText, farKbm, FarKey, Back}
+use Rattle.promises.specs.kbm.Samples.{inputText, exampleKbm, exampleEntries, CopyKeys, farText, farKbm, FarKey, Back}
 use Rattle.promises.proofs.kbm.KeysOfText.{other, read-answers, text-lacks}
 
 -- ---- A TEXT OF THE LANGUAGE, by computation
@@ -70,17 +70,17 @@ by-lines s first rest vs es t r e l c =
     }
 
 -- ---- 01'S OWN INPUT
-copy-text : MappingText copyText (exampleKbm (pos 62)) exampleEntries
+copy-text : MappingText inputText (exampleKbm (pos 62)) exampleEntries
 unfolding linesText lines meaningBy meanings tokenLength widthBy run leadOf utf8Step utf8.utf8From scan magnitudeOf readSigned numerals.runOf spelled scanOf readDecimal blanks round ofBits le
 copy-text =
-    by-lines copyText
+    by-lines inputText
     ((51 ∷ []) ∷ (48 ∷ []) ∷ (49 ∷ 50 ∷ 55 ∷ []) ∷ (54 ∷ 50 ∷ []) ∷ (54 ∷ 48 ∷ []) ∷ (50 ∷ 54 ∷ 49 ∷ 46 ∷ 54 ∷ 50 ∷ 53 ∷ 54 ∷ []) ∷ (53 ∷ []) ∷ []) ((48 ∷ []) ∷ (88 ∷ []) ∷ [])
     (3, (pos 0, (pos 127, (pos 62, (pos 60, (exampleKbm (pos 62) .root .pitch .0, (pos 5, tt))))))) (Mapped (pos 0) ∷ Unmapped ∷ [])
     (refl, (refl, (refl, (refl, (refl, (refl, (refl, (refl, (refl, tt))))))))) (refl, (refl, (refl, (refl, (refl, (refl, (refl, tt)))))))
     (EntryText.degree (pos 0) (sound true (2 ^ 15) (lit< tt) (pos 0) (48 ∷ []) refl), (EntryText.large refl, tt)) (lit≤ tt) (lit≤ tt)
 
 -- the bytes of the input
-pub copy-bytes : copyText ≡ 51 ∷ 10 ∷ 48 ∷ 10 ∷ 49 ∷ 50 ∷ 55 ∷ 10 ∷ 54 ∷ 50 ∷ 10 ∷ 54 ∷ 48 ∷ 10 ∷ 50 ∷ 54 ∷ 49 ∷ 46 ∷ 54 ∷ 50 ∷ 53 ∷ 54 ∷ 10 ∷ 53 ∷ 10 ∷ 48 ∷ 10 ∷ 88 ∷ 10 ∷ []
+pub copy-bytes : inputText ≡ 51 ∷ 10 ∷ 48 ∷ 10 ∷ 49 ∷ 50 ∷ 55 ∷ 10 ∷ 54 ∷ 50 ∷ 10 ∷ 54 ∷ 48 ∷ 10 ∷ 50 ∷ 54 ∷ 49 ∷ 46 ∷ 54 ∷ 50 ∷ 53 ∷ 54 ∷ 10 ∷ 53 ∷ 10 ∷ 48 ∷ 10 ∷ 88 ∷ 10 ∷ []
 unfolding linesText
 copy-bytes = refl
 
@@ -90,7 +90,7 @@ copy-keys old room =
     record {
       text = copy-text;
       tokens = refl;
-      read = in-language (length old) copyText copy-text room;
+      read = in-language (length old) inputText copy-text room;
       low = read-answers copy-text old room (key (negsuc 0));
       at60 = read-answers copy-text old room (key (pos 60));
       at61 = read-answers copy-text old room (key (pos 61));

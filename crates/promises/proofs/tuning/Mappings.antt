@@ -8,10 +8,10 @@ use lib.IntN.{ℤ, negsuc, _-ℤ_}
 use lib.Signed.{mag}
 use Rattle.base.proofs.Integers.{mag-sub}
 use Rattle.integers.specs.IntegerText.{IntText}
-use Rattle.kbm.specs.Root.{isRoot}
 use Rattle.kbm.specs.declared.Entry.{Entry}
 use Rattle.kbm.specs.declared.Kbm.{Kbm}
 use Rattle.kbm_read.specs.Language.{Values, GiveAll, required, mappingFrom, MappingText}
+use Rattle.promises.specs.tuning.Roots.{Usable}
 
 -- a key of 16 bits
 int-small : {t : List ℕ} {z : ℤ} → IntText true (2 ^ 15) t z → mag z < 32768
@@ -19,11 +19,6 @@ int-small (IntText.plain n d l e) = rw e l
 int-small (IntText.plus s n p d l e) = rw e l
 int-small (IntText.minus s zero b p d l e) = rw e (omega arith)
 int-small (IntText.minus s (suc n) b p d l e) = rw e (omega (arith, l))
-
-pub record Usable (k : Kbm) : Type 0 where
-  pub pitch : isRoot (k .root) ≡ true
-  pub offset : mag (k .root .offset) < 2147483648
-  pub turns : k .root .offset ≡ negsuc 2147483647 → ⊥
 
 lowest-far : (z : ℤ) → mag z < 100000 → z ≡ negsuc 2147483647 → ⊥
 lowest-far z m e = let n : mag z ≡ 2147483647 = ap mag e in omega (arith, n, m)

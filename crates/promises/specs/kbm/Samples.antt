@@ -31,8 +31,8 @@ exampleLines middle entry =
     (51 ∷ []) ∷ (48 ∷ []) ∷ (49 ∷ 50 ∷ 55 ∷ []) ∷ middle ∷ (54 ∷ 48 ∷ []) ∷ (50 ∷ 54 ∷ 49 ∷ 46 ∷ 54 ∷ 50 ∷ 53 ∷ 54 ∷ []) ∷ (53 ∷ []) ∷ (48 ∷ []) ∷ entry ∷ []
 
 -- 01's own input: middle key `62`, last entry `X`, "each with LF"
-abbrev pub copyText : List ℕ
-copyText = linesText (exampleLines (54 ∷ 50 ∷ []) (88 ∷ []))
+abbrev pub inputText : List ℕ
+inputText = linesText (exampleLines (54 ∷ 50 ∷ []) (88 ∷ []))
 
 -- the same with `x`
 abbrev pub exampleText : List ℕ
@@ -73,16 +73,16 @@ exampleEntries = Mapped (pos 0) ∷ Unmapped ∷ Unmapped ∷ []
 
 -- THE KEYS OF 01'S OWN INPUT, read into a table `old`
 pub record CopyKeys (old : List ℤ) : Type 0 where
-  pub text : MappingText copyText (exampleKbm (pos 62)) exampleEntries
+  pub text : MappingText inputText (exampleKbm (pos 62)) exampleEntries
   pub tokens : entryTokens text ≡ (48 ∷ []) ∷ (88 ∷ []) ∷ []
-  pub read : readOf (length old) copyText ≡ gives (exampleKbm (pos 62))
+  pub read : readOf (length old) inputText ≡ gives (exampleKbm (pos 62))
   -- -1 and 128 lie outside, 61 meets `X`, 62 the entry left out; 60 has degree 0, 63 degree 5
-  pub low : scaleDegreeOf (exampleKbm (pos 62)) (afterRead copyText old) (key (negsuc 0)) ≡ refuses key-out-of-range 0
-  pub at60 : scaleDegreeOf (exampleKbm (pos 62)) (afterRead copyText old) (key (pos 60)) ≡ gives (pos 0)
-  pub at61 : scaleDegreeOf (exampleKbm (pos 62)) (afterRead copyText old) (key (pos 61)) ≡ refuses unmapped-key 0
-  pub at62 : scaleDegreeOf (exampleKbm (pos 62)) (afterRead copyText old) (key (pos 62)) ≡ refuses unmapped-key 0
-  pub at63 : scaleDegreeOf (exampleKbm (pos 62)) (afterRead copyText old) (key (pos 63)) ≡ gives (pos 5)
-  pub high : scaleDegreeOf (exampleKbm (pos 62)) (afterRead copyText old) (key (pos 128)) ≡ refuses key-out-of-range 0
+  pub low : scaleDegreeOf (exampleKbm (pos 62)) (afterRead inputText old) (key (negsuc 0)) ≡ refuses key-out-of-range 0
+  pub at60 : scaleDegreeOf (exampleKbm (pos 62)) (afterRead inputText old) (key (pos 60)) ≡ gives (pos 0)
+  pub at61 : scaleDegreeOf (exampleKbm (pos 62)) (afterRead inputText old) (key (pos 61)) ≡ refuses unmapped-key 0
+  pub at62 : scaleDegreeOf (exampleKbm (pos 62)) (afterRead inputText old) (key (pos 62)) ≡ refuses unmapped-key 0
+  pub at63 : scaleDegreeOf (exampleKbm (pos 62)) (afterRead inputText old) (key (pos 63)) ≡ gives (pos 5)
+  pub high : scaleDegreeOf (exampleKbm (pos 62)) (afterRead inputText old) (key (pos 128)) ≡ refuses key-out-of-range 0
   -- which is what the text's own lines say of 61 and 62
   pub cross : Silent (text .values) (entryTokens text) (pos 61)
   pub left-out : Silent (text .values) (entryTokens text) (pos 62)

@@ -2,7 +2,7 @@
 use mathlib.Core.Path.{_∙_, ap}
 use borrow.Author.Needs.{needs}
 use mir.Facts.{toZ-ofZ}
-use Rattle.probes.specs.Probes.{numberOf}
+use Rattle.probes.specs.Probes.{integerOf}
 use Rattle.probes.proofs.texts.probe_read_i16.Statement.{statement}
 use Rattle.probes.proofs.texts.probe_read_i16.Tie as tie
 
@@ -13,7 +13,7 @@ number-of-i16-requires : tie.Need-number-of-i16-requires
 number-of-i16-requires c κs = search needs
 
 returns : tie.Need-returns
-returns c = toZ-ofZ (search needs) ∙ (c .number-of-i16 .ensures ∙ ap numberOf (c .before .read-i16 .ensures))
+returns c = toZ-ofZ (search needs) ∙ (c .number-of-i16 .ensures ∙ ap integerOf (c .before .read-i16 .ensures))
 
 pub probe-read-i16-spec : {M : Type 1} → statement M
 probe-read-i16-spec = tie.close (tie.spec read-i16-requires number-of-i16-requires returns)

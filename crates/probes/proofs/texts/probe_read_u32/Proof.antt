@@ -2,7 +2,7 @@
 use mathlib.Core.Path.{_∙_, ap}
 use borrow.Author.Needs.{needs}
 use mir.Facts.{toZ-ofZ}
-use Rattle.probes.specs.Probes.{numberOf}
+use Rattle.probes.specs.Probes.{integerOf}
 use Rattle.probes.proofs.texts.probe_read_u32.Statement.{statement}
 use Rattle.probes.proofs.texts.probe_read_u32.Tie as tie
 
@@ -13,7 +13,7 @@ number-of-u32-requires : tie.Need-number-of-u32-requires
 number-of-u32-requires c κs = search needs
 
 returns : tie.Need-returns
-returns c = toZ-ofZ (search needs) ∙ (c .number-of-u32 .ensures ∙ ap numberOf (c .before .read-u32 .ensures))
+returns c = toZ-ofZ (search needs) ∙ (c .number-of-u32 .ensures ∙ ap integerOf (c .before .read-u32 .ensures))
 
 pub probe-read-u32-spec : {M : Type 1} → statement M
 probe-read-u32-spec = tie.close (tie.spec read-u32-requires number-of-u32-requires returns)

@@ -5,7 +5,7 @@ use denote.Ref.{now}
 use lib.ListN.{set}
 use Rattle.pitch.specs.Answers.{saysPitch}
 use Rattle.pitch.specs.declared.PitchAnswer.{PitchAnswer}
-use Rattle.tuning.specs.Run.{sounded, numberOf}
+use Rattle.tuning.specs.Run.{sounded, numberBeside}
 use borrow.Author.Needs.{needs}
 use Rattle.tuning.proofs.key_pitches.store.Statement.{statement}
 use Rattle.tuning.proofs.key_pitches.store.Tie as tie
@@ -44,7 +44,7 @@ returns : tie.Need-returns
 returns c =
     let s = c .before .before .before in
     let is = sym (c .before .answer .given .1) in
-    (ap (λ (a : PitchAnswer). sounded (saysPitch a) (s .args .k) (now (s .args .hz))) is, ap (λ (a : PitchAnswer). set (now (s .args .numbers)) (s .args .k) (numberOf (saysPitch a))) is)
+    (ap (λ (a : PitchAnswer). sounded (saysPitch a) (s .args .k) (now (s .args .hz))) is, ap (λ (a : PitchAnswer). set (now (s .args .numbers)) (s .args .k) (numberBeside (saysPitch a))) is)
 
 same-length-3 : tie.Need-same-length-3
 same-length-3 c = search needs
@@ -53,7 +53,7 @@ returns-2 : tie.Need-returns-2
 returns-2 c =
     let s = c .before .before .before in
     let is = sym (c .before .answer2 .given .1) in
-    (ap (λ (a : PitchAnswer). sounded (saysPitch a) (s .args .k) (now (s .args .hz))) is, ap (λ (a : PitchAnswer). set (now (s .args .numbers)) (s .args .k) (numberOf (saysPitch a))) is)
+    (ap (λ (a : PitchAnswer). sounded (saysPitch a) (s .args .k) (now (s .args .hz))) is, ap (λ (a : PitchAnswer). set (now (s .args .numbers)) (s .args .k) (numberBeside (saysPitch a))) is)
 
 pub store-spec : {M : Type 1} → statement M
 store-spec =
