@@ -21,8 +21,8 @@ fn pushed(builder: KbmBuilder, map: &mut [i32], line: &[u8], at: usize) -> Build
 // The new count, or a refusal.
 fn say_pushed(answer: BuilderAnswer) {
     match answer {
-        BuilderAnswer::Is(builder) => said::size(builder.count),
-        BuilderAnswer::Refused(refusal) => said::refusal(refusal),
+        BuilderAnswer::Is(builder) => say::size(builder.count),
+        BuilderAnswer::Refused(refusal) => say::refusal(refusal),
     }
 }
 
@@ -73,7 +73,7 @@ fn begun(map: &[i32], line: &[u8]) -> BuilderAnswer {
 fn say_begun(map: &mut [i32], line: &[u8]) {
     match begun(map, line) {
         BuilderAnswer::Is(builder) => say_run(builder, map, line),
-        BuilderAnswer::Refused(refusal) => said::refusal(refusal),
+        BuilderAnswer::Refused(refusal) => say::refusal(refusal),
     }
 }
 
@@ -83,7 +83,7 @@ pub fn say_build(line: &[u8]) {
     let mut map = [crate::mappings::PATTERN; 16];
     let room = given::size(line, 2);
     say_begun(crate::mappings::first_mut(&mut map, room), line);
-    said::table(crate::mappings::first(&map, room));
+    say::table(crate::mappings::first(&map, room));
 }
 
 // A state of two fields, ROOM and COUNT, which need not be a table's.
@@ -113,7 +113,7 @@ pub fn say_push(line: &[u8]) {
         line,
         4,
     ));
-    said::table(crate::mappings::first(&map, places));
+    say::table(crate::mappings::first(&map, places));
 }
 
 // `finish ROOM COUNT TABLE`, the build of a state that need not be the table's, with formal octave 1: the mapping or a refusal, then the
@@ -123,5 +123,5 @@ pub fn say_finish(line: &[u8]) {
     let map = frozen::columns::ints(crate::mappings::PATTERN, places, line, 5, 1);
     let table = crate::mappings::first(&map, places);
     crate::mappings::say_mapping(state(line).formal_octave(1).build(table));
-    said::table(table);
+    say::table(table);
 }

@@ -14,7 +14,7 @@ fn answer(line: &[u8]) {
         line,
         b"i32_div_u iu  i32_rem_u iu  i32_dr_u iu  num_keys_before ii  plus_steps ii  checked_midi_number i  from_midi_number i  midi_number i  odd_factors_u16 c  octave   unison   exp2 f  log2 f  from_hz f  as_hz f  from_float f  from_octaves f  from_semitones f  from_cents f  as_float f  as_octaves f  as_semitones f  as_cents f  inv f  abs f  is_negligible f  pitch_times ff  pitch_over ff  between_pitches ff  stretched_by ff  deviation_from ff  repeated ff  divided_into_equal_steps ff  num_equal_steps_of_size ff  total_cmp ff  nearest_fraction fc  line tu  says tuu  decimal t  u16 t  u32 t  i16 t  i32 t  fixed rufuy  print_i32 rui  print_u32 ruu  degree iciiifisn i read tn  export rciiifisn i root ifi  build nifiiiysz ys push uuysn i finish uun i",
     );
-    said::name(frozen::name(line, call));
+    say::name(frozen::name(line, call));
     match call {
         0..=2 => numbers::say_division_of(call, line),
         3..=8 => numbers::say_key_of(call, line),
@@ -44,7 +44,7 @@ fn answer_all(list: &[u8]) {
     let mut at: usize = 0;
     while at < list.len() {
         answer(frozen::line(list, at));
-        said::end();
+        say::end();
         let following = frozen::following(list, at);
         if following <= at {
             return;

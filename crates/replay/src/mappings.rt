@@ -61,17 +61,17 @@ fn mapping(line: &[u8]) -> Kbm {
 fn say_root(root: KbmRoot) {
     let reference = root.reference;
     let pitch = root.pitch;
-    said::int(reference.0);
-    said::float(pitch.0);
-    said::int(root.offset);
+    say::int(reference.0);
+    say::float(pitch.0);
+    say::int(root.offset);
 }
 
 fn say_range(kbm: Kbm) {
     let start = kbm.start;
     let end = kbm.end;
-    said::size(kbm.count as usize);
-    said::int(start.0);
-    said::int(end.0);
+    say::size(kbm.count as usize);
+    say::int(start.0);
+    say::int(end.0);
 }
 
 pub fn say_mapping(answer: KbmAnswer) {
@@ -79,9 +79,9 @@ pub fn say_mapping(answer: KbmAnswer) {
         KbmAnswer::Is(kbm) => {
             say_range(kbm);
             say_root(kbm.root);
-            said::short(kbm.octave);
+            say::short(kbm.octave);
         }
-        KbmAnswer::Refused(refusal) => said::refusal(refusal),
+        KbmAnswer::Refused(refusal) => say::refusal(refusal),
     }
 }
 
@@ -91,8 +91,8 @@ pub fn say_degree(line: &[u8]) {
     let map = frozen::columns::ints(PATTERN, places, line, 11, 1);
     let key = PianoKey(given::int(line, 2));
     match kbm::scale_degree_of(mapping(line), first(&map, places), key) {
-        DegreeAnswer::Is(degree) => said::int(degree.0),
-        DegreeAnswer::Refused(refusal) => said::refusal(refusal),
+        DegreeAnswer::Is(degree) => say::int(degree.0),
+        DegreeAnswer::Refused(refusal) => say::refusal(refusal),
     }
 }
 
@@ -103,7 +103,7 @@ pub fn say_read(line: &[u8]) {
     let length = given::bytes(line, 2, &mut text);
     let room = given::size(line, 3);
     say_mapping(kbm_read::read_kbm(frozen::first(&text, length), first_mut(&mut map, room)));
-    said::table(first(&map, room));
+    say::table(first(&map, room));
 }
 
 // `export ROOM MAPPING TABLE`: the size or a refusal, then the lent bytes.
@@ -117,13 +117,13 @@ pub fn say_export(line: &[u8]) {
         first(&map, places),
         frozen::first_mut(&mut out, room),
     ));
-    said::bytes(frozen::first(&out, room));
+    say::bytes(frozen::first(&out, room));
 }
 
 fn say_size(answer: SizeAnswer) {
     match answer {
-        SizeAnswer::Is(written) => said::size(written),
-        SizeAnswer::Refused(refusal) => said::refusal(refusal),
+        SizeAnswer::Is(written) => say::size(written),
+        SizeAnswer::Refused(refusal) => say::refusal(refusal),
     }
 }
 
@@ -135,6 +135,6 @@ pub fn say_made_root(line: &[u8]) {
         given::int(line, 4),
     ) {
         RootAnswer::Is(root) => say_root(root),
-        RootAnswer::Refused(refusal) => said::refusal(refusal),
+        RootAnswer::Refused(refusal) => say::refusal(refusal),
     }
 }

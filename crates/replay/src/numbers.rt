@@ -9,15 +9,15 @@ use math::U32Answer;
 
 fn say_i32(answer: I32Answer) {
     match answer {
-        I32Answer::Is(z) => said::int(z),
-        I32Answer::Refused(refusal) => said::refusal(refusal),
+        I32Answer::Is(z) => say::int(z),
+        I32Answer::Refused(refusal) => say::refusal(refusal),
     }
 }
 
 fn say_u32(answer: U32Answer) {
     match answer {
-        U32Answer::Is(n) => said::natural(n),
-        U32Answer::Refused(refusal) => said::refusal(refusal),
+        U32Answer::Is(n) => say::natural(n),
+        U32Answer::Refused(refusal) => say::refusal(refusal),
     }
 }
 
@@ -25,28 +25,28 @@ fn say_u32(answer: U32Answer) {
 fn say_division(answer: DivisionAnswer) {
     match answer {
         DivisionAnswer::Is(found) => {
-            said::int(found.quotient);
-            said::natural(found.remainder);
+            say::int(found.quotient);
+            say::natural(found.remainder);
         }
-        DivisionAnswer::Refused(refusal) => said::refusal(refusal),
+        DivisionAnswer::Refused(refusal) => say::refusal(refusal),
     }
 }
 
 fn say_number(key: PianoKey) {
-    said::int(key.0);
+    say::int(key.0);
 }
 
 fn say_key(answer: KeyAnswer) {
     match answer {
         KeyAnswer::Is(key) => say_number(key),
-        KeyAnswer::Refused(refusal) => said::refusal(refusal),
+        KeyAnswer::Refused(refusal) => say::refusal(refusal),
     }
 }
 
 fn say_midi(answer: MidiAnswer) {
     match answer {
-        MidiAnswer::Is(number) => said::natural(number as u32),
-        MidiAnswer::Refused(refusal) => said::refusal(refusal),
+        MidiAnswer::Is(number) => say::natural(number as u32),
+        MidiAnswer::Refused(refusal) => say::refusal(refusal),
     }
 }
 
@@ -69,7 +69,7 @@ pub fn say_key_of(call: usize, line: &[u8]) {
         4 => say_key(key.plus_steps(given::int(line, 3))),
         5 => say_midi(key.checked_midi_number()),
         6 => say_number(PianoKey::from_midi_number(key.0)),
-        7 => said::int(key.midi_number()),
-        _ => said::natural(math::odd_factors_u16(given::count(line, 2)) as u32),
+        7 => say::int(key.midi_number()),
+        _ => say::natural(math::odd_factors_u16(given::count(line, 2)) as u32),
     }
 }

@@ -13,30 +13,30 @@ use pitch::RatioAnswer;
 
 fn say_float(answer: FloatAnswer) {
     match answer {
-        FloatAnswer::Is(x) => said::float(x),
-        FloatAnswer::Refused(refusal) => said::refusal(refusal),
+        FloatAnswer::Is(x) => say::float(x),
+        FloatAnswer::Refused(refusal) => say::refusal(refusal),
     }
 }
 
 fn say_ratio(answer: RatioAnswer) {
     match answer {
-        RatioAnswer::Is(ratio) => said::float(ratio.0),
-        RatioAnswer::Refused(refusal) => said::refusal(refusal),
+        RatioAnswer::Is(ratio) => say::float(ratio.0),
+        RatioAnswer::Refused(refusal) => say::refusal(refusal),
     }
 }
 
 fn say_pitch(answer: PitchAnswer) {
     match answer {
-        PitchAnswer::Is(pitch) => said::float(pitch.0),
-        PitchAnswer::Refused(refusal) => said::refusal(refusal),
+        PitchAnswer::Is(pitch) => say::float(pitch.0),
+        PitchAnswer::Refused(refusal) => say::refusal(refusal),
     }
 }
 
 // 0 false, 1 true.
 fn say_bool(answer: BoolAnswer) {
     match answer {
-        BoolAnswer::Is(yes) => said::natural(if yes { 1 } else { 0 }),
-        BoolAnswer::Refused(refusal) => said::refusal(refusal),
+        BoolAnswer::Is(yes) => say::natural(if yes { 1 } else { 0 }),
+        BoolAnswer::Refused(refusal) => say::refusal(refusal),
     }
 }
 
@@ -51,24 +51,24 @@ fn number_of(order: Order) -> i32 {
 
 fn say_order(answer: OrderAnswer) {
     match answer {
-        OrderAnswer::Is(order) => said::int(number_of(order)),
-        OrderAnswer::Refused(refusal) => said::refusal(refusal),
+        OrderAnswer::Is(order) => say::int(number_of(order)),
+        OrderAnswer::Refused(refusal) => say::refusal(refusal),
     }
 }
 
 // Numerator, denominator, deviation and octaves.
 fn say_fraction(found: NearestFraction) {
     let deviation = found.deviation;
-    said::natural(found.numer as u32);
-    said::natural(found.denom as u32);
-    said::float(deviation.0);
-    said::int(found.num_octaves);
+    say::natural(found.numer as u32);
+    say::natural(found.denom as u32);
+    say::float(deviation.0);
+    say::int(found.num_octaves);
 }
 
 fn say_nearest(answer: NearestAnswer) {
     match answer {
         NearestAnswer::Is(found) => say_fraction(found),
-        NearestAnswer::Refused(refusal) => said::refusal(refusal),
+        NearestAnswer::Refused(refusal) => say::refusal(refusal),
     }
 }
 

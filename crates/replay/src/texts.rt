@@ -12,24 +12,24 @@ const FULL: usize = 18446744073709551615;
 // `line TEXT AT`: where the line ends, and where the next starts.
 fn say_line(text: &[u8], at: usize) {
     let ends = text::lines::next_line(text, at);
-    said::size(ends.end);
-    said::size(ends.next);
+    say::size(ends.end);
+    say::size(ends.next);
 }
 
 // `says TEXT FROM TO`: `not_utf8`, `blank`, `comment`, or start, end and token's end.
 fn say_said(text: &[u8], from: usize, to: usize) {
     match text::line::read_line(text, from, to) {
-        LineSays::NotUtf8 => said::word(b"not_utf8"),
-        LineSays::Blank => said::word(b"blank"),
-        LineSays::Comment => said::word(b"comment"),
+        LineSays::NotUtf8 => say::word(b"not_utf8"),
+        LineSays::Blank => say::word(b"blank"),
+        LineSays::Comment => say::word(b"comment"),
         LineSays::Content {
             start: a,
             end: b,
             token_end: c,
         } => {
-            said::size(a);
-            said::size(b);
-            said::size(c);
+            say::size(a);
+            say::size(b);
+            say::size(c);
         }
     }
 }
@@ -37,9 +37,9 @@ fn say_said(text: &[u8], from: usize, to: usize) {
 // `decimal TEXT`: `none`, `unsupported`, or the value.
 fn say_decimal(text: &[u8]) {
     match decimals::read_decimal(text) {
-        DecimalAnswer::Is(x) => said::float(x),
-        DecimalAnswer::Unsupported => said::word(b"unsupported"),
-        DecimalAnswer::Bad => said::word(b"none"),
+        DecimalAnswer::Is(x) => say::float(x),
+        DecimalAnswer::Unsupported => say::word(b"unsupported"),
+        DecimalAnswer::Bad => say::word(b"none"),
     }
 }
 
@@ -51,7 +51,7 @@ fn say_integer(call: usize, text: &[u8]) {
         41 => probes::texts::probe_read_i16(text),
         _ => probes::texts::probe_read_i32(text),
     };
-    said::float(std::num::nearest_i64_to_f64(number));
+    say::float(std::num::nearest_i64_to_f64(number));
 }
 
 fn say_of(call: usize, text: &[u8], line: &[u8]) {
@@ -92,9 +92,9 @@ pub fn say_print(call: usize, line: &[u8]) {
     let place = given::size(line, 3);
     let reached = printed(call, frozen::first_mut(&mut bytes, room), place, line);
     if reached == FULL {
-        said::word(b"full");
+        say::word(b"full");
     } else {
-        said::size(reached);
+        say::size(reached);
     }
-    said::bytes(frozen::first(&bytes, room));
+    say::bytes(frozen::first(&bytes, room));
 }

@@ -150,8 +150,8 @@ fn stepped_on(items: Items, builder: SclBuilder, of: Step) -> Stepped {
 // The new count, or a refusal.
 fn say_step(answer: SclBuilderAnswer) {
     match answer {
-        SclBuilderAnswer::Is(builder) => said::size(builder.count),
-        SclBuilderAnswer::Refused(refusal) => said::refusal(refusal),
+        SclBuilderAnswer::Is(builder) => say::size(builder.count),
+        SclBuilderAnswer::Refused(refusal) => say::refusal(refusal),
     }
 }
 
@@ -219,7 +219,7 @@ fn say_built(done: Done) {
         &mut ratio,
         &mut wraps,
     ));
-    said::places(&kind, &cents, &numer, &denom, &place, &ratio, &wraps);
+    say::places(&kind, &cents, &numer, &denom, &place, &ratio, &wraps);
 }
 
 // `build STEPS ..`, a new builder first: the count after each step, and that of the scale, each of them or a refusal; then the places.
@@ -252,7 +252,7 @@ fn say_items(items: Items) {
     let place = [8u32; 16];
     let ratio = [0.5; 16];
     let wraps = [8; 16];
-    said::places(&kind, &cents, &numer, &denom, &place, &ratio, &wraps);
+    say::places(&kind, &cents, &numer, &denom, &place, &ratio, &wraps);
 }
 
 // `finish ROOM COUNT`, the build of a state that need not be the columns': the count or a refusal, then the places.

@@ -18,7 +18,7 @@ fn say_list(list: [SortedEntry; 8]) {
     let mut k: usize = 0;
     while k < 8 {
         let e = list[k];
-        said::entry(e.place, e.ratio, e.wraps);
+        say::entry(e.place, e.ratio, e.wraps);
         k += 1;
     }
 }
@@ -37,7 +37,7 @@ fn say_read(
     let said = done.answer;
     let list = done.list;
     crate::say_answer(said);
-    said::places(kind, cents, numer, denom, place, ratio, wraps);
+    say::places(kind, cents, numer, denom, place, ratio, wraps);
     say_list(list);
 }
 
@@ -71,7 +71,7 @@ fn say_built<'i>(
     let said = done.answer;
     let list = done.list;
     crate::say_count(said);
-    said::places(kind, cents, numer, denom, &place, &ratio, &wraps);
+    say::places(kind, cents, numer, denom, &place, &ratio, &wraps);
     say_list(list);
 }
 

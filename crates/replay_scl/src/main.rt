@@ -31,8 +31,8 @@ fn say_item(line: &[u8]) {
 
 fn say_ratio(answer: RatioAnswer) {
     match answer {
-        RatioAnswer::Is(ratio) => said::float(ratio.0),
-        RatioAnswer::Refused(refusal) => said::refusal(refusal),
+        RatioAnswer::Is(ratio) => say::float(ratio.0),
+        RatioAnswer::Refused(refusal) => say::refusal(refusal),
     }
 }
 
@@ -40,15 +40,15 @@ fn say_ratio(answer: RatioAnswer) {
 fn say_scale(read: SclRead) {
     let scl = read.scl;
     let description = read.description;
-    said::size(scl.count as usize);
-    said::size(description.start);
-    said::size(description.end);
+    say::size(scl.count as usize);
+    say::size(description.start);
+    say::size(description.end);
 }
 
 fn say_answer(answer: SclReadAnswer) {
     match answer {
         SclReadAnswer::Is(read) => say_scale(read),
-        SclReadAnswer::Refused(refusal) => said::refusal(refusal),
+        SclReadAnswer::Refused(refusal) => say::refusal(refusal),
     }
 }
 
@@ -70,7 +70,7 @@ fn say_read_of(text: &[u8]) {
         &mut ratio,
         &mut wraps,
     ));
-    said::places(&kind, &cents, &numer, &denom, &place, &ratio, &wraps);
+    say::places(&kind, &cents, &numer, &denom, &place, &ratio, &wraps);
 }
 
 // `read TEXT`: count, start and end of the description, or a refusal; then the places.
@@ -82,8 +82,8 @@ fn say_read(line: &[u8]) {
 
 fn say_size(answer: SizeAnswer) {
     match answer {
-        SizeAnswer::Is(written) => said::size(written),
-        SizeAnswer::Refused(refusal) => said::refusal(refusal),
+        SizeAnswer::Is(written) => say::size(written),
+        SizeAnswer::Refused(refusal) => say::refusal(refusal),
     }
 }
 
@@ -111,14 +111,14 @@ fn say_export(line: &[u8]) {
         frozen::first_mut(&mut out, room),
         line,
     );
-    said::bytes(frozen::first(&out, room));
+    say::bytes(frozen::first(&out, room));
 }
 
 // The count of a scale.
 fn say_count(answer: SclAnswer) {
     match answer {
-        SclAnswer::Is(scl) => said::size(scl.count as usize),
-        SclAnswer::Refused(refusal) => said::refusal(refusal),
+        SclAnswer::Is(scl) => say::size(scl.count as usize),
+        SclAnswer::Refused(refusal) => say::refusal(refusal),
     }
 }
 
@@ -126,10 +126,10 @@ fn say_count(answer: SclAnswer) {
 fn say_degree(answer: DegreeSearch) {
     match answer {
         DegreeSearch::Degree(found) => {
-            said::int(found.approx_value);
-            said::float(found.deviation);
+            say::int(found.approx_value);
+            say::float(found.deviation);
         }
-        DegreeSearch::Refused(refusal) => said::refusal(refusal),
+        DegreeSearch::Refused(refusal) => say::refusal(refusal),
     }
 }
 
@@ -139,7 +139,7 @@ fn answer(line: &[u8]) {
         line,
         b"read_entries t  build_entries tuu  find_in_entries tcyf  ratio bfuu  read t  export tcrn bfuu build z kfuu push uukfuu  finish uu ",
     );
-    said::name(frozen::name(line, call));
+    say::name(frozen::name(line, call));
     match call {
         0..=2 => listed::say_text(call, line),
         3 => say_item(line),
@@ -156,7 +156,7 @@ fn answer_all(list: &[u8]) {
     let mut at: usize = 0;
     while at < list.len() {
         answer(frozen::line(list, at));
-        said::end();
+        say::end();
         let following = frozen::following(list, at);
         if following <= at {
             return;

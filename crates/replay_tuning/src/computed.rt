@@ -40,7 +40,7 @@ pub fn say_segment(line: &[u8]) {
         &mut ratio,
         &mut wraps,
     ));
-    said::places(&kind, &cents, &numer, &denom, &place, &ratio, &wraps);
+    say::places(&kind, &cents, &numer, &denom, &place, &ratio, &wraps);
 }
 
 pub fn say_temperament(line: &[u8]) {
@@ -64,5 +64,5 @@ pub fn say_temperament(line: &[u8]) {
         &mut ratio,
         &mut wraps,
     ));
-    said::places(&kind, &cents, &numer, &denom, &place, &ratio, &wraps);
+    say::places(&kind, &cents, &numer, &denom, &place, &ratio, &wraps);
 }

@@ -11,23 +11,23 @@ mod scaled;
 
 fn say_ratio(answer: RatioAnswer) {
     match answer {
-        RatioAnswer::Is(ratio) => said::float(ratio.0),
-        RatioAnswer::Refused(refusal) => said::refusal(refusal),
+        RatioAnswer::Is(ratio) => say::float(ratio.0),
+        RatioAnswer::Refused(refusal) => say::refusal(refusal),
     }
 }
 
 fn say_pitch(answer: PitchAnswer) {
     match answer {
-        PitchAnswer::Is(pitch) => said::float(pitch.0),
-        PitchAnswer::Refused(refusal) => said::refusal(refusal),
+        PitchAnswer::Is(pitch) => say::float(pitch.0),
+        PitchAnswer::Refused(refusal) => say::refusal(refusal),
     }
 }
 
 // The count of a scale.
 fn say_count(answer: SclAnswer) {
     match answer {
-        SclAnswer::Is(scl) => said::size(scl.count as usize),
-        SclAnswer::Refused(refusal) => said::refusal(refusal),
+        SclAnswer::Is(scl) => say::size(scl.count as usize),
+        SclAnswer::Refused(refusal) => say::refusal(refusal),
     }
 }
 
@@ -35,10 +35,10 @@ fn say_count(answer: SclAnswer) {
 fn say_degree(answer: DegreeSearch) {
     match answer {
         DegreeSearch::Degree(found) => {
-            said::int(found.approx_value);
-            said::float(found.deviation);
+            say::int(found.approx_value);
+            say::float(found.deviation);
         }
-        DegreeSearch::Refused(refusal) => said::refusal(refusal),
+        DegreeSearch::Refused(refusal) => say::refusal(refusal),
     }
 }
 
@@ -48,7 +48,7 @@ fn answer(line: &[u8]) {
         line,
         b"harmonics yccyc  rank2 fccf  period cifiifn bfuuufi relative cifiifn bfuuufi degree cifiifn bfuuufi key cifiifn bfuuufi sorted_relative cifiifn bfuuufi sorted_pitch cifiifn bfuuufi find cifiifn bfuuufi find_sorted cifiifn bfuuufi find_pitch cifiifn bfuuufi find_pitch_sorted cifiifn bfuuufi find_key cifiifn bfuuufi maybe_key cifiifciisiiiiiiiiun bfuuufi maybe_degree cifiifciisiiiiiiiiun bfuuufi run cifiifciisiiiiiiiiun bfuuufi",
     );
-    said::name(frozen::name(line, call));
+    say::name(frozen::name(line, call));
     match call {
         0 => computed::say_segment(line),
         1 => computed::say_temperament(line),
@@ -62,7 +62,7 @@ fn answer_all(list: &[u8]) {
     let mut at: usize = 0;
     while at < list.len() {
         answer(frozen::line(list, at));
-        said::end();
+        say::end();
         let following = frozen::following(list, at);
         if following <= at {
             return;

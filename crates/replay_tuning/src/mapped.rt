@@ -34,8 +34,8 @@ fn entries(line: &[u8]) -> [i32; 8] {
 
 fn say_done(answer: RunAnswer) {
     match answer {
-        RunAnswer::Done => said::word(b"done"),
-        RunAnswer::Refused(refusal) => said::refusal(refusal),
+        RunAnswer::Done => say::word(b"done"),
+        RunAnswer::Refused(refusal) => say::refusal(refusal),
     }
 }
 
@@ -43,8 +43,8 @@ fn say_done(answer: RunAnswer) {
 fn say_sounds(hz: &[f64; 8], numbers: &[u32; 8]) {
     let mut k: usize = 0;
     while k < 8 {
-        said::float(hz[k]);
-        said::natural(numbers[k]);
+        say::float(hz[k]);
+        say::natural(numbers[k]);
         k += 1;
     }
 }

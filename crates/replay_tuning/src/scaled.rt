@@ -21,10 +21,10 @@ pub fn root(line: &[u8]) -> KbmRoot {
 fn say_key(answer: KeySearch) {
     match answer {
         KeySearch::Key(found) => {
-            said::int(found.approx_value);
-            said::float(found.deviation);
+            say::int(found.approx_value);
+            say::float(found.deviation);
         }
-        KeySearch::Refused(refusal) => said::refusal(refusal),
+        KeySearch::Refused(refusal) => say::refusal(refusal),
     }
 }
 

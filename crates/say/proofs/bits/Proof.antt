@@ -4,8 +4,8 @@ use mathlib.Core.Bool.{true, not}
 use borrow.Author.Needs.{needs}
 use lib.Dec.{T}
 use lib.Ieee.{Float, nan, inf, fin, eq, isNan}
-use Rattle.said.proofs.bits.Statement.{statement}
-use Rattle.said.proofs.bits.Tie as tie
+use Rattle.say.proofs.bits.Statement.{statement}
+use Rattle.say.proofs.bits.Tie as tie
 
 is-number : (x : Float) → T (eq x x) → T (not (isNan x))
 unfolding eq isNan

@@ -1,8 +1,8 @@
 -- `places` is safe and ends: each turn takes a place. Assumes nothing.
 use Prim.Native.Nat.{_-_}
 use borrow.Author.Needs.{needs}
-use Rattle.said.proofs.places.Statement.{statement}
-use Rattle.said.proofs.places.Tie as tie
+use Rattle.say.proofs.places.Statement.{statement}
+use Rattle.say.proofs.places.Tie as tie
 
 abbrev Inv-loop : tie.InvT-loop
 Inv-loop kind cents numer denom place ratio wraps k₀ k = Unit {0}

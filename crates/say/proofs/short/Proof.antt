@@ -2,8 +2,8 @@
 use borrow.Author.Needs.{needs}
 use mir.Syntax.{w32}
 use Rattle.base.proofs.Machine.{widen-fits}
-use Rattle.said.proofs.short.Statement.{statement}
-use Rattle.said.proofs.short.Tie as tie
+use Rattle.say.proofs.short.Statement.{statement}
+use Rattle.say.proofs.short.Tie as tie
 
 cast-int : tie.Need-cast-int
 cast-int c = widen-fits w32 tt (c .fits .z)

@@ -2,8 +2,8 @@
 use Prim.Native.Nat.{_-_}
 use borrow.Author.Needs.{needs}
 use lib.ListN.{length}
-use Rattle.said.proofs.table.Statement.{statement}
-use Rattle.said.proofs.table.Tie as tie
+use Rattle.say.proofs.table.Statement.{statement}
+use Rattle.say.proofs.table.Tie as tie
 
 abbrev Inv-loop : tie.InvT-loop
 Inv-loop map k₀ k = Unit {0}

@@ -1,8 +1,8 @@
 -- `magnitude` is safe: -1 - z of a negative z is an i32 that is not negative. Assumes nothing.
 use borrow.Author.Needs.{needs}
 use Rattle.base.proofs.Machine.{flip-fits, flipped, kept, mag-cast}
-use Rattle.said.proofs.magnitude.Statement.{statement}
-use Rattle.said.proofs.magnitude.Tie as tie
+use Rattle.say.proofs.magnitude.Statement.{statement}
+use Rattle.say.proofs.magnitude.Tie as tie
 
 sub-result : tie.Need-sub-result
 sub-result c = flip-fits (c .before .fits .z) (c .if1 .taken)
