@@ -25,7 +25,8 @@ use Rattle.integers.specs.declared.I16.{I16}
 use Rattle.integers.specs.declared.I32.{I32}
 use Rattle.integers.specs.declared.I32.the-variants as i32
 use Rattle.decimals.proofs.DecimalAnswer.{the-type}
-use Rattle.text.specs.ReadLine.{part, shown}
+use Rattle.text.specs.Part.{part}
+use Rattle.text.specs.ReadLine.{shown}
 use Rattle.text.specs.declared.line.LineSays.{LineSays}
 use Rattle.text.specs.declared.line.LineSays.the-variants.{Content}
 use Rattle.kbm.specs.declared.Entry.{Entry}

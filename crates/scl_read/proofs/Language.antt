@@ -20,7 +20,8 @@ use Rattle.sorting.specs.Entries.{Entry}
 use Rattle.text.proofs.LineLanguage.{strict-text, one-strict-text}
 use Rattle.text.proofs.Placed.{shownAll, placed-says}
 use Rattle.text.specs.Placed.{placedIn}
-use Rattle.text.specs.ReadLine.{saidIn, part, shown}
+use Rattle.text.specs.Part.{part}
+use Rattle.text.specs.ReadLine.{saidIn, shown}
 use Rattle.text.specs.Reading.{Meaning, invalid, blank, comment, content}
 use Rattle.text.specs.declared.line.LineSays.{LineSays}
 use Rattle.text.specs.declared.line.LineSays.the-variants.{NotUtf8, Blank, Comment, Content}

@@ -6,7 +6,8 @@ use borrow.Author.Tests.{lt-ltb, le-ltb, le-leb, lt-leb}
 use Rattle.base.specs.Numbers.{no-room}
 use Rattle.base.specs.Said.{gives, refuses}
 use Rattle.scl.specs.declared.Item.{Item}
-use Rattle.text.specs.ReadLine.{part, shown}
+use Rattle.text.specs.Part.{part}
+use Rattle.text.specs.ReadLine.{shown}
 use Rattle.text.specs.declared.line.LineSays.{LineSays}
 use Rattle.text.specs.declared.line.LineSays.the-variants.{Content}
 use Rattle.scl_read.specs.Tokens.{itemIn}

@@ -10,7 +10,8 @@ use lib.Seq.{length-take-le, take-all}
 use borrow.Author.Tests.{ne-eqb}
 use Rattle.white.specs.Trim.{run, keepBy}
 use Rattle.utf8.specs.Utf8Machine.{utf8From}
-use Rattle.text.specs.ReadLine.{tokenLength, Way, strictly, part, partAt, lineBy, lineOf}
+use Rattle.text.specs.Part.{part}
+use Rattle.text.specs.ReadLine.{tokenLength, Way, strictly, partAt, lineBy, lineOf}
 use Rattle.text.specs.declared.line.LineSays.{LineSays}
 use Rattle.text.specs.declared.line.LineSays.the-variants.{NotUtf8, Blank, Comment, Content}
 use Rattle.white.proofs.Runs.{run-le}

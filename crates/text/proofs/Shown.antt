@@ -12,7 +12,8 @@ use lib.Seq.{drop-drop, drop-append-le, take-append-le, take-length}
 use Rattle.base.specs.Said.{pick}
 use Rattle.text.specs.Cut.{lines, cut}
 use Rattle.text.specs.Reading.{invalid, comment, content}
-use Rattle.text.specs.ReadLine.{tokenLength, Way, part, partMeaning, partAt, meaningBy, meanings, saidIn, lineBy, lineOf, shown, InText}
+use Rattle.text.specs.Part.{part}
+use Rattle.text.specs.ReadLine.{tokenLength, Way, partMeaning, partAt, meaningBy, meanings, saidIn, lineBy, lineOf, shown, InText}
 use Rattle.white.specs.Trim.{run, trimBy}
 use Rattle.text.specs.declared.line.LineSays.{LineSays}
 use Rattle.text.specs.declared.line.LineSays.the-variants.{NotUtf8, Comment, Content}

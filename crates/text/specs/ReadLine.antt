@@ -2,11 +2,12 @@
 -- `Reading` says what a line says, `proofs/LineLanguage` that the two agree. Assumes nothing.
 use mathlib.Core.List.{List, [], _∷_}
 use mathlib.Core.Bool.{Bool, true}
-use Prim.Native.Nat.{ℕ, suc, _+_, _-_, _≤_}
+use Prim.Native.Nat.{ℕ, suc, _+_, _≤_}
 use lib.Dec.{eqb}
-use lib.ListN.{length, take, drop}
+use lib.ListN.{length, take}
 use Rattle.base.specs.Said.{pick}
 use Rattle.text.specs.Cut.{lines}
+use Rattle.text.specs.Part.{part}
 use Rattle.text.specs.Reading.{Meaning, invalid, blank, comment, content}
 use Rattle.white.specs.Trim.{front, back, run, trimBy}
 use Rattle.utf8.specs.Utf8Machine.{fresh, utf8From}
@@ -49,10 +50,6 @@ meanings w (l ∷ ls) = meaningBy w l ∷ meanings w ls
 -- what the lines of a text say, in document 01's reading
 abbrev pub saidIn : List ℕ → List Meaning
 saidIn text = meanings strictly (lines text)
-
--- the part of a text from a to e: what a function sees that `&text[a..e]` is handed to
-abbrev pub part : List ℕ → ℕ → ℕ → List ℕ
-part text a e = take (e - a) (drop a text)
 
 -- what the trimmed part m says, which starts at k: where it starts and ends, and where its token ends
 abbrev pub partAt : ℕ → List ℕ → LineSays

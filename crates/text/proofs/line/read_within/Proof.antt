@@ -3,7 +3,8 @@
 use native.Mathlib.Omega.{arith}
 use borrow.Author.Needs.{needs}
 use denote.Ref.{now}
-use Rattle.text.specs.ReadLine.{strictly, part}
+use Rattle.text.specs.Part.{part}
+use Rattle.text.specs.ReadLine.{strictly}
 use Rattle.text.proofs.LineReads.{ahead-le, part-length, rest-within, line-empty, line-not, line-is}
 use Rattle.text.proofs.line.read_within.Statement.{statement}
 use Rattle.text.proofs.line.read_within.Tie as tie
