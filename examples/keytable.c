@@ -42,9 +42,13 @@ static const char *reason(uint32_t number) {
     return number == TELBIJAN_NO_ROOM ? "more than 8191 items or 8192 entries" : telbijan_reason(number);
 }
 
-static bool accepted(const char *name, telbijan_refusal said) {
+/* The required lines of both files. */
+static const char *const scale_lines[] = {"the description", "the number of notes"};
+static const char *const mapping_lines[] = {"the size", "the first key", "the last key", "the middle key", "the reference key", "the reference pitch", "the formal octave"};
+
+static bool accepted(const char *name, const char *const *required, telbijan_refusal said) {
     if (said.number == TELBIJAN_LINE_MISSING)
-        fprintf(stderr, "%s: required line %" PRIu64 " is missing\n", name, said.detail);
+        fprintf(stderr, "%s: %s is missing\n", name, required[said.detail - 1]);
     else if (!telbijan_is_accepted(said) && said.detail != 0)
         fprintf(stderr, "%s:%" PRIu64 ": %s\n", name, said.detail, reason(said.number));
     else if (!telbijan_is_accepted(said))
@@ -102,9 +106,9 @@ int main(int argc, char **argv) {
         fprintf(stderr, "usage: keytable SCL KBM\n");
         return 1;
     }
-    if (!read_file(argv[1], &length) || !accepted(argv[1], telbijan_scale_read(&scale, text, length, &description)))
+    if (!read_file(argv[1], &length) || !accepted(argv[1], scale_lines, telbijan_scale_read(&scale, text, length, &description)))
         return 1;
-    if (!read_file(argv[2], &length) || !accepted(argv[2], telbijan_mapping_read(&mapping, text, length)))
+    if (!read_file(argv[2], &length) || !accepted(argv[2], mapping_lines, telbijan_mapping_read(&mapping, text, length)))
         return 1;
     int64_t keys = (int64_t)mapping.end - mapping.start;
     uint32_t shown = keys < 0 ? 0 : keys < MOST ? (uint32_t)keys : MOST;

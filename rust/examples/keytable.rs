@@ -13,11 +13,15 @@ const MOST: i64 = 1024;
 /// 2^53, the largest number that is written with decimals.
 const LARGEST: f64 = 9007199254740992.0;
 
-fn read<T>(name: &str, parse: impl FnOnce(&[u8]) -> Result<T, Refusal>) -> Result<T, String> {
+/// The required lines of both files.
+const SCALE_LINES: [&str; 2] = ["the description", "the number of notes"];
+const MAPPING_LINES: [&str; 7] = ["the size", "the first key", "the last key", "the middle key", "the reference key", "the reference pitch", "the formal octave"];
+
+fn read<T>(name: &str, required: &[&str], parse: impl FnOnce(&[u8]) -> Result<T, Refusal>) -> Result<T, String> {
     let text = std::fs::read(name).map_err(|_| format!("{name}: cannot be opened"))?;
     parse(&text).map_err(|refusal| match refusal.line() {
         Some(line) => format!("{name}:{line}: {}", refusal.reason()),
-        None if refusal.number() == number::LINE_MISSING => format!("{name}: required line {} is missing", refusal.detail()),
+        None if refusal.number() == number::LINE_MISSING => format!("{name}: {} is missing", required[refusal.detail() as usize - 1]),
         None => format!("{name}: {}", refusal.reason()),
     })
 }
@@ -59,7 +63,7 @@ fn print(out: &mut impl Write, scale: &Scale, mapping: &Mapping) -> io::Result<(
 }
 
 fn table(scl: &str, kbm: &str) -> Result<(), String> {
-    let (scale, mapping) = (read(scl, Scale::read)?, read(kbm, Mapping::read)?);
+    let (scale, mapping) = (read(scl, &SCALE_LINES, Scale::read)?, read(kbm, &MAPPING_LINES, Mapping::read)?);
     print(&mut BufWriter::new(io::stdout().lock()), &scale, &mapping).map_err(|_| "keytable: standard output cannot be written".to_string())
 }
 

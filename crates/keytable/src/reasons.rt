@@ -14,9 +14,9 @@ fn line_from(lines: &[u8], at: usize) -> &[u8] {
 }
 
 // The line with a number, from 1 on.
-fn line_of(lines: &[u8], number: u32) -> &[u8] {
+fn line_of(lines: &[u8], number: usize) -> &[u8] {
     let mut at: usize = 0;
-    let mut passed: u32 = 1;
+    let mut passed: usize = 1;
     while passed < number {
         let ends = text::lines::next_line(lines, at);
         at = ends.next;
@@ -31,23 +31,23 @@ pub fn say(fd: i32, number: u32) -> bool {
         fd,
         line_of(
             b"a line is not UTF-8\na required line is missing\nnot an integer of its type\nnot a cents value\nnot a numerator\nnot a denominator\nnot a decimal\nnot a mapping entry\na numeral with an exponent, a word, or over 18 digits\na value, a state or a lent table that cannot be used\na number leaves its type\nmore than 8191 items or 8192 entries\nover 65,535 entries\nthe text has another count of notes or entries than it says\nentries and no formal octave\nthe key is outside the range\nthe key is unmapped\nbeyond reach: a period of 1.0, 0 divisions, or a computed pitch or ratio outside its range",
-            number,
+            number as usize,
         ),
     )
 }
 
-// Writes `: required line N is missing` on standard error.
-fn say_missing(line: usize) {
-    io::write_all(STDERR_FILENO, b": required line ");
-    io::print_decimal(STDERR_FILENO, line as u64);
+// Writes on standard error that a required line is missing, the `line`th of those named.
+fn say_missing(required: &[u8], line: usize) {
+    io::write_all(STDERR_FILENO, b": ");
+    io::write_all(STDERR_FILENO, line_of(required, line));
     io::write_all(STDERR_FILENO, b" is missing\n");
 }
 
-// Writes on standard error which file is refused, at which line and why.
-pub fn refuse(name: &[u8], number: u32, detail: usize) {
+// Writes on standard error which file is refused, at which line and why; `required` names its required lines, a line for each.
+pub fn refuse(name: &[u8], required: &[u8], number: u32, detail: usize) {
     io::write_all(STDERR_FILENO, name);
     if number == base::LINE_MISSING {
-        say_missing(detail);
+        say_missing(required, detail);
         return;
     }
     if detail != 0 {

@@ -63,7 +63,12 @@ fn tell(name: &[u8], answer: SclReadAnswer) -> Told {
             Told { is_read: true, scl }
         }
         SclReadAnswer::Refused(refusal) => {
-            crate::reasons::refuse(name, refusal.number, refusal.detail);
+            crate::reasons::refuse(
+                name,
+                b"the description\nthe number of notes",
+                refusal.number,
+                refusal.detail,
+            );
             Told {
                 is_read: false,
                 scl: Scl { count: 0 },
@@ -140,7 +145,12 @@ fn mapping_of(name: &[u8], bytes: &[u8], n: usize) -> Mapping {
             map,
         },
         KbmAnswer::Refused(refusal) => {
-            crate::reasons::refuse(name, refusal.number, refusal.detail);
+            crate::reasons::refuse(
+                name,
+                b"the size\nthe first key\nthe last key\nthe middle key\nthe reference key\nthe reference pitch\nthe formal octave",
+                refusal.number,
+                refusal.detail,
+            );
             Mapping {
                 is_read: false,
                 kbm: NONE,
