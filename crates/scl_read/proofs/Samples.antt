@@ -8,7 +8,7 @@ use Rattle.base.specs.Said.{gives, refuses}
 use Rattle.floats.specs.Units.{negative}
 use Rattle.explog.specs.Exp.{pOf}
 use Rattle.explog.specs.Log.{bOf, yOf}
-use Rattle.explog.specs.Rules.{E, L, floorOf, timesPower, powerOf, logOf, logAt, ratioOf}
+use Rattle.explog.specs.Rules.{E, L, floorOf, timesPower, powerOf, logOf, logAt, octavesOf}
 use Rattle.decimals.specs.DecimalScan.{readDecimal}
 use Rattle.integers.specs.Integer.{scan, magnitudeOf, readSigned}
 use Rattle.listing.specs.Reader.{walkLines, givenAfter}
@@ -71,7 +71,7 @@ pub record Samples : Type 0 where
   pub no-count : readOf 8 (120 ∷ 10 ∷ 33 ∷ 10 ∷ []) ≡ refuses 2 2
 
 pub samples : Samples
-unfolding lines meaningBy meanings lineBy startsFrom placedBy tokenLength widthBy run leadOf utf8Step utf8From scan magnitudeOf readSigned runOf spelled scanOf readDecimal placeOf itemIn takeToken finished walkLines givenAfter descriptionIn isBeyond E L floorOf timesPower powerOf logOf logAt ratioOf pOf bOf yOf le div round ofInt ofBits neg negative
+unfolding lines meaningBy meanings lineBy startsFrom placedBy tokenLength widthBy run leadOf utf8Step utf8From scan magnitudeOf readSigned runOf spelled scanOf readDecimal placeOf itemIn takeToken finished walkLines givenAfter descriptionIn isBeyond E L floorOf timesPower powerOf logOf logAt octavesOf pOf bOf yOf le div round ofInt ofBits neg negative
 samples =
     record {
       scale = refl;

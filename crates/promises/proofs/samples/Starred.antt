@@ -5,7 +5,7 @@ use Rattle.floats.specs.Units.{negative}
 use Rattle.explog.specs.Exp.{tOf, pOf}
 use Rattle.explog.specs.Log.{bOf, yOf}
 use Rattle.explog.specs.Root.{root, rootFrom}
-use Rattle.explog.specs.Rules.{E, L, floorOf, timesPower, powerOf, logOf, logAt, ratioOf}
+use Rattle.explog.specs.Rules.{E, L, floorOf, timesPower, powerOf, logOf, logAt, octavesOf}
 use Rattle.base.specs.Integers.{held}
 use Rattle.kbm.specs.Degree.{degreeAt, scaleDegreeOf}
 use Rattle.kbm.specs.Table.{areEntries, entriesOf}
@@ -23,7 +23,7 @@ use Rattle.scl_read.specs.Reader.{takeToken}
 use Rattle.promises.specs.samples.Samples.{Samples}
 
 pub samples : Samples
-unfolding lines meaningBy meanings tokenLength widthBy run leadOf utf8Step utf8From walkLines takeToken itemIn placeOf scan magnitudeOf readSigned runOf spelled scanOf readDecimal scaleDegreeOf degreeAt areEntries entriesOf held divisionOf E L floorOf timesPower powerOf logOf logAt ratioOf tOf pOf bOf yOf root rootFrom le round size ofBits neg negative
+unfolding lines meaningBy meanings tokenLength widthBy run leadOf utf8Step utf8From walkLines takeToken itemIn placeOf scan magnitudeOf readSigned runOf spelled scanOf readDecimal scaleDegreeOf degreeAt areEntries entriesOf held divisionOf E L floorOf timesPower powerOf logOf logAt octavesOf tOf pOf bOf yOf root rootFrom le round size ofBits neg negative
 samples = record {
   key60 = λ pitch offset. refl;
   key61 = λ pitch offset. refl;
