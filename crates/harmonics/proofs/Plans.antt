@@ -23,7 +23,7 @@ use Rattle.scl_tables.specs.Build.{lastOf, isBeyond, afterList}
 use Rattle.scl_tables.specs.Room.{roomOf}
 use Rattle.scl_tables.proofs.Beyond.{too-few}
 use Rattle.scl_build.specs.Builder.{counted}
-use Rattle.generate.specs.Generated.{runOf, listOf, madeOf, itemsFrom, countedOf, itemsLeft, listLeft}
+use Rattle.generate.specs.Generated.{allPushed, listOf, madeOf, itemsFrom, countedOf, itemsLeft, listLeft}
 use Rattle.generate.proofs.Items.{Fine, All, all-items, none-of, last-of}
 use Rattle.generate.proofs.Made.{made-no-room, made-refused, made-beyond, made-given, all-refused, all-given}
 use Rattle.generate.proofs.Theorems.{listed, count-is}
@@ -214,8 +214,8 @@ module _ (t : ItemTable) (l : ListTable) (type : SegmentType) (start size : ℕ)
 
       -- what is written is what the definition leaves
       pub plan-given : {steps : Steps} → gives steps ≡ planned type start size divisions → {x : Said ℕ} {t′ : ItemTable} {l′ : ListTable}
-          → x ≡ counted (runOf t l (saidFrom (itemAt type start size steps) 1 (segmentCount size divisions)) .builder) (listOf t l (saidFrom (itemAt type start size steps) 1 (segmentCount size divisions)))
-          → t′ ≡ runOf t l (saidFrom (itemAt type start size steps) 1 (segmentCount size divisions)) .table
+          → x ≡ counted (allPushed t l (saidFrom (itemAt type start size steps) 1 (segmentCount size divisions)) .builder) (listOf t l (saidFrom (itemAt type start size steps) 1 (segmentCount size divisions)))
+          → t′ ≡ allPushed t l (saidFrom (itemAt type start size steps) 1 (segmentCount size divisions)) .table
           → l′ ≡ afterList (listOf t l (saidFrom (itemAt type start size steps) 1 (segmentCount size divisions))) l
           → (x ≡ countedOf made) × (t′ ≡ itemsLeft made t l) × (l′ ≡ listLeft made t l)
       plan-given {steps} e {x} {t′} {l′} ex et el = go (stepsOf start size divisions) refl e
@@ -236,9 +236,9 @@ module _ (t : ItemTable) (l : ListTable) (type : SegmentType) (start size : ℕ)
               made-by (ap (λ (s : Said Steps). andThen s (λ steps. itemsFrom (itemAt type start size steps) 1 n)) h ∙ m .are)
               ∙ ap (λ (k : ℕ). madeOf t l k (gives is)) (sym y) ∙ made-given t l is few fit (m .usable) (m .held) b in
               let said : saidFrom (itemAt type start size steps) 1 n ≡ is = said-all (itemAt type start size steps) n 1 (m .are) in
-              let a = all-given t l g (et ∙ ap (λ (z : List Item). runOf t l z .table) said) (el ∙ ap (λ (z : List Item). afterList (listOf t l z) l) said) in (
-                ex ∙ ap (λ (z : List Item). counted (runOf t l z .builder) (listOf t l z)) said
-                    ∙ ap (counted (runOf t l is .builder)) (listed t l is few fit (m .usable) (m .held) b)
+              let a = all-given t l g (et ∙ ap (λ (z : List Item). allPushed t l z .table) said) (el ∙ ap (λ (z : List Item). afterList (listOf t l z) l) said) in (
+                ex ∙ ap (λ (z : List Item). counted (allPushed t l z .builder) (listOf t l z)) said
+                    ∙ ap (counted (allPushed t l is .builder)) (listed t l is few fit (m .usable) (m .held) b)
                     ∙ ap gives (count-is t l is few fit (m .usable) (m .held) b) ∙ a .0,
                 a .1,
                 a .2,

@@ -25,7 +25,7 @@ use Rattle.scl_tables.specs.Room.{roomOf}
 use Rattle.scl_tables.proofs.Theorems.{list-leaves}
 use Rattle.scl_build.specs.Builder.{Built, beside, state, afterNew, built, counted}
 use Rattle.scl_build.specs.declared.SclBuilder.{SclBuilder}
-use Rattle.generate.specs.Generated.{runOf, listOf, madeOf, countedOf, itemsLeft, listLeft}
+use Rattle.generate.specs.Generated.{allPushed, listOf, madeOf, countedOf, itemsLeft, listLeft}
 use Rattle.generate.proofs.Made.{implicit-held, all-usable, some-list, made-no-room, made-beyond, made-given, all-given}
 use Rattle.generate.proofs.Theorems.{listed, count-is}
 use Rattle.rank2.specs.Asked.{SomeCents}
@@ -108,7 +108,7 @@ module _ (f : ℕ → Said Float) (n : ℕ) (v : Values f 0 n) where
 
         -- the notes stand in the list's first places, the rest is as it was: the run over them is the definition's
         module _ {l′ : ListTable} (b : Behind n l l′) (notes : gives (take n (l′ .ratios)) ≡ ascendingOf f n) where
-          ran-is : ranOf t l′ n ≡ runOf t l is
+          ran-is : ranOf t l′ n ≡ allPushed t l is
           ran-is =
               let q : take n (l′ .ratios) ≡ ascending (v .values) = same-value (take n (l′ .ratios)) (ascending (v .values)) (notes ∙ ascending-said f n v) in
               ap (λ (k : ℕ). afterRatios (beside (state k 0) (afterNew t l′)) (take n (l′ .ratios))) (same-room b t)
@@ -117,7 +117,7 @@ module _ (f : ℕ → Said Float) (n : ℕ) (v : Values f 0 n) where
               ∙ ratios-run (ascending (v .values)) (beside (state (roomOf t l) 0) (afterNew t l)) (pushed-of .are)
 
           built-is : built (ranOf t l′ n .builder) (ranOf t l′ n .table) l′ ≡ gives entries
-          built-is = ap (λ (z : Built). built (z .builder) (z .table) l′) ran-is ∙ same-built b (runOf t l is .builder) (runOf t l is .table) ∙ listed-is
+          built-is = ap (λ (z : Built). built (z .builder) (z .table) l′) ran-is ∙ same-built b (allPushed t l is .builder) (allPushed t l is .table) ∙ listed-is
 
           pub make-all : {x : Said ℕ} {t″ : ItemTable} {l″ : ListTable}
               → x ≡ counted (ranOf t l′ n .builder) (built (ranOf t l′ n .builder) (ranOf t l′ n .table) l′)
