@@ -30,7 +30,7 @@ use Rattle.sorted.proofs.Usable.{InReach, arranged-usable}
 use Rattle.scl.specs.Items.{isUsable, denomOf, ratioOf, Held, AllHeld}
 use Rattle.scl.specs.Table.{areUsable, noItem}
 use Rattle.scl_tables.specs.Reduce.{reducedBy}
-use Rattle.scl_tables.specs.Build.{entry, entryOf, entriesFrom, overridden, lastOf, countOf, sortedOf, scaleOf, isNone, isBeyond}
+use Rattle.scl_tables.specs.Build.{entry, reducedEntry, entriesFrom, overridden, lastOf, countOf, sortedOf, scaleOf, isNone, isBeyond}
 use Rattle.scl.specs.declared.Item.{Item}
 use Rattle.scl.specs.declared.Item.the-variants.{Cents, Fraction}
 use Rattle.scl_tables.specs.declared.reduction.Reduced.{Reduced}
@@ -89,7 +89,7 @@ module _ (period : Float) (fp : fits binary64 period ≡ true) (p : Within 32 32
     abbrev it : Entry
     it = entry k (reduced-given .value .ratio) (reduced-given .value .wraps)
 
-    entry-is : entryOf period k i ≡ gives it
+    entry-is : reducedEntry period k i ≡ gives it
     entry-is =
         ap (λ s. andThen s (λ ratio. andThen (reducedBy period ratio) (λ y. gives (entry k (y .ratio) (y .wraps))))) (ratio-given .is)
         ∙ ap (λ s. andThen s (λ (y : Reduced). gives (entry k (y .ratio) (y .wraps)))) (reduced-given .is)
