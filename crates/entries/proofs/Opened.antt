@@ -9,7 +9,7 @@ use borrow.Author.Tests.{eq-eqb, ne-eqb}
 use Rattle.base.specs.Numbers.{unusable, beyond-reach}
 use Rattle.base.specs.Said.{Said, gives, refuses, pick, andThen}
 use Rattle.floats.specs.Ranges.{inSearch}
-use Rattle.sorted.specs.Lent.{goesOn}
+use Rattle.sorted.specs.Lent.{mayFollow}
 use Rattle.scl.specs.Table.{ItemTable, itemsIn, isItems}
 use Rattle.relative.specs.Scales.{tested}
 use Rattle.searching.specs.Search.{chosenOf, indexOf, foundAt}
@@ -33,8 +33,8 @@ module _ (s : Scan) (e : SortedEntry) (i : ℕ) where
   abbrev pub stepBy : Bool → Bool → Scan
   stepBy n b = record { usable = s .usable && n; count = s .count; aim = s .aim; last = e .ratio; at = pick b i (s .at); lower = pick b (s .upper) (s .lower); upper = pick b e (s .upper) }
 
-  pub step-is : {n : Bool} (b : Bool) → n ≡ (goesOn (s .last) (e .ratio) && leb (e .place) (s .count)) → goesUp (s .upper .ratio) (s .aim .target) i ≡ b → stepBy n b ≡ scanStep s e i
-  step-is b h g = ap (λ (m : Bool). stepBy m b) h ∙ ap (stepBy (goesOn (s .last) (e .ratio) && leb (e .place) (s .count))) (sym g)
+  pub step-is : {n : Bool} (b : Bool) → n ≡ (mayFollow (s .last) (e .ratio) && leb (e .place) (s .count)) → goesUp (s .upper .ratio) (s .aim .target) i ≡ b → stepBy n b ≡ scanStep s e i
+  step-is b h g = ap (λ (m : Bool). stepBy m b) h ∙ ap (stepBy (mayFollow (s .last) (e .ratio) && leb (e .place) (s .count))) (sym g)
 
 module _ (s : Scan) where
   -- ---- of the neighbours

@@ -11,7 +11,7 @@ use lib.Ieee.{Float, lt}
 use borrow.Author.Tests.{le-ltb, ltb-true, ltb-false, ne-eqb}
 use Rattle.base.specs.Said.{pick}
 use Rattle.sorting.proofs.Order.{clash}
-use Rattle.sorted.specs.Lent.{placesOf, ratiosOf, goesOn, usableAfter, areWithin, firstNotBelow}
+use Rattle.sorted.specs.Lent.{placesOf, ratiosOf, mayFollow, usableAfter, areWithin, firstNotBelow}
 use Rattle.searching.specs.Search.{clamped, upperOf}
 use Rattle.entries.specs.Entries.{asEntry, asEntries, noEntry}
 use Rattle.entries.specs.declared.SortedEntry.{SortedEntry}
@@ -62,7 +62,7 @@ unfolding usableAfter areWithin
 run-usable [] s i = sym (and-true (s .usable))
 run-usable (e ∷ l) s i =
     run-usable l (scanStep s e i) (suc i)
-    ∙ sorts-out (s .usable) (goesOn (s .last) (e .ratio)) (leb (e .place) (s .count)) (usableAfter (e .ratio) (ratiosOf (asEntries l))) (areWithin (s .count) (placesOf (asEntries l)))
+    ∙ sorts-out (s .usable) (mayFollow (s .last) (e .ratio)) (leb (e .place) (s .count)) (usableAfter (e .ratio) (ratiosOf (asEntries l))) (areWithin (s .count) (placesOf (asEntries l)))
 
 -- ---- the neighbours: from the place i on the upper one goes up by j places
 abbrev UpBy : Scan → List SortedEntry → Scan → ℕ → Type 0
@@ -85,7 +85,7 @@ climb [] s i h k = subst (UpBy s [] s) (sym (min-none (firstNotBelow (s .upper .
 climb (e ∷ l) s i h k = by (λ m n p w. climb l m n p w) (lt (s .upper .ratio) (s .aim .target)) refl
   where
     t : Bool
-    t = goesOn (s .last) (e .ratio) && leb (e .place) (s .count)
+    t = mayFollow (s .last) (e .ratio) && leb (e .place) (s .count)
 
     up-is : (b : Bool) → lt (s .upper .ratio) (s .aim .target) ≡ b → (m : List Float) (n : ℕ) → min (firstNotBelow (s .upper .ratio ∷ m) (s .aim .target)) n ≡ min (pick b (suc (firstNotBelow m (s .aim .target))) 0) n
     up-is b q m n = ap (λ (c : Bool). min (pick c (suc (firstNotBelow m (s .aim .target))) 0) n) q

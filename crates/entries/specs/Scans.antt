@@ -13,7 +13,7 @@ use Rattle.base.specs.Said.{Said, gives, refuses, pick, andThen}
 use Rattle.floats.specs.Floats.{zeroF}
 use Rattle.floats.specs.Ranges.{inReach, inSearch}
 use Rattle.sorting.specs.Entries.{Entry}
-use Rattle.sorted.specs.Lent.{goesOn}
+use Rattle.sorted.specs.Lent.{mayFollow}
 use Rattle.scl.specs.Table.{ItemTable, itemsIn, isItems}
 use Rattle.scl.specs.declared.Item.{Item}
 use Rattle.relative.specs.Scales.{tested}
@@ -63,7 +63,7 @@ goesUp upper target i = ltb i 2 || lt upper target
 
 abbrev pub scanStep : Scan → SortedEntry → ℕ → Scan
 scanStep s e i = record {
-  usable = s .usable && (goesOn (s .last) (e .ratio) && leb (e .place) (s .count));
+  usable = s .usable && (mayFollow (s .last) (e .ratio) && leb (e .place) (s .count));
   count = s .count;
   aim = s .aim;
   last = e .ratio;

@@ -15,7 +15,7 @@ ghost use Prim.Native.Nat.{_≤_, _<_};
 ghost use lib.Dec.{leb, ltb};
 ghost use lib.ListN.{length};
 ghost use Rattle.floats.specs.Ranges.{inReach, inSearch};
-ghost use Rattle.sorted.specs.Lent.{goesOn};
+ghost use Rattle.sorted.specs.Lent.{mayFollow};
 ghost use Rattle.scl.specs.Table.{itemTable, itemsIn, isItems};
 ghost use Rattle.searching.specs.Answers.{saysFound};
 ghost use Rattle.searching.specs.Search.{foundAt};
@@ -141,7 +141,7 @@ fn places_of(s: Scan) -> usize
 
 // Whether an entry may stand after the ratio `last`: in the range, not below it, with a place within the count.
 fn is_next(last: f64, count: u16, e: SortedEntry) -> bool
-    ensures { λ r. ⌜ r ≡ (goesOn last (e .ratio) && leb (e .place) count) ⌝ }
+    ensures { λ r. ⌜ r ≡ (mayFollow last (e .ratio) && leb (e .place) count) ⌝ }
 {
     let ratio = e.ratio;
     let reached = floats::is_in_reach(ratio);
