@@ -14,14 +14,14 @@ use Rattle.listing.proofs.Ample.{not-no-room, says-few, fault-drawn, fault-stay
 use Rattle.scl.specs.declared.Item.{Item}
 use Rattle.scl_read.specs.ItemText.{NoItem}
 use Rattle.sorting.specs.Entries.{Entry}
-use Rattle.scl_read.specs.Language.{Required, Line, scale, Values, Wrong, ScaleText, IsScale, WrongEnd, FaultText}
+use Rattle.scl_read.specs.Language.{Required, ContentLine, scale, Values, Wrong, ScaleText, IsScale, WrongEnd, FaultText}
 use Rattle.scl_read.specs.Reader.{givenIn, scaleRead, readOf}
 use Rattle.scl_read.specs.declared.SclRead.{SclRead}
 use Rattle.scl_read.proofs.Language.{Reading, accepts, accepted, refuses-fault}
 
 -- ---- the numbers of a line, and of the end
 module _ (n : ℕ) where
-  wrong-drawn : (f : Required) (l : Line) → Wrong f l n → Drawn n
+  wrong-drawn : (f : Required) (l : ContentLine) → Wrong f l n → Drawn n
   wrong-drawn Required.description l w = absurd w
   wrong-drawn Required.count l w = inl (omega (arith, w .0), omega (arith, w .0))
 

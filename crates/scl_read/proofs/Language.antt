@@ -24,14 +24,14 @@ use Rattle.text.specs.ReadLine.{saidIn, part, shown}
 use Rattle.text.specs.Reading.{Meaning, invalid, blank, comment, content}
 use Rattle.text.specs.declared.line.LineSays.{LineSays}
 use Rattle.text.specs.declared.line.LineSays.the-variants.{NotUtf8, Blank, Comment, Content}
-use Rattle.scl_read.specs.Language.{Required, required, Line, scale, Values, descriptionOf, declaredOf, ScaleText, WrongEnd, FaultText}
+use Rattle.scl_read.specs.Language.{Required, required, ContentLine, scale, Values, descriptionOf, declaredCountOf, ScaleText, WrongEnd, FaultText}
 use Rattle.scl_read.specs.Reader.{checkOf, givenFrom, givenIn, firstContent, descriptionIn, scaleRead, readOf}
 use Rattle.scl_read.specs.declared.SclRead.{SclRead}
 use Rattle.scl_read.proofs.Ends.{given-is, lines-sorted, end-gives, sorted-too, gives-end, end-wrong, wrong-end}
 use Rattle.scl_read.proofs.Stands.{reads, blankHead, finishOn, same-walk}
 
 -- ---- the description is the first line with content
-first-line : (text : List ℕ) (xs : List LineSays) (first rest : List Line) (vs : Values) → Words scale (shownAll text xs) (first ++ rest) → GiveAll scale required first vs →
+first-line : (text : List ℕ) (xs : List LineSays) (first rest : List ContentLine) (vs : Values) → Words scale (shownAll text xs) (first ++ rest) → GiveAll scale required first vs →
     part text (firstContent xs .start) (firstContent xs .end) ≡ descriptionOf vs
 first-line text xs [] rest vs w g = absurd g
 first-line text [] (l ∷ first) rest vs w g = absurd w

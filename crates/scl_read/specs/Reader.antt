@@ -98,13 +98,13 @@ readOf zero text = refuses no-room 0
 readOf (suc places) text = andThen (checkOf places text) (λ n. gives (scaleRead n text))
 
 -- items written at places k, k + 1, ..
-unfoldable pub written : ItemTable → ℕ → List Item → ItemTable
-written t k [] = t
-written t k (i ∷ is) = written (writtenAt t k i) (k + 1) is
+unfoldable pub writtenFrom : ItemTable → ℕ → List Item → ItemTable
+writtenFrom t k [] = t
+writtenFrom t k (i ∷ is) = writtenFrom (writtenAt t k i) (k + 1) is
 
 -- THE TABLES after a read: an accepted text's items, and their sorted list; a refusal leaves them as they were
 abbrev pub itemsAfter : Said SclRead → List ℕ → ItemTable → ItemTable
-itemsAfter (gives r) text t = written t 0 (itemsRead text)
+itemsAfter (gives r) text t = writtenFrom t 0 (itemsRead text)
 itemsAfter (refuses n d) text t = t
 
 abbrev pub sortedAfter : Said SclRead → List ℕ → ListTable → ListTable

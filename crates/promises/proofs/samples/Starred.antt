@@ -18,12 +18,12 @@ use Rattle.white.specs.Trim.{widthBy, run}
 use Rattle.text.specs.Cut.{lines}
 use Rattle.text.specs.ReadLine.{tokenLength, meaningBy, meanings}
 use Rattle.listing.specs.Reader.{walkLines}
-use Rattle.scl_read.specs.Tokens.{placeOf, itemIn}
+use Rattle.scl_read.specs.Tokens.{positionOf, itemIn}
 use Rattle.scl_read.specs.Reader.{takeToken}
 use Rattle.promises.specs.samples.Samples.{Samples}
 
 pub samples : Samples
-unfolding lines meaningBy meanings tokenLength widthBy run leadOf utf8Step utf8From walkLines takeToken itemIn placeOf scan magnitudeOf readSigned digitRunOf spelled scanOf readDecimal scaleDegreeOf degreeAt areEntries entriesOf held divisionOf E L floorOf timesPower powerOf logOf logAt octavesOf tOf pOf bOf yOf root rootFrom le round size ofBits neg negative
+unfolding lines meaningBy meanings tokenLength widthBy run leadOf utf8Step utf8From walkLines takeToken itemIn positionOf scan magnitudeOf readSigned digitRunOf spelled scanOf readDecimal scaleDegreeOf degreeAt areEntries entriesOf held divisionOf E L floorOf timesPower powerOf logOf logAt octavesOf tOf pOf bOf yOf root rootFrom le round size ofBits neg negative
 samples = record {
   key60 = λ pitch offset. refl;
   key61 = λ pitch offset. refl;

@@ -19,7 +19,7 @@ use Rattle.scl.specs.declared.Item.{Item}
 use Rattle.scl.specs.declared.Scl.{Scl}
 use Rattle.scl.proofs.Typed.{typed-held, held-after}
 use Rattle.scl.proofs.Table.{items-are}
-use Rattle.scl_read.specs.Language.{Line, required, scale, ScaleText}
+use Rattle.scl_read.specs.Language.{ContentLine, required, scale, ScaleText}
 use Rattle.scl_read.specs.Reader.{scaleRead, readOf, afterItems, afterSorted}
 use Rattle.scl_read.proofs.Language.{Reading, accepts}
 use Rattle.scl_read.proofs.Leaves.{leaves-items, leaves-list}
@@ -72,10 +72,10 @@ module _ (d : List ℕ) (is : List Item) (list : List Entry) where
       let e : t .says ≡ exportSays d is = sym (one-strict-text s (t .says) (t .text)) ∙ one-strict-text s (exportSays d is) (export-says d is b) in
       go (t .lines .first) (t .lines .rest) (subst (λ (ms : List Meaning). Words scale ms (t .lines .first ++ t .lines .rest)) e (t .lines .words)) (t .lines .values) (t .lines .entries)
     where
-      go : (first rest : List Line) → Words scale (exportSays d is) (first ++ rest) → GiveAll scale required first (t .values) → Entries scale rest is → ItemsBack is
+      go : (first rest : List ContentLine) → Words scale (exportSays d is) (first ++ rest) → GiveAll scale required first (t .values) → Entries scale rest is → ItemsBack is
       go [] rest w g x = absurd g
       go (a ∷ []) rest w g x = absurd (g .1)
-      go (a ∷ c ∷ []) rest w g x = back-entries is h (subst (λ (ws : List Line). Entries scale ws is) (only-words (itemTexts is) rest (w .1 .1)) x)
+      go (a ∷ c ∷ []) rest w g x = back-entries is h (subst (λ (ws : List ContentLine). Entries scale ws is) (only-words (itemTexts is) rest (w .1 .1)) x)
       go (a ∷ c ∷ v ∷ vs) rest w g x = absurd (g .1 .1)
 
   -- THE THEOREM: of usable items that the machine holds, and that have a sorted list, and of a description that is UTF-8
