@@ -29,7 +29,7 @@ use Rattle.generate.proofs.Made.{made-no-room, made-refused, made-beyond, made-
 use Rattle.generate.proofs.Theorems.{listed, count-is}
 use Rattle.harmonics.specs.Segment.{float, intervalOf, fractionAt, stepsOf, segmentCount}
 use Rattle.harmonics.specs.Harmonics.{asItem, itemAt, harmonicsOf, madeHarmonics}
-use Rattle.harmonics.specs.Steps.{saidFrom, Reaches, looked, planned}
+use Rattle.harmonics.specs.Steps.{saidFrom, StepsReach, looked, planned}
 use Rattle.harmonics.specs.declared.segment.Divisions.{Divisions}
 use Rattle.harmonics.specs.declared.segment.Divisions.the-variants.{Into, Lacking}
 use Rattle.harmonics.specs.declared.segment.Fraction.{Fraction}
@@ -48,15 +48,15 @@ part-held (gives ratio) number step e = go (asOctaves ratio) e
     go (refuses a d) q = no-value q
     go (gives octaves) q = power-held (div binary64 octaves (float number)) step (is-true (fits binary64 (div binary64 octaves (float number))) (div-fits binary64 octaves (float number))) q
 
-pub steps-reach : (start size : ℕ) (divisions : Divisions) (steps : Steps) → stepsOf start size divisions ≡ gives steps → Reaches size (segmentCount size divisions) steps
-steps-reach start size Lacking steps e = subst (Reaches size size) (same-value Whole steps e) (omega arith)
+pub steps-reach : (start size : ℕ) (divisions : Divisions) (steps : Steps) → stepsOf start size divisions ≡ gives steps → StepsReach size (segmentCount size divisions) steps
+steps-reach start size Lacking steps e = subst (StepsReach size size) (same-value Whole steps e) (omega arith)
 steps-reach start size (Into number) steps e = go (andThen (fromFloat (intervalOf start size)) (λ ratio. dividedInto ratio (float number))) refl e
   where
-    go : (s : Said Float) → andThen (fromFloat (intervalOf start size)) (λ ratio. dividedInto ratio (float number)) ≡ s → andThen s (λ step. gives (Equal step)) ≡ gives steps → Reaches size number steps
-    go (gives step) h q = subst (Reaches size number) (same-value (Equal step) steps q) (part-held (fromFloat (intervalOf start size)) number step h)
+    go : (s : Said Float) → andThen (fromFloat (intervalOf start size)) (λ ratio. dividedInto ratio (float number)) ≡ s → andThen s (λ step. gives (Equal step)) ≡ gives steps → StepsReach size number steps
+    go (gives step) h q = subst (StepsReach size number) (same-value (Equal step) steps q) (part-held (fromFloat (intervalOf start size)) number step h)
     go (refuses a d) h q = no-value q
 
-module _ (type : SegmentType) (start size : ℕ) (some : 0 < start) (s-small : start < 2 ^ 16) (z-small : size < 2 ^ 16) (n : ℕ) (small : n < 2 ^ 16) (steps : Steps) (r : Reaches size n steps) where
+module _ (type : SegmentType) (start size : ℕ) (some : 0 < start) (s-small : start < 2 ^ 16) (z-small : size < 2 ^ 16) (n : ℕ) (small : n < 2 ^ 16) (steps : Steps) (r : StepsReach size n steps) where
   abbrev f : ℕ → Said Item
   f = itemAt type start size steps
 
@@ -164,7 +164,7 @@ module _ (t : ItemTable) (l : ListTable) (type : SegmentType) (start size : ℕ)
       unfolding madeHarmonics
       made-by e = rw (lt-ltb 0 start some, e)
 
-      at : {a d : ℕ} (steps : Steps) → Reaches size (segmentCount size divisions) steps → looked type start size (segmentCount size divisions) steps ≡ refuses a d
+      at : {a d : ℕ} (steps : Steps) → StepsReach size (segmentCount size divisions) steps → looked type start size (segmentCount size divisions) steps ≡ refuses a d
           → madeOf t l (segmentCount size divisions) (itemsFrom (itemAt type start size steps) 1 (segmentCount size divisions)) ≡ refuses a d
       unfolding looked
       at {a} {d} steps r e = go (ways start size some s-small z-small type (segmentCount size divisions) small steps r)
@@ -223,7 +223,7 @@ module _ (t : ItemTable) (l : ListTable) (type : SegmentType) (start size : ℕ)
           n : ℕ
           n = segmentCount size divisions
 
-          all : Reaches size n steps → stepsOf start size divisions ≡ gives steps → looked type start size n steps ≡ gives steps → (x ≡ countedOf made) × (t′ ≡ itemsLeft made t l) × (l′ ≡ listLeft made t l)
+          all : StepsReach size n steps → stepsOf start size divisions ≡ gives steps → looked type start size n steps ≡ gives steps → (x ≡ countedOf made) × (t′ ≡ itemsLeft made t l) × (l′ ≡ listLeft made t l)
           all r h q =
               let w = looked-given type start size some s-small z-small n small steps r q in
               let m = w .0 in

@@ -26,7 +26,7 @@ ghost use Rattle.scl_build.specs.Builder.{beside, afterOne, afterAll, counted};
 ghost use Rattle.generate.specs.Generated.{allPushed, listOf, countedOf, itemsLeft, listLeft};
 ghost use Rattle.harmonics.specs.Answers.{saysSteps};
 ghost use Rattle.harmonics.specs.Harmonics.{itemAt, madeHarmonics};
-ghost use Rattle.harmonics.specs.Steps.{afterSaid, saidFrom, Reaches, looked, planned};
+ghost use Rattle.harmonics.specs.Steps.{afterSaid, saidFrom, StepsReach, looked, planned};
 
 // The builder after a push: as it was where the push is refused.
 fn pushed(
@@ -153,7 +153,7 @@ fn write(
 
 // The steps of a segment of n items, or the 18 of its last one.
 fn look(segment_type: SegmentType, start: u16, size: u16, steps: Steps, n: u16) -> StepsAnswer
-    requires { ⌜ (0 < start) × Reaches size n steps ⌝ }
+    requires { ⌜ (0 < start) × StepsReach size n steps ⌝ }
     ensures { λ r. ⌜ saysSteps r ≡ looked «segment_type» start size n steps ⌝ }
 {
     if n == 0 {
