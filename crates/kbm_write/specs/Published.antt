@@ -14,7 +14,7 @@ use Rattle.kbm.specs.declared.Entry.{Entry}
 use Rattle.kbm.specs.declared.Entry.the-variants.{Mapped, Unmapped}
 use Rattle.kbm.specs.declared.Kbm.{Kbm}
 use Rattle.printing.specs.PrintText.{scaledOf}
-pub use Rattle.writing.specs.PublishedLines.{Comment, Kept, Blank, Ends, Stands, Whole, Number}
+pub use Rattle.writing.specs.PublishedLines.{PublishedComment, Kept, Blank, Ends, Stands, Whole, Number}
 use Rattle.kbm_write.specs.Export.{lastKeyOf, middleKeyOf}
 
 -- a frequency of n / 10^k Hz, "as 440.0"

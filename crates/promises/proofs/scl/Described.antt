@@ -103,7 +103,7 @@ cr-last (b ∷ x ∷ d) c = let (t, e) = cr-last (x ∷ d) c in (b ∷ t, ap (λ
 no-cr : (d : List ℕ) → Trimmed WhiteSpace encode d d → EndsCR d → ⊥
 no-cr d t c = let (u, e) = cr-last d c in t .ends 13 u (inl (omega arith, omega arith)) (e ∙ ap (λ (l : List ℕ). u ++ l) (sym (enc1 13 (omega arith))))
 
-no-comment : (d : List ℕ) → (Comment d → ⊥) → published.Comment d → ⊥
+no-comment : (d : List ℕ) → (Comment d → ⊥) → published.PublishedComment d → ⊥
 no-comment [] n c = c
 no-comment (b ∷ d) n c = n (d, ap (λ (x : ℕ). x ∷ d) c)
 
