@@ -14,6 +14,7 @@ use borrow.Author.Tests.{lt-ltb, le-ltb}
 use Rattle.base.specs.Numbers.{unusable, no-room, beyond-reach}
 use Rattle.base.specs.Said.{Said, gives, refuses, pick, andThen}
 use Rattle.base.proofs.Said.{no-value, no-refusal, same-value, same-refuses}
+use Rattle.floats.specs.Floats.{float}
 use Rattle.pitch.specs.Ratios.{fromFloat, asOctaves, dividedInto}
 use Rattle.sorted.specs.Lent.{ListTable}
 use Rattle.scl.specs.Items.{isUsable}
@@ -27,7 +28,7 @@ use Rattle.generate.specs.Generated.{allPushed, listOf, madeOf, itemsFrom, coun
 use Rattle.generate.proofs.Items.{Fine, All, all-items, none-of, last-of}
 use Rattle.generate.proofs.Made.{made-no-room, made-refused, made-beyond, made-given, all-refused, all-given}
 use Rattle.generate.proofs.Theorems.{listed, count-is}
-use Rattle.harmonics.specs.Segment.{float, intervalOf, fractionAt, stepsOf, segmentCount}
+use Rattle.harmonics.specs.Segment.{intervalOf, fractionAt, stepsOf, segmentCount}
 use Rattle.harmonics.specs.Harmonics.{asItem, itemAt, harmonicsOf, madeHarmonics}
 use Rattle.harmonics.specs.Steps.{saidFrom, StepsReach, looked, planned}
 use Rattle.harmonics.specs.declared.segment.Divisions.{Divisions}

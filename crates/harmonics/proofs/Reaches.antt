@@ -14,6 +14,7 @@ use borrow.Author.Tests.{lt-ltb}
 use Rattle.base.specs.Numbers.{beyond-reach}
 use Rattle.base.specs.Said.{Said, gives, refuses, andThen}
 use Rattle.base.proofs.Said.{same-value, no-value}
+use Rattle.floats.specs.Floats.{float}
 use Rattle.floats.specs.Ranges.{inReach}
 use Rattle.floats.proofs.Ranges.{Within, within-fin, reach-says}
 use Rattle.floats.proofs.Between.{round-within, over-within, within-reach, within-more}
@@ -24,7 +25,7 @@ use Rattle.pitch.specs.Ratios.{fromOctaves, repeated}
 use Rattle.scl.proofs.Items.{Ratio, octaves-ratio, powers-ratio}
 use Rattle.scl_tables.proofs.Reaches.{log-gives, octaves-sized}
 use Rattle.generate.proofs.Items.{Fine}
-use Rattle.harmonics.specs.Segment.{float, nearAt, wholeAt, harmonicOf}
+use Rattle.harmonics.specs.Segment.{nearAt, wholeAt, harmonicOf}
 use Rattle.harmonics.specs.Harmonics.{asItem, itemAt}
 use Rattle.harmonics.specs.Steps.{StepsReach}
 use Rattle.harmonics.specs.declared.segment.SegmentType.{SegmentType}

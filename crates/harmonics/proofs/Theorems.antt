@@ -17,6 +17,7 @@ use borrow.Author.Tests.{ltb-true, lt-ltb}
 use Rattle.base.specs.Numbers.{unusable, no-room, beyond-reach}
 use Rattle.base.specs.Said.{Said, gives, refuses, pick, andThen}
 use Rattle.base.proofs.Said.{One, one-result, no-value, same-value}
+use Rattle.floats.specs.Floats.{float}
 use Rattle.floats.specs.Ranges.{inReach}
 use Rattle.explog.specs.Rules.{E, logOf}
 use Rattle.scl_tables.proofs.Reaches.{log-gives}
@@ -33,7 +34,7 @@ use Rattle.generate.specs.Generated.{listOf, madeOf, itemsFrom, countedOf, item
 use Rattle.generate.proofs.Items.{All, all-items, none-of}
 use Rattle.generate.proofs.Made.{made-refused}
 use Rattle.generate.proofs.Theorems.{made-leaves}
-use Rattle.harmonics.specs.Segment.{float, intervalOf, stepsOf, segmentCount}
+use Rattle.harmonics.specs.Segment.{intervalOf, stepsOf, segmentCount}
 use Rattle.harmonics.specs.Harmonics.{itemAt, harmonicsOf, madeHarmonics}
 use Rattle.harmonics.specs.Steps.{StepsReach}
 use Rattle.harmonics.specs.declared.segment.Divisions.the-variants.{Into}

@@ -17,7 +17,7 @@ use lib.Ieee.Fits.{down-pos}
 use lib.Ieee.Scale.{round-same}
 use Rattle.base.specs.Numbers.{beyond-reach}
 use Rattle.base.specs.Said.{Said, gives, refuses, pick, andThen}
-use Rattle.floats.specs.Floats.{floor, oneF}
+use Rattle.floats.specs.Floats.{float, floor, oneF}
 use Rattle.floats.proofs.Sign.{round-neg}
 use Rattle.explog.specs.Exp.{tOf, pOf}
 use Rattle.explog.specs.Log.{bOf, yOf}
@@ -31,7 +31,7 @@ use Rattle.scl.specs.Table.{ItemTable, implicit}
 use Rattle.scl.specs.declared.Item.{Item}
 use Rattle.scl_tables.specs.Build.{lastOf}
 use Rattle.scl_tables.specs.Room.{roomOf}
-use Rattle.harmonics.specs.Segment.{float, harmonicOf, fraction, nearAt, intervalOf}
+use Rattle.harmonics.specs.Segment.{harmonicOf, fraction, nearAt, intervalOf}
 use Rattle.harmonics.specs.declared.segment.Divisions.the-variants.{Into}
 use Rattle.harmonics.specs.declared.segment.Fraction.{Fraction}
 use Rattle.harmonics.specs.declared.segment.SegmentType.{SegmentType}

@@ -10,11 +10,12 @@ use Rattle.explog.specs.Exp.{tOf, pOf}
 use Rattle.explog.specs.Log.{bOf, yOf}
 use Rattle.explog.specs.Root.{root, rootFrom}
 use Rattle.explog.specs.Rules.{E, L, floorOf, timesPower, powerOf, logOf, logAt, octavesOf}
+use Rattle.pitch.specs.Ratios.{twoF}
 use Rattle.scl_tables.specs.Build.{sortedOf}
 use Rattle.relative.specs.Relative.{periodsOf, placeOf, relativePitchOf}
 use Rattle.searching.specs.Search.{chosenOf, nearestOf, searchOf}
 use Rattle.searching.specs.Degrees.{declaredOf, ascendingOf}
-use Rattle.promises.specs.tuning.Samples.{only, onlyList, twoF, threeF, threeAnswer, seventeenth, eighteenth, partedAnswer, repeated, repeatedList, repeatedAnswer, three, belowPitch}
+use Rattle.promises.specs.tuning.Samples.{only, onlyList, threeF, threeAnswer, seventeenth, eighteenth, partedAnswer, repeated, repeatedList, repeatedAnswer, three, belowPitch}
 
 -- the lists are those of the scales
 pub two-sorted : sortedOf (only 2) ≡ gives (onlyList twoF)
