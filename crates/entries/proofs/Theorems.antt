@@ -9,8 +9,8 @@ use lib.ListN.{length, take, drop, length-append, length-drop, length-map}
 use lib.Seq.{length-take-le, take-at, drop-at}
 use borrow.Author.Tests.{leb-true, leb-false}
 use Rattle.base.specs.Numbers.{unusable}
-use Rattle.base.specs.Said.{Said, gives, refuses}
-use Rattle.base.proofs.Said.{One, one-result, one-plain, no-value}
+use Rattle.base.specs.Said.{Said, gives, refuses, One}
+use Rattle.base.proofs.Said.{one-result, one-plain, no-value}
 use Rattle.sorting.specs.Entries.{Entry}
 use Rattle.sorting.proofs.Columns.{length-zip}
 use Rattle.sorted.specs.Lent.{ListTable, listIn}

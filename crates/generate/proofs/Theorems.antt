@@ -7,8 +7,8 @@ use Prim.Native.Nat.{ℕ, _+_, _-_, _≤_, _<_}
 use native.Mathlib.Omega.{arith}
 use lib.ListN.{length}
 use Rattle.base.specs.Numbers.{beyond-reach}
-use Rattle.base.specs.Said.{Said, gives, refuses, pick}
-use Rattle.base.proofs.Said.{One, one-result, no-value, no-refusal, same-value}
+use Rattle.base.specs.Said.{Said, gives, refuses, pick, One}
+use Rattle.base.proofs.Said.{one-result, no-value, no-refusal, same-value}
 use Rattle.floats.specs.Floats.{oneF}
 use Rattle.sorting.specs.Entries.{Entry}
 use Rattle.sorted.specs.Lent.{ListTable, isList}

@@ -15,8 +15,8 @@ use lib.Ieee.Scale.{round-same}
 use lib.ListN.{length}
 use borrow.Author.Tests.{ltb-true, lt-ltb}
 use Rattle.base.specs.Numbers.{unusable, no-room, beyond-reach}
-use Rattle.base.specs.Said.{Said, gives, refuses, pick, andThen}
-use Rattle.base.proofs.Said.{One, one-result, no-value, same-value}
+use Rattle.base.specs.Said.{Said, gives, refuses, pick, andThen, One}
+use Rattle.base.proofs.Said.{one-result, no-value, same-value}
 use Rattle.floats.specs.Floats.{float}
 use Rattle.floats.specs.Ranges.{inReach}
 use Rattle.explog.specs.Rules.{E, logOf}

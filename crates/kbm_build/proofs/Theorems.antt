@@ -9,8 +9,8 @@ use lib.Dec.{leb, ltb}
 use lib.IntN.{ℤ, pos}
 use borrow.Author.Tests.{leb-true, ltb-false}
 use Rattle.base.specs.Numbers.{unusable}
-use Rattle.base.specs.Said.{Said, gives, refuses, pick}
-use Rattle.base.proofs.Said.{One, Split, one-result, one-plain}
+use Rattle.base.specs.Said.{Said, gives, refuses, pick, One}
+use Rattle.base.proofs.Said.{Split, one-result, one-plain}
 use Rattle.key.specs.declared.PianoKey.{PianoKey}
 use Rattle.kbm.specs.Answers.{saysKbm}
 use Rattle.kbm.specs.Root.{isRoot}

@@ -10,8 +10,8 @@ use lib.Ieee.{Float, binary64, fits}
 use lib.ListN.{length}
 use borrow.Author.Tests.{le-leb, leb-true, leb-false, ltb-true, ltb-false}
 use Rattle.base.specs.Numbers.{unusable, no-room, too-large, beyond-reach}
-use Rattle.base.specs.Said.{Said, gives, refuses, andThen}
-use Rattle.base.proofs.Said.{One, one-result, no-value, no-refusal, same-value, same-refuses}
+use Rattle.base.specs.Said.{Said, gives, refuses, andThen, One}
+use Rattle.base.proofs.Said.{one-result, no-value, no-refusal, same-value, same-refuses}
 use Rattle.pitch.specs.Ratios.{asCents}
 use Rattle.sorted.specs.Lent.{ListTable}
 use Rattle.scl.specs.Answers.{saysScl}
