@@ -10,6 +10,11 @@ pub data Said (A : Type 0) : Type 0 where
   gives : A → Said A
   refuses : ℕ → ℕ → Said A
 
+-- number 0: a value is said, and no refusal
+pub record Accepted {A : Type 0} (s : Said A) : Type 0 where
+  pub value : A
+  pub is : s ≡ gives value
+
 -- what can be said: a refusal has one of 01's numbers, 1 to 18
 pub data Numbered {A : Type 0} : Said A → Type 0 where
   value : (a : A) → Numbered (gives a)

@@ -41,7 +41,7 @@ inPowers = within (neg nineHundred) nineHundred
 unfoldable pub E : Float → Said Float
 E x = pick (inPowers x) (gives (powerOf (floorOf x))) (refuses beyond-reach 0)
 
--- the f64 nearest z / 2 ^ 52, ties to even; "zero is +0.0"
+-- z / 2 ^ 52 octaves: the f64 nearest, ties to even; "zero is +0.0"
 unfoldable pub octavesOf : ℤ → Float
 octavesOf (pos n) = round binary64 false n (2 ^ 52)
 octavesOf (negsuc n) = round binary64 true (suc n) (2 ^ 52)

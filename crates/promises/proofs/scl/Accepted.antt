@@ -15,9 +15,9 @@ use Rattle.scl.specs.Table.{ItemTable, noItem, implicit, itemsIn, isItems}
 use Rattle.scl.specs.declared.Item.{Item}
 use Rattle.scl.specs.declared.Item.the-variants.{Cents, Fraction}
 use Rattle.scl_read.specs.Language.{ContentLine, required, scale, Values, ScaleText}
-use Rattle.scl_read.specs.Reader.{scaleRead, readOf, afterItems, afterSorted}
+use Rattle.scl_read.specs.Reader.{scaleRead, readOf, afterItems, afterSorted, ReaderFinds}
 use Rattle.scl_read.proofs.Ends.{lines-usable, lines-held, lines-sorted}
-use Rattle.scl_read.proofs.Language.{Reading, accepts}
+use Rattle.scl_read.proofs.Language.{accepts}
 use Rattle.scl_read.proofs.Leaves.{leaves-items, leaves-list}
 use Rattle.scl_tables.specs.Build.{countOf, lastOf, scaleOf, isBeyond, afterList}
 use Rattle.scl_tables.specs.Room.{roomOf}
@@ -178,7 +178,7 @@ module _ {s : List ℕ} {m : P.Scale} (p : P.PublishedText s m) (w : WithinLimit
 
   -- it is read where the tables have a place for each note and place 0, and leaves tables that later calls take
   pub published-read : (u : ItemTable) (l : ListTable) → length (m .pitches) < roomOf u l →
-      (d : List ℕ) × (is : List Item) × (list : List Entry) × (readOf (roomOf u l) s ≡ gives (scaleRead (length is) s)) × Reading s d is list × Agree m d is
+      (d : List ℕ) × (is : List Item) × (list : List Entry) × (readOf (roomOf u l) s ≡ gives (scaleRead (length is) s)) × ReaderFinds s d is list × Agree m d is
       × (isItems (length is) (afterItems s u l) ≡ true) × (itemsIn (length is) (afterItems s u l) ≡ implicit ∷ is) × (isList (length is) (afterSorted s u l) ≡ true) × (afterSorted s u l ≡ afterList (gives list) l)
   published-read u l h =
       let (d, is, list, t, a) = published-accepted in

@@ -20,8 +20,8 @@ use Rattle.scl.specs.declared.Scl.{Scl}
 use Rattle.scl.proofs.Typed.{typed-held, held-after}
 use Rattle.scl.proofs.Table.{items-are}
 use Rattle.scl_read.specs.Language.{ContentLine, required, scale, ScaleText}
-use Rattle.scl_read.specs.Reader.{scaleRead, readOf, afterItems, afterSorted}
-use Rattle.scl_read.proofs.Language.{Reading, accepts}
+use Rattle.scl_read.specs.Reader.{scaleRead, readOf, afterItems, afterSorted, ReaderFinds}
+use Rattle.scl_read.proofs.Language.{accepts}
 use Rattle.scl_read.proofs.Leaves.{leaves-items, leaves-list}
 use Rattle.scl_tables.specs.Build.{scaleOf, afterList}
 use Rattle.scl_tables.specs.Room.{roomOf}
@@ -99,7 +99,7 @@ module _ (scl : Scl) (table : ItemTable) (d : List ℕ) (room : ℕ) {t : List �
       rw (a .1 .0) (round-trip d items list (a .0 .description-is) (held-after (itemsIn (scl .count) table) (typed-held table typed (scl .count))) (listed-usable (scl .count) table h) (omega (arith, counted, l)) o)
 
   -- the read accepts them as that scale exactly when it comes back
-  pub read-back : (places : ℕ) → scl .count < places → ((readOf places t ≡ gives (scaleRead (scl .count) t)) × Reading t d items list) ↔ ComesBack d items
+  pub read-back : (places : ℕ) → scl .count < places → ((readOf places t ≡ gives (scaleRead (scl .count) t)) × ReaderFinds t d items list) ↔ ComesBack d items
   read-back places r =
       let a = accepts places t d items list in
       let q = ap (λ k. gives (scaleRead k t)) counted in (
