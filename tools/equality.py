@@ -12,7 +12,7 @@ import re
 TABLES = {"ItemTable": "itemTable", "ListTable": "listTable"}  # records of columns, and what makes them: equal where their columns are
 VALUES = {"ℕ", "ℤ", "Float", "Bool", "Entry", *TABLES}  # and each struct and enum of the sources; lists, answers and functions of these
 ONE = "abbrev pub One : {A B : Type 0} → (A → B) → B → Type 0\nOne {A} {B} says s = (x y : A) → says x ≡ s → says y ≡ s → x ≡ y\n"
-IMPORTED = re.compile(r"^use Rattle\.base\.proofs\.Said\.\{(?:[^}]*, )?One[,}]", re.M)
+IMPORTED = re.compile(r"^use Rattle\.base\.specs\.Said\.\{(?:[^}]*, )?One[,}]", re.M)
 
 
 # ---- terms: a word, or a tuple of terms

@@ -4,14 +4,10 @@ use mathlib.Core.Logic.{_⊎_, inl, inr}
 use mathlib.Core.Bool.{Bool, true, false}
 use Prim.Native.Nat.{ℕ, _≤_}
 use native.Mathlib.Omega.{arith}
-use Rattle.base.specs.Said.{Said, gives, refuses, refusal, Numbered, pick, andThen}
+use Rattle.base.specs.Said.{Said, gives, refuses, refusal, Numbered, pick, andThen, One}
 use Rattle.base.specs.declared.Refusal.{Refusal}
 
--- a contract `says r ≡ s` leaves one result
-abbrev pub One : {A B : Type 0} → (A → B) → B → Type 0
-One {A} {B} says s = (x y : A) → says x ≡ s → says y ≡ s → x ≡ y
-
--- a contract `r ≡ s` does
+-- a contract `r ≡ s` leaves one result
 pub one-result : {A : Type 0} (s : A) → One (λ r. r) s
 one-result s x y p q = p ∙ sym q
 

@@ -1,5 +1,6 @@
 -- What a call answers, in document 01's words: a value, or the number and the detail of a refusal. Every answer enum of
 -- the library has a definition that turns it into this, and the contracts speak of what is said. Assumes nothing.
+use mathlib.Core.Path.{_≡_}
 use Prim.Native.Nat.{ℕ, _≤_}
 use mathlib.Core.Bool.{Bool, true, false}
 use Rattle.base.specs.declared.Refusal.{Refusal}
@@ -8,6 +9,11 @@ use Rattle.base.specs.declared.Refusal.{Refusal}
 pub data Said (A : Type 0) : Type 0 where
   gives : A → Said A
   refuses : ℕ → ℕ → Said A
+
+-- number 0: a value is said, and no refusal
+pub record Accepted {A : Type 0} (s : Said A) : Type 0 where
+  pub value : A
+  pub is : s ≡ gives value
 
 -- what can be said: a refusal has one of 01's numbers, 1 to 18
 pub data Numbered {A : Type 0} : Said A → Type 0 where
@@ -27,3 +33,7 @@ pick false a b = b
 abbrev pub andThen : {A B : Type 0} → Said A → (A → Said B) → Said B
 andThen (gives a) f = f a
 andThen (refuses n d) f = refuses n d
+
+-- "leaves one possible result": two results of which a contract `says r ≡ s` holds are equal
+abbrev pub One : {A B : Type 0} → (A → B) → B → Type 0
+One {A} {B} says s = (x y : A) → says x ≡ s → says y ≡ s → x ≡ y

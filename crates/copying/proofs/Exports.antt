@@ -23,7 +23,7 @@ use Rattle.integers.proofs.AtLine.{typed-int}
 use Rattle.kbm_read.proofs.Ends.{small-size}
 use Rattle.kbm_read.proofs.Language.{accepted}
 use Rattle.kbm_read.proofs.Tables.{leaves-table}
-use Rattle.kbm_write.specs.Export.{lastOf, middleOf, exportText, exportOf}
+use Rattle.kbm_write.specs.Export.{lastKeyOf, middleKeyOf, exportText, exportOf}
 use Rattle.kbm_write.proofs.Bound.{never-no-room}
 use Rattle.writing.proofs.Room.{Fitting}
 use Rattle.kbm_write.proofs.Room.{export-fitting}
@@ -72,8 +72,8 @@ all-known (f ∷ fs) (t ∷ ts) vs g = (known f t (vs .0) (g .0), all-known fs t
 record Read (k : Kbm) : Type 0 where
   types : OfTypes k
   pitch : inPitch (k .root .pitch .0) ≡ true
-  last : inI32 (lastOf k) ≡ true
-  middle : inI32 (middleOf k) ≡ true
+  last : inI32 (lastKeyOf k) ≡ true
+  middle : inI32 (middleKeyOf k) ≡ true
 
 by-values : (vs : Values required) → AllKnown required vs → sizeOf vs < 65536 → Read (mappingFrom vs)
 by-values (n, (lowest, (highest, (mid, (ref, (hz, (formal, o))))))) (_, (first, (last, (middle, (reference, (pitch, (octave, _))))))) small =

@@ -4,7 +4,8 @@ use mathlib.Core.List.{List}
 use Prim.Native.Nat.{ℕ}
 use lib.ListN.{length, take}
 use Rattle.base.specs.Tables.{over}
-use Rattle.base.proofs.Said.{One, one-result}
+use Rattle.base.specs.Said.{One}
+use Rattle.base.proofs.Said.{one-result}
 use Rattle.copying.specs.Copy.{printed}
 
 module _ (input : List ℕ) (n : ℕ) (out : List ℕ) where

@@ -3,7 +3,7 @@
 use mathlib.Core.Path.{_≡_, refl}
 use mathlib.Core.List.{[], _∷_}
 use lib.Ieee.{ofBits, round, binary64}
-use Rattle.numerals.specs.Scan.{runOf, spelled, scanOf}
+use Rattle.numerals.specs.Scan.{digitRunOf, spelled, scanOf}
 use Rattle.decimals.specs.DecimalScan.{readDecimal}
 use Rattle.decimals.specs.declared.DecimalAnswer.the-variants.{Is, Unsupported, Bad}
 
@@ -27,7 +27,7 @@ pub record UnsupportedSamples : Type 0 where
   pub u8 : readDecimal (45 ∷ 49 ∷ 46 ∷ 53 ∷ 69 ∷ 45 ∷ 51 ∷ []) ≡ Unsupported
 
 pub unsupported-samples : UnsupportedSamples
-unfolding runOf spelled scanOf readDecimal
+unfolding digitRunOf spelled scanOf readDecimal
 unsupported-samples = record { u1 = refl; u2 = refl; u3 = refl; u4 = refl; u5 = refl; u6 = refl; u7 = refl; u8 = refl }
 
 -- texts that are no numerals
@@ -62,7 +62,7 @@ pub record BadSamples : Type 0 where
   pub b14 : readDecimal (32 ∷ 49 ∷ []) ≡ Bad
 
 pub bad-samples : BadSamples
-unfolding runOf spelled scanOf readDecimal
+unfolding digitRunOf spelled scanOf readDecimal
 bad-samples = record { b1 = refl; b2 = refl; b3 = refl; b4 = refl; b5 = refl; b6 = refl; b7 = refl; b8 = refl; b9 = refl; b10 = refl; b11 = refl; b12 = refl; b13 = refl; b14 = refl }
 
 -- numerals with their nearest f64
@@ -85,5 +85,5 @@ pub record ValueSamples : Type 0 where
   pub v8 : readDecimal (57 ∷ 57 ∷ 57 ∷ 57 ∷ 57 ∷ 57 ∷ 57 ∷ 57 ∷ 57 ∷ 57 ∷ 57 ∷ 57 ∷ 57 ∷ 57 ∷ 57 ∷ 57 ∷ 57 ∷ 57 ∷ 46 ∷ []) ≡ Is (ofBits binary64 0x43abc16d674ec800)
 
 pub value-samples : ValueSamples
-unfolding runOf spelled scanOf readDecimal round ofBits
+unfolding digitRunOf spelled scanOf readDecimal round ofBits
 value-samples = record { v1 = refl; v2 = refl; v3 = refl; v4 = refl; v5 = refl; v6 = refl; v7 = refl; v8 = refl }

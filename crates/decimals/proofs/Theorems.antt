@@ -3,7 +3,8 @@ use mathlib.Core.Path.{_≡_, refl}
 use mathlib.Core.List.{List}
 use Prim.Native.Nat.{ℕ}
 use native.Mathlib.Omega.{arith}
-use Rattle.base.proofs.Said.{One, one-result}
+use Rattle.base.specs.Said.{One}
+use Rattle.base.proofs.Said.{one-result}
 use Rattle.decimals.specs.DecimalScan.{readDecimal}
 use Rattle.decimals.specs.Answers.{saysDecimal}
 use Rattle.decimals.specs.declared.DecimalAnswer.{DecimalAnswer}

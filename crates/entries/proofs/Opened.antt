@@ -9,14 +9,14 @@ use borrow.Author.Tests.{eq-eqb, ne-eqb}
 use Rattle.base.specs.Numbers.{unusable, beyond-reach}
 use Rattle.base.specs.Said.{Said, gives, refuses, pick, andThen}
 use Rattle.floats.specs.Ranges.{inSearch}
-use Rattle.sorted.specs.Lent.{goesOn}
+use Rattle.sorted.specs.Lent.{mayFollow}
 use Rattle.scl.specs.Table.{ItemTable, itemsIn, isItems}
 use Rattle.relative.specs.Scales.{tested}
 use Rattle.searching.specs.Search.{chosenOf, indexOf, foundAt}
 use Rattle.searching.specs.declared.Choice.{Choice}
 use Rattle.searching.specs.declared.Found.{Found}
 use Rattle.searching.specs.Degrees.{declaredOf, ascendingOf}
-use Rattle.entries.specs.Entries.{entryIn}
+use Rattle.entries.specs.Entries.{asEntry}
 use Rattle.entries.specs.declared.SortedEntry.{SortedEntry}
 use Rattle.entries.specs.Columns.{degreeBy}
 use Rattle.entries.specs.Scans.{Aims, begunOf, Starts, goesUp, scanStep, chosenBy, nearestBy, foundBy, answerOf}
@@ -33,20 +33,20 @@ module _ (s : Scan) (e : SortedEntry) (i : ℕ) where
   abbrev pub stepBy : Bool → Bool → Scan
   stepBy n b = record { usable = s .usable && n; count = s .count; aim = s .aim; last = e .ratio; at = pick b i (s .at); lower = pick b (s .upper) (s .lower); upper = pick b e (s .upper) }
 
-  pub step-is : {n : Bool} (b : Bool) → n ≡ (goesOn (s .last) (e .ratio) && leb (e .place) (s .count)) → goesUp (s .upper .ratio) (s .aim .target) i ≡ b → stepBy n b ≡ scanStep s e i
-  step-is b h g = ap (λ (m : Bool). stepBy m b) h ∙ ap (stepBy (goesOn (s .last) (e .ratio) && leb (e .place) (s .count))) (sym g)
+  pub step-is : {n : Bool} (b : Bool) → n ≡ (mayFollow (s .last) (e .ratio) && leb (e .place) (s .count)) → goesUp (s .upper .ratio) (s .aim .target) i ≡ b → stepBy n b ≡ scanStep s e i
+  step-is b h g = ap (λ (m : Bool). stepBy m b) h ∙ ap (stepBy (mayFollow (s .last) (e .ratio) && leb (e .place) (s .count))) (sym g)
 
 module _ (s : Scan) where
   -- ---- of the neighbours
   abbrev at-choice : Bool → Choice → Said Found
-  at-choice b c = gives (foundAt (entryIn (pick b (s .upper) (s .lower))) (indexOf (s .at) b) (s .aim .periods) (c .deviation))
+  at-choice b c = gives (foundAt (asEntry (pick b (s .upper) (s .lower))) (indexOf (s .at) b) (s .aim .periods) (c .deviation))
 
   module _ (c : Choice) (h : gives c ≡ chosenOf (s .lower .ratio) (s .upper .ratio) (s .aim .target)) where
-    pub near-upper : c .upper ≡ true → gives (foundAt (entryIn (s .upper)) (s .at) (s .aim .periods) (c .deviation)) ≡ nearestBy s
+    pub near-upper : c .upper ≡ true → gives (foundAt (asEntry (s .upper)) (s .at) (s .aim .periods) (c .deviation)) ≡ nearestBy s
     unfolding nearestBy
     near-upper u = ap (λ (b : Bool). at-choice b c) (sym u) ∙ ap (λ (t : Said Choice). andThen t (chosenBy s)) h
 
-    pub near-lower : c .upper ≡ false → gives (foundAt (entryIn (s .lower)) (s .at - 1) (s .aim .periods) (c .deviation)) ≡ nearestBy s
+    pub near-lower : c .upper ≡ false → gives (foundAt (asEntry (s .lower)) (s .at - 1) (s .aim .periods) (c .deviation)) ≡ nearestBy s
     unfolding nearestBy
     near-lower u = ap (λ (b : Bool). at-choice b c) (sym u) ∙ ap (λ (t : Said Choice). andThen t (chosenBy s)) h
 
@@ -56,7 +56,7 @@ module _ (s : Scan) where
 
   -- ---- of the list
   abbrev first : Said Found
-  first = gives (foundAt (entryIn (s .upper)) 0 (pos 0) (s .aim .target))
+  first = gives (foundAt (asEntry (s .upper)) 0 (pos 0) (s .aim .target))
 
   abbrev by-tests : Bool → Bool → Said Found
   by-tests a b = pick a first (pick b (refuses beyond-reach 0) (nearestBy s))

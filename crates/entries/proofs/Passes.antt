@@ -11,9 +11,9 @@ use lib.Ieee.{Float, lt}
 use borrow.Author.Tests.{le-ltb, ltb-true, ltb-false, ne-eqb}
 use Rattle.base.specs.Said.{pick}
 use Rattle.sorting.proofs.Order.{clash}
-use Rattle.sorted.specs.Lent.{placesOf, ratiosOf, goesOn, usableAfter, areWithin, firstNotBelow}
+use Rattle.sorted.specs.Lent.{placesOf, ratiosOf, mayFollow, usableAfter, areWithin, firstNotBelow}
 use Rattle.searching.specs.Search.{clamped, upperOf}
-use Rattle.entries.specs.Entries.{entryIn, entriesIn, noEntry}
+use Rattle.entries.specs.Entries.{asEntry, asEntries, noEntry}
 use Rattle.entries.specs.declared.SortedEntry.{SortedEntry}
 use Rattle.entries.specs.Scans.{goesUp, scanStep, scanned}
 use Rattle.entries.specs.declared.search.Aim.{Aim}
@@ -57,19 +57,19 @@ sorts-out true false w r p = refl
 sorts-out true true true r p = refl
 sorts-out true true false r p = and-false r
 
-pub run-usable : (l : List SortedEntry) (s : Scan) (i : ℕ) → run s l i .usable ≡ (s .usable && (usableAfter (s .last) (ratiosOf (entriesIn l)) && areWithin (s .count) (placesOf (entriesIn l))))
+pub run-usable : (l : List SortedEntry) (s : Scan) (i : ℕ) → run s l i .usable ≡ (s .usable && (usableAfter (s .last) (ratiosOf (asEntries l)) && areWithin (s .count) (placesOf (asEntries l))))
 unfolding usableAfter areWithin
 run-usable [] s i = sym (and-true (s .usable))
 run-usable (e ∷ l) s i =
     run-usable l (scanStep s e i) (suc i)
-    ∙ sorts-out (s .usable) (goesOn (s .last) (e .ratio)) (leb (e .place) (s .count)) (usableAfter (e .ratio) (ratiosOf (entriesIn l))) (areWithin (s .count) (placesOf (entriesIn l)))
+    ∙ sorts-out (s .usable) (mayFollow (s .last) (e .ratio)) (leb (e .place) (s .count)) (usableAfter (e .ratio) (ratiosOf (asEntries l))) (areWithin (s .count) (placesOf (asEntries l)))
 
 -- ---- the neighbours: from the place i on the upper one goes up by j places
 abbrev UpBy : Scan → List SortedEntry → Scan → ℕ → Type 0
 UpBy s l f j = (f .at ≡ s .at + j) × (f .upper ≡ getD (s .upper ∷ l) j noEntry) × (f .lower ≡ getD (s .lower ∷ s .upper ∷ l) j noEntry)
 
 abbrev up : Scan → List SortedEntry → ℕ
-up s l = min (firstNotBelow (s .upper .ratio ∷ ratiosOf (entriesIn l)) (s .aim .target)) (length l)
+up s l = min (firstNotBelow (s .upper .ratio ∷ ratiosOf (asEntries l)) (s .aim .target)) (length l)
 
 min-none : (n : ℕ) → min n 0 ≡ 0
 min-none n = omega arith
@@ -85,7 +85,7 @@ climb [] s i h k = subst (UpBy s [] s) (sym (min-none (firstNotBelow (s .upper .
 climb (e ∷ l) s i h k = by (λ m n p w. climb l m n p w) (lt (s .upper .ratio) (s .aim .target)) refl
   where
     t : Bool
-    t = goesOn (s .last) (e .ratio) && leb (e .place) (s .count)
+    t = mayFollow (s .last) (e .ratio) && leb (e .place) (s .count)
 
     up-is : (b : Bool) → lt (s .upper .ratio) (s .aim .target) ≡ b → (m : List Float) (n : ℕ) → min (firstNotBelow (s .upper .ratio ∷ m) (s .aim .target)) n ≡ min (pick b (suc (firstNotBelow m (s .aim .target))) 0) n
     up-is b q m n = ap (λ (c : Bool). min (pick c (suc (firstNotBelow m (s .aim .target))) 0) n) q
@@ -98,7 +98,7 @@ climb (e ∷ l) s i h k = by (λ m n p w. climb l m n p w) (lt (s .upper .ratio)
     by rest true q =
         let m = stepBy s e i t true in
         let c = rest m (suc i) (omega (arith, h)) (λ _. omega arith) in
-        let z = up-is true q (e .ratio ∷ ratiosOf (entriesIn l)) (suc (length l)) ∙ min-suc (firstNotBelow (e .ratio ∷ ratiosOf (entriesIn l)) (s .aim .target)) (length l) in
+        let z = up-is true q (e .ratio ∷ ratiosOf (asEntries l)) (suc (length l)) ∙ min-suc (firstNotBelow (e .ratio ∷ ratiosOf (asEntries l)) (s .aim .target)) (length l) in
         let a = c .0 in
         let v = k q in
         subst (λ (f : Scan). UpBy s (e ∷ l) (run f l (suc i)) (up s (e ∷ l))) (step-is s e i true refl (goes true q))
@@ -106,8 +106,8 @@ climb (e ∷ l) s i h k = by (λ m n p w. climb l m n p w) (lt (s .upper .ratio)
     by rest false q =
         let m = stepBy s e i t false in
         let c = rest m (suc i) (omega (arith, h)) (λ r. clash r q) in
-        let y = up-is false q (ratiosOf (entriesIn l)) (length l) ∙ none-min (length l) in
-        let z = up-is false q (e .ratio ∷ ratiosOf (entriesIn l)) (suc (length l)) ∙ none-min (suc (length l)) in
+        let y = up-is false q (ratiosOf (asEntries l)) (length l) ∙ none-min (length l) in
+        let z = up-is false q (e .ratio ∷ ratiosOf (asEntries l)) (suc (length l)) ∙ none-min (suc (length l)) in
         subst (λ (f : Scan). UpBy s (e ∷ l) (run f l (suc i)) (up s (e ∷ l))) (step-is s e i false refl (goes false q))
         (subst (UpBy s (e ∷ l) (run m l (suc i))) (sym z) (subst (UpBy m l (run m l (suc i))) y c))
 
@@ -121,7 +121,7 @@ clamp-some last n h = ap (λ (b : Bool). pick b 1 (pick (ltb last n) last n)) (n
 
 -- where the pass ends in a list: at the first entry not below the target, but not at the first of all and not behind the last
 abbrev pub Ends : List SortedEntry → Scan → Type 0
-Ends es f = (f .at ≡ upperOf (entriesIn es) (f .aim .target)) × (f .upper ≡ getD es (f .at) noEntry) × (f .lower ≡ getD es (f .at - 1) noEntry)
+Ends es f = (f .at ≡ upperOf (asEntries es) (f .aim .target)) × (f .upper ≡ getD es (f .at) noEntry) × (f .lower ≡ getD es (f .at - 1) noEntry)
 
 pub run-ends : (s : Scan) (a b : SortedEntry) (l : List SortedEntry) → (lt (a .ratio) (s .aim .target) ≡ false → lt (b .ratio) (s .aim .target) ≡ false) → Ends (a ∷ b ∷ l) (run s (a ∷ b ∷ l) 0)
 run-ends s a b l falls =
@@ -129,7 +129,7 @@ run-ends s a b l falls =
     let e : run s (a ∷ b ∷ l) 0 .at ≡ suc j = let p = c .0 in omega (arith, p) in
     let f = run s (a ∷ b ∷ l) 0 in
     let d : f .at - 1 ≡ j = omega (arith, e) in (
-      e ∙ sym (place (lt (a .ratio) target) refl) ∙ ap (λ (x : Float). upperOf (entriesIn (a ∷ b ∷ l)) x) (sym (ap (λ (m : Aim). m .target) (run-aim (a ∷ b ∷ l) s 0))),
+      e ∙ sym (place (lt (a .ratio) target) refl) ∙ ap (λ (x : Float). upperOf (asEntries (a ∷ b ∷ l)) x) (sym (ap (λ (m : Aim). m .target) (run-aim (a ∷ b ∷ l) s 0))),
       c .1 ∙ ap (λ (n : ℕ). getD (a ∷ b ∷ l) n noEntry) (sym e),
       c .2 ∙ ap (λ (n : ℕ). getD (a ∷ b ∷ l) n noEntry) (sym d),
     )
@@ -138,7 +138,7 @@ run-ends s a b l falls =
     target = s .aim .target
 
     rs : List Float
-    rs = ratiosOf (entriesIn l)
+    rs = ratiosOf (asEntries l)
 
     first : ℕ
     first = firstNotBelow (b .ratio ∷ rs) target
@@ -146,13 +146,13 @@ run-ends s a b l falls =
     j : ℕ
     j = min first (length l)
 
-    size : length (entriesIn l) ≡ length l
-    size = length-map l entryIn
+    size : length (asEntries l) ≡ length l
+    size = length-map l asEntry
 
-    place : (x : Bool) → lt (a .ratio) target ≡ x → upperOf (entriesIn (a ∷ b ∷ l)) target ≡ suc j
+    place : (x : Bool) → lt (a .ratio) target ≡ x → upperOf (asEntries (a ∷ b ∷ l)) target ≡ suc j
     place true q =
-        ap (λ (x : Bool). clamped (length (entriesIn (a ∷ b ∷ l)) - 1) (pick x (suc first) 0)) q
-        ∙ clamp-some (length (entriesIn (a ∷ b ∷ l)) - 1) (suc first) (omega arith) ∙ omega (arith, size)
+        ap (λ (x : Bool). clamped (length (asEntries (a ∷ b ∷ l)) - 1) (pick x (suc first) 0)) q
+        ∙ clamp-some (length (asEntries (a ∷ b ∷ l)) - 1) (suc first) (omega arith) ∙ omega (arith, size)
     place false q =
-        ap (λ (x : Bool). clamped (length (entriesIn (a ∷ b ∷ l)) - 1) (pick x (suc first) 0)) q
+        ap (λ (x : Bool). clamped (length (asEntries (a ∷ b ∷ l)) - 1) (pick x (suc first) 0)) q
         ∙ ap suc (sym (none-min (length l)) ∙ ap (λ (n : ℕ). min n (length l)) (sym (ap (λ (x : Bool). pick x (suc (firstNotBelow rs target)) 0) (falls q))))

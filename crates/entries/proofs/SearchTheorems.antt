@@ -6,8 +6,7 @@ use Prim.Native.Nat.{ℕ}
 use lib.ListN.{length}
 use lib.Ieee.{Float}
 use borrow.Author.Tests.{lt-ltb}
-use Rattle.base.specs.Said.{Said, gives, andThen}
-use Rattle.base.proofs.Said.{One}
+use Rattle.base.specs.Said.{Said, gives, andThen, One}
 use Rattle.floats.specs.Ranges.{inSearch}
 use Rattle.sorting.specs.Entries.{Entry}
 use Rattle.sorted.specs.Lent.{ListTable, placesOf, ratiosOf, listIn, usable, areWithin, haveList}

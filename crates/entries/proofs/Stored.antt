@@ -10,7 +10,7 @@ use Rattle.base.specs.Tables.{over}
 use Rattle.sorting.specs.Entries.{Entry}
 use Rattle.sorted.specs.Lent.{listTable}
 use Rattle.entries.specs.declared.SortedEntry.{SortedEntry}
-use Rattle.entries.specs.Entries.{entriesIn, firstOf, entryOf, filled}
+use Rattle.entries.specs.Entries.{asEntries, firstOf, sortedEntryAt, filled}
 
 pub length-filled : (g : ℕ → SortedEntry) (n : ℕ) (l : List SortedEntry) → length (filled g n l) ≡ length l
 length-filled g zero l = refl
@@ -23,12 +23,12 @@ filled-first g (suc n) y l = ap (λ (m : List SortedEntry). set m (suc n) (g (su
 
 -- n entries stored place by place are the columns' first n, and after them what was there
 pub filled-is : (n : ℕ) (ps : List ℕ) (rs : List Float) (ws : List ℤ) (l : List SortedEntry) → n ≤ length l → n ≤ length ps → n ≤ length rs → n ≤ length ws
-    → entriesIn (filled (entryOf ps rs ws) n l) ≡ over (entriesIn l) (firstOf n (listTable ps rs ws))
+    → asEntries (filled (sortedEntryAt ps rs ws) n l) ≡ over (asEntries l) (firstOf n (listTable ps rs ws))
 filled-is zero ps rs ws l a b c d = refl
 filled-is (suc n) ps rs ws [] a b c d = absurd (not-suc-le-zero a)
 filled-is (suc n) [] rs ws (y ∷ l) a b c d = absurd (not-suc-le-zero b)
 filled-is (suc n) (p ∷ ps) [] ws (y ∷ l) a b c d = absurd (not-suc-le-zero c)
 filled-is (suc n) (p ∷ ps) (r ∷ rs) [] (y ∷ l) a b c d = absurd (not-suc-le-zero d)
 filled-is (suc n) (p ∷ ps) (r ∷ rs) (w ∷ ws) (y ∷ l) a b c d =
-    ap entriesIn (filled-first (entryOf (p ∷ ps) (r ∷ rs) (w ∷ ws)) n y l)
+    ap asEntries (filled-first (sortedEntryAt (p ∷ ps) (r ∷ rs) (w ∷ ws)) n y l)
     ∙ ap (λ (m : List Entry). record { place = p; ratio = r; wraps = w } ∷ m) (filled-is n ps rs ws l (le-of-suc-le-suc a) (le-of-suc-le-suc b) (le-of-suc-le-suc c) (le-of-suc-le-suc d))

@@ -36,7 +36,7 @@ use denote.Triple.Walked.{says}
 use Rattle.base.specs.Tables.{over}
 use Rattle.sorted.specs.Lent.{ListTable}
 use Rattle.entries.specs.declared.SortedEntry.{SortedEntry}
-use Rattle.entries.specs.Entries.{entriesIn, firstOf}
+use Rattle.entries.specs.Entries.{asEntries, firstOf}
 use Rattle.entries.proofs.Again.{ref}
 use Rattle.entries.proofs.Columns.{Names, Lengths, Rooms, Long, Rows, Showns, Shrs, rows-shown, rows-hidden}
 use Rattle.entries.proofs.SortedEntry as T
@@ -88,7 +88,7 @@ module _ {M : Type 1} (𝓤 : URA M) (H : Heap 𝓤) (A : Atoms 𝓤) (W : Given
   Lasts = List SortedEntry × (Unit {0} × (Unit {0} × (Unit {0} × (Unit {0} × Unit {0}))))
 
   abbrev pub Said : ListTable → ℕ → List SortedEntry → Type 0
-  Said z n es = entriesIn es ≡ over (entriesIn (now x)) (firstOf n z)
+  Said z n es = asEntries es ≡ over (asEntries (now x)) (firstOf n z)
 
   abbrev pub Told : ListTable → ℕ → Unit {0} → Val → List SortedEntry → Type 0
   Told z n r v es = Is Nothing r (v ∷ []) × (length es ≡ length (now x)) × Said z n es

@@ -9,8 +9,8 @@ use lib.ListN.{length, take, drop, length-append, length-drop, length-map}
 use lib.Seq.{length-take-le, take-at, drop-at}
 use borrow.Author.Tests.{leb-true, leb-false}
 use Rattle.base.specs.Numbers.{unusable}
-use Rattle.base.specs.Said.{Said, gives, refuses}
-use Rattle.base.proofs.Said.{One, one-result, one-plain, no-value}
+use Rattle.base.specs.Said.{Said, gives, refuses, One}
+use Rattle.base.proofs.Said.{one-result, one-plain, no-value}
 use Rattle.sorting.specs.Entries.{Entry}
 use Rattle.sorting.proofs.Columns.{length-zip}
 use Rattle.sorted.specs.Lent.{ListTable, listIn}
@@ -28,7 +28,7 @@ use Rattle.scl_read.specs.declared.SclReadAnswer.{SclReadAnswer}
 use Rattle.scl_read.proofs.Language.{accepts, accepted}
 use Rattle.scl_read.proofs.Theorems.{read-split}
 use Rattle.entries.specs.declared.SortedEntry.{SortedEntry}
-use Rattle.entries.specs.Entries.{entryIn, entriesIn}
+use Rattle.entries.specs.Entries.{asEntry, asEntries}
 use Rattle.entries.specs.Builds.{builtIn, afterEntries, Holds}
 use Rattle.entries.specs.Readings.{readIn, countRead, sortedRead}
 use Rattle.entries.specs.Same.{SameList, BuildEntries, ReadEntries}
@@ -50,7 +50,7 @@ more-room text small room r h e =
     accepts room text (a .0) (givenIn text) (a .1) .1 (a .2, omega (arith, a .3, h)) .0 ∙ ap gives (sym (a .4))
 
 -- ---- a slice of structs is one for its entries
-same-entry : (x y : SortedEntry) → entryIn x ≡ entryIn y → x ≡ y
+same-entry : (x y : SortedEntry) → asEntry x ≡ asEntry y → x ≡ y
 same-entry x y e = λ i. record { place = e i .place; ratio = e i .ratio; wraps = e i .wraps }
 
 abbrev first-of : Entry → List Entry → Entry
@@ -61,27 +61,27 @@ abbrev rest-of : List Entry → List Entry
 rest-of [] = []
 rest-of (x ∷ l) = l
 
-same-entries : (xs ys : List SortedEntry) → entriesIn xs ≡ entriesIn ys → xs ≡ ys
+same-entries : (xs ys : List SortedEntry) → asEntries xs ≡ asEntries ys → xs ≡ ys
 same-entries [] [] e = refl
-same-entries [] (y ∷ ys) e = let z : _≡_ {A = ℕ} 0 (length (entriesIn (y ∷ ys))) = ap length e in absurd (omega (arith, z))
-same-entries (x ∷ xs) [] e = let z : _≡_ {A = ℕ} (length (entriesIn (x ∷ xs))) 0 = ap length e in absurd (omega (arith, z))
+same-entries [] (y ∷ ys) e = let z : _≡_ {A = ℕ} 0 (length (asEntries (y ∷ ys))) = ap length e in absurd (omega (arith, z))
+same-entries (x ∷ xs) [] e = let z : _≡_ {A = ℕ} (length (asEntries (x ∷ xs))) 0 = ap length e in absurd (omega (arith, z))
 same-entries (x ∷ xs) (y ∷ ys) e =
-    let h = same-entry x y (ap (first-of (entryIn x)) e) in
+    let h = same-entry x y (ap (first-of (asEntry x)) e) in
     let t = same-entries xs ys (ap rest-of e) in
     λ i. h i ∷ t i
 
 -- ---- "Of a sorted entry, its place, reduced ratio and wraparounds stand together": what a call leaves in the list of structs
-take-entries : (n : ℕ) (l : List SortedEntry) → entriesIn (take n l) ≡ take n (entriesIn l)
+take-entries : (n : ℕ) (l : List SortedEntry) → asEntries (take n l) ≡ take n (asEntries l)
 take-entries zero l = refl
 take-entries (suc n) [] = refl
-take-entries (suc n) (e ∷ l) = ap (λ (m : List Entry). entryIn e ∷ m) (take-entries n l)
+take-entries (suc n) (e ∷ l) = ap (λ (m : List Entry). asEntry e ∷ m) (take-entries n l)
 
-drop-entries : (n : ℕ) (l : List SortedEntry) → entriesIn (drop n l) ≡ drop n (entriesIn l)
+drop-entries : (n : ℕ) (l : List SortedEntry) → asEntries (drop n l) ≡ drop n (asEntries l)
 drop-entries zero l = refl
 drop-entries (suc n) [] = refl
 drop-entries (suc n) (e ∷ l) = drop-entries n l
 
-module _ {count : ℕ} {left : ListTable} {s : Said (List Entry)} (old es : List SortedEntry) (h : Holds (gives count) left (length old) s) (e : entriesIn es ≡ afterEntries s (entriesIn old)) where
+module _ {count : ℕ} {left : ListTable} {s : Said (List Entry)} (old es : List SortedEntry) (h : Holds (gives count) left (length old) s) (e : asEntries es ≡ afterEntries s (asEntries old)) where
   size : length (listIn count left) ≡ count + 1
   size =
       let lp = length-take-le (count + 1) (left .places) (h .places-room) in
@@ -89,16 +89,16 @@ module _ {count : ℕ} {left : ListTable} {s : Said (List Entry)} (old es : List
       let lw = length-take-le (count + 1) (left .wraps) (h .wraps-room) in
       length-zip (take (count + 1) (left .places)) (take (count + 1) (left .ratios)) (take (count + 1) (left .wraps)) (lr ∙ sym lp) (lw ∙ sym lp) ∙ lp
 
-  written : entriesIn es ≡ listIn count left ++ drop (length (listIn count left)) (entriesIn old)
-  written = e ∙ sym (h .stored (entriesIn old))
+  written : asEntries es ≡ listIn count left ++ drop (length (listIn count left)) (asEntries old)
+  written = e ∙ sym (h .stored (asEntries old))
 
   long : length es ≡ length old
   long =
-      let a : length (entriesIn es) ≡ length (listIn count left ++ drop (length (listIn count left)) (entriesIn old)) = ap length written in
-      let b = length-append (listIn count left) (drop (length (listIn count left)) (entriesIn old)) in
-      let c = length-drop (length (listIn count left)) (entriesIn old) in
-      let x = length-map es entryIn in
-      let y = length-map old entryIn in
+      let a : length (asEntries es) ≡ length (listIn count left ++ drop (length (listIn count left)) (asEntries old)) = ap length written in
+      let b = length-append (listIn count left) (drop (length (listIn count left)) (asEntries old)) in
+      let c = length-drop (length (listIn count left)) (asEntries old) in
+      let x = length-map es asEntry in
+      let y = length-map old asEntry in
       omega (arith, a, b, c, x, y, size, h .list-room)
 
   same-list : SameList count left es
@@ -107,13 +107,13 @@ module _ {count : ℕ} {left : ListTable} {s : Said (List Entry)} (old es : List
     places-room = omega (arith, h .places-room);
     ratios-room = omega (arith, h .ratios-room);
     wraps-room = omega (arith, h .wraps-room);
-    same = take-entries (count + 1) es ∙ ap (take (count + 1)) written ∙ take-at (listIn count left) (drop (length (listIn count left)) (entriesIn old)) (count + 1) size;
+    same = take-entries (count + 1) es ∙ ap (take (count + 1)) written ∙ take-at (listIn count left) (drop (length (listIn count left)) (asEntries old)) (count + 1) size;
   }
 
   same-rest : drop (count + 1) es ≡ drop (count + 1) old
   same-rest =
       same-entries (drop (count + 1) es) (drop (count + 1) old)
-      (drop-entries (count + 1) es ∙ ap (drop (count + 1)) written ∙ drop-at (listIn count left) (drop (length (listIn count left)) (entriesIn old)) (count + 1) size ∙ ap (λ (n : ℕ). drop n (entriesIn old)) size ∙ sym (drop-entries (count + 1) old))
+      (drop-entries (count + 1) es ∙ ap (drop (count + 1)) written ∙ drop-at (listIn count left) (drop (length (listIn count left)) (asEntries old)) (count + 1) size ∙ ap (λ (n : ℕ). drop n (asEntries old)) size ∙ sym (drop-entries (count + 1) old))
 
 -- ---- a build
 module _ (b : SclBuilder) (t : ItemTable) (l : ListTable) (old : List SortedEntry) (r : SclAnswer) (left : ListTable) (es : List SortedEntry) (c : BuildEntries b t l old r left es) where
@@ -135,7 +135,7 @@ module _ (b : SclBuilder) (t : ItemTable) (l : ListTable) (old : List SortedEntr
     where
       go : (s : Said (List Entry)) → builtIn b t l (length old) ≡ s → (left ≡ l) × (es ≡ old)
       go (gives x) q = no-value (sym a ∙ c .0 ∙ ap (counted b) q)
-      go (refuses n d) q = (c .1 ∙ ap (λ (s : Said (List Entry)). afterList s l) q, same-entries es old (c .2 ∙ ap (λ (s : Said (List Entry)). afterEntries s (entriesIn old)) q))
+      go (refuses n d) q = (c .1 ∙ ap (λ (s : Said (List Entry)). afterList s l) q, same-entries es old (c .2 ∙ ap (λ (s : Said (List Entry)). afterEntries s (asEntries old)) q))
 
 -- ---- a read
 module _ (text : List ℕ) (t : ItemTable) (l : ListTable) (old : List SortedEntry) (r : SclReadAnswer) (items : ItemTable) (left : ListTable) (es : List SortedEntry) (c : ReadEntries text t l old r items left es) where
@@ -153,19 +153,19 @@ module _ (text : List ℕ) (t : ItemTable) (l : ListTable) (old : List SortedEnt
   pub read-entries-refused : (number detail : ℕ) → saysRead r ≡ refuses number detail → (items ≡ t) × (left ≡ l) × (es ≡ old)
   read-entries-refused number detail a =
       let q : readIn text t l (length old) ≡ refuses number detail = sym (c .0) ∙ a in
-      (c .1 ∙ ap (λ (s : Said SclRead). itemsAfter s text t) q, c .2 ∙ ap (λ (s : Said SclRead). sortedAfter s text l) q, same-entries es old (c .3 ∙ ap (λ (s : Said SclRead). afterEntries (sortedRead text s) (entriesIn old)) q))
+      (c .1 ∙ ap (λ (s : Said SclRead). itemsAfter s text t) q, c .2 ∙ ap (λ (s : Said SclRead). sortedAfter s text l) q, same-entries es old (c .3 ∙ ap (λ (s : Said SclRead). afterEntries (sortedRead text s) (asEntries old)) q))
 
 -- ---- each call has one result
-entries-one : (es : List Entry) → One entriesIn es
+entries-one : (es : List Entry) → One asEntries es
 entries-one es xs ys a b = same-entries xs ys (a ∙ sym b)
 
 -- the answer, the columns, and the list
 pub build-entries-one : (b : SclBuilder) (t : ItemTable) (l : ListTable) (places : ℕ) (old : List Entry)
-    → One saysScl (counted b (builtIn b t l places)) × One (λ r. r) (afterList (builtIn b t l places) l) × One entriesIn (afterEntries (builtIn b t l places) old)
+    → One saysScl (counted b (builtIn b t l places)) × One (λ r. r) (afterList (builtIn b t l places) l) × One asEntries (afterEntries (builtIn b t l places) old)
 build-entries-one b t l places old = (scl-one (counted b (builtIn b t l places)), one-result (afterList (builtIn b t l places) l), entries-one (afterEntries (builtIn b t l places) old))
 
 pub read-entries-one : (text : List ℕ) (t : ItemTable) (l : ListTable) (places : ℕ) (old : List Entry)
-    → One saysRead (readIn text t l places) × One (λ r. r) (itemsAfter (readIn text t l places) text t) × One (λ r. r) (sortedAfter (readIn text t l places) text l) × One entriesIn (afterEntries (sortedRead text (readIn text t l places)) old)
+    → One saysRead (readIn text t l places) × One (λ r. r) (itemsAfter (readIn text t l places) text t) × One (λ r. r) (sortedAfter (readIn text t l places) text l) × One asEntries (afterEntries (sortedRead text (readIn text t l places)) old)
 read-entries-one text t l places old = (
   one-plain read-split saysRead (λ s. refl) (λ r. refl) (readIn text t l places),
   one-result (itemsAfter (readIn text t l places) text t),

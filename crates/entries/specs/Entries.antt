@@ -10,16 +10,16 @@ use Rattle.sorted.specs.Lent.{ListTable, listTable, placesOf, ratiosOf, wrapsOf
 use Rattle.entries.specs.declared.SortedEntry.{SortedEntry}
 
 -- a struct is the entry with its three fields
-abbrev pub entryIn : SortedEntry → Entry
-entryIn e = record { place = e .place; ratio = e .ratio; wraps = e .wraps }
+abbrev pub asEntry : SortedEntry → Entry
+asEntry e = record { place = e .place; ratio = e .ratio; wraps = e .wraps }
 
 -- a slice of structs is the list of their entries
-abbrev pub entriesIn : List SortedEntry → List Entry
-entriesIn = map entryIn
+abbrev pub asEntries : List SortedEntry → List Entry
+asEntries = map asEntry
 
 -- the columns of a slice of structs
 abbrev pub columnsIn : List SortedEntry → ListTable
-columnsIn l = listTable (placesOf (entriesIn l)) (ratiosOf (entriesIn l)) (wrapsOf (entriesIn l))
+columnsIn l = listTable (placesOf (asEntries l)) (ratiosOf (asEntries l)) (wrapsOf (asEntries l))
 
 -- the first n entries of the columns
 abbrev pub firstOf : ℕ → ListTable → List Entry
@@ -31,8 +31,8 @@ abbrev pub noEntry : SortedEntry
 noEntry = record { place = 0; ratio = nan; wraps = pos 0 }
 
 -- what three columns have at a place
-abbrev pub entryOf : List ℕ → List Float → List ℤ → ℕ → SortedEntry
-entryOf ps rs ws i = record { place = getD ps i 0; ratio = getD rs i nan; wraps = getD ws i (pos 0) }
+abbrev pub sortedEntryAt : List ℕ → List Float → List ℤ → ℕ → SortedEntry
+sortedEntryAt ps rs ws i = record { place = getD ps i 0; ratio = getD rs i nan; wraps = getD ws i (pos 0) }
 
 -- a list with its first n entries given place by place
 abbrev pub filled : (ℕ → SortedEntry) → ℕ → List SortedEntry → List SortedEntry

@@ -14,7 +14,7 @@ use Rattle.scl_build.specs.declared.SclBuilder.{SclBuilder}
 use Rattle.scl_read.specs.Reader.{saysRead, itemsAfter, sortedAfter}
 use Rattle.scl_read.specs.declared.SclReadAnswer.{SclReadAnswer}
 use Rattle.entries.specs.declared.SortedEntry.{SortedEntry}
-use Rattle.entries.specs.Entries.{entriesIn}
+use Rattle.entries.specs.Entries.{asEntries}
 use Rattle.entries.specs.Builds.{builtIn, afterEntries}
 use Rattle.entries.specs.Readings.{readIn, sortedRead}
 
@@ -24,15 +24,15 @@ pub record SameList (count : ℕ) (left : ListTable) (es : List SortedEntry) : T
   pub places-room : count < length (left .places)
   pub ratios-room : count < length (left .ratios)
   pub wraps-room : count < length (left .wraps)
-  pub same : entriesIn (take (count + 1) es) ≡ listIn count left
+  pub same : asEntries (take (count + 1) es) ≡ listIn count left
 
 -- ---- the contracts, of what is lent (t, l, old), what is answered (r) and what is left
 abbrev pub BuildEntries : SclBuilder → ItemTable → ListTable → List SortedEntry → SclAnswer → ListTable → List SortedEntry → Type 0
 BuildEntries b t l old r left es =
     (saysScl r ≡ counted b (builtIn b t l (length old))) × (left ≡ afterList (builtIn b t l (length old)) l)
-    × (entriesIn es ≡ afterEntries (builtIn b t l (length old)) (entriesIn old))
+    × (asEntries es ≡ afterEntries (builtIn b t l (length old)) (asEntries old))
 
 abbrev pub ReadEntries : List ℕ → ItemTable → ListTable → List SortedEntry → SclReadAnswer → ItemTable → ListTable → List SortedEntry → Type 0
 ReadEntries text t l old r items left es =
     (saysRead r ≡ readIn text t l (length old)) × (items ≡ itemsAfter (readIn text t l (length old)) text t)
-    × (left ≡ sortedAfter (readIn text t l (length old)) text l) × (entriesIn es ≡ afterEntries (sortedRead text (readIn text t l (length old))) (entriesIn old))
+    × (left ≡ sortedAfter (readIn text t l (length old)) text l) × (asEntries es ≡ afterEntries (sortedRead text (readIn text t l (length old))) (asEntries old))

@@ -13,7 +13,7 @@ use Rattle.base.specs.Said.{Said, gives, refuses, pick, andThen}
 use Rattle.floats.specs.Floats.{zeroF}
 use Rattle.floats.specs.Ranges.{inReach, inSearch}
 use Rattle.sorting.specs.Entries.{Entry}
-use Rattle.sorted.specs.Lent.{goesOn}
+use Rattle.sorted.specs.Lent.{mayFollow}
 use Rattle.scl.specs.Table.{ItemTable, itemsIn, isItems}
 use Rattle.scl.specs.declared.Item.{Item}
 use Rattle.relative.specs.Scales.{tested}
@@ -21,7 +21,7 @@ use Rattle.searching.specs.Search.{chosenOf, indexOf, foundAt, nearestOf, searc
 use Rattle.searching.specs.declared.Choice.{Choice}
 use Rattle.searching.specs.declared.Found.{Found}
 use Rattle.searching.specs.declared.approximation.Approximation.{Approximation}
-use Rattle.entries.specs.Entries.{entryIn, noEntry}
+use Rattle.entries.specs.Entries.{asEntry, noEntry}
 use Rattle.entries.specs.declared.SortedEntry.{SortedEntry}
 use Rattle.entries.specs.Columns.{degreeBy}
 use Rattle.entries.specs.declared.search.Aim.{Aim}
@@ -63,7 +63,7 @@ goesUp upper target i = ltb i 2 || lt upper target
 
 abbrev pub scanStep : Scan → SortedEntry → ℕ → Scan
 scanStep s e i = record {
-  usable = s .usable && (goesOn (s .last) (e .ratio) && leb (e .place) (s .count));
+  usable = s .usable && (mayFollow (s .last) (e .ratio) && leb (e .place) (s .count));
   count = s .count;
   aim = s .aim;
   last = e .ratio;
@@ -79,7 +79,7 @@ scanned s l (suc i) = scanStep (scanned s l i) (getD l i noEntry) i
 
 -- ---- the end
 -- the neighbours can be compared with the target
-pub record Near (s : Scan) : Type 0 where
+pub record Comparable (s : Scan) : Type 0 where
   pub lower-reach : inReach (s .lower .ratio) ≡ true
   pub upper-reach : inReach (s .upper .ratio) ≡ true
   pub target-reach : inReach (s .aim .target) ≡ true
@@ -87,17 +87,17 @@ pub record Near (s : Scan) : Type 0 where
   pub inside : s .at ≤ s .count
 
 pub record Ready (s : Scan) : Type 0 where
-  pub near : s .usable ≡ true → 0 < s .count → Near s
+  pub near : s .usable ≡ true → 0 < s .count → Comparable s
 
 -- of the two neighbours the chosen one
 abbrev pub chosenBy : Scan → Choice → Said Found
-chosenBy s c = gives (foundAt (entryIn (pick (c .upper) (s .upper) (s .lower))) (indexOf (s .at) (c .upper)) (s .aim .periods) (c .deviation))
+chosenBy s c = gives (foundAt (asEntry (pick (c .upper) (s .upper) (s .lower))) (indexOf (s .at) (c .upper)) (s .aim .periods) (c .deviation))
 
 unfoldable pub nearestBy : Scan → Said Found
 nearestBy s = andThen (chosenOf (s .lower .ratio) (s .upper .ratio) (s .aim .target)) (chosenBy s)
 
 unfoldable pub foundBy : Scan → Said Found
-foundBy s = pick (eqb (s .count) 0) (gives (foundAt (entryIn (s .upper)) 0 (pos 0) (s .aim .target))) (pick (s .aim .beyond) (refuses beyond-reach 0) (nearestBy s))
+foundBy s = pick (eqb (s .count) 0) (gives (foundAt (asEntry (s .upper)) 0 (pos 0) (s .aim .target))) (pick (s .aim .beyond) (refuses beyond-reach 0) (nearestBy s))
 
 unfoldable pub answerOf : Scan → Bool → Said Approximation
 answerOf s sorted = tested (s .usable) (andThen (foundBy s) (degreeBy sorted (s .count)))

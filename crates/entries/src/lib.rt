@@ -17,7 +17,7 @@ ghost use Rattle.scl.specs.Table.{itemTable};
 ghost use Rattle.scl_tables.specs.Build.{afterList};
 ghost use Rattle.scl_build.specs.Builder.{counted};
 ghost use Rattle.scl_read.specs.Reader.{saysRead, itemsAfter, sortedAfter};
-ghost use Rattle.entries.specs.Entries.{entryOf, entriesIn, firstOf};
+ghost use Rattle.entries.specs.Entries.{sortedEntryAt, asEntries, firstOf};
 ghost use Rattle.entries.specs.Builds.{builtIn, storedOf, Holds};
 ghost use Rattle.entries.specs.Readings.{readIn, countRead, sortedRead};
 ghost use Rattle.entries.specs.Same.{BuildEntries, ReadEntries};
@@ -31,7 +31,7 @@ pub struct SortedEntry {
 // The entry that three columns hold at a place.
 fn entry_of<'c>(place: &'c [u32], ratio: &'c [f64], wraps: &'c [i32], i: usize) -> SortedEntry
     requires { ⌜ (i < length (now place)) × (i < length (now ratio)) × (i < length (now wraps)) ⌝ }
-    ensures { λ r. ⌜ r ≡ entryOf (now (place .entry)) (now (ratio .entry)) (now (wraps .entry)) i ⌝ }
+    ensures { λ r. ⌜ r ≡ sortedEntryAt (now (place .entry)) (now (ratio .entry)) (now (wraps .entry)) i ⌝ }
 {
     SortedEntry {
         place: place[i],
@@ -49,7 +49,7 @@ fn store_list<'c>(
     n: usize,
 )
     requires { ⌜ (n ≤ length (now list)) × (n ≤ length (now place)) × (n ≤ length (now ratio)) × (n ≤ length (now wraps)) ⌝ }
-    ensures { λ _. ⌜ entriesIn (now (list .exit)) ≡ over (entriesIn (now (list .entry))) (firstOf n (listTable (now (place .entry)) (now (ratio .entry)) (now (wraps .entry)))) ⌝ }
+    ensures { λ _. ⌜ asEntries (now (list .exit)) ≡ over (asEntries (now (list .entry))) (firstOf n (listTable (now (place .entry)) (now (ratio .entry)) (now (wraps .entry)))) ⌝ }
 {
     let mut i: usize = 0;
     while i < n {

@@ -15,14 +15,14 @@ ghost use Prim.Native.Nat.{_≤_, _<_};
 ghost use lib.Dec.{leb, ltb};
 ghost use lib.ListN.{length};
 ghost use Rattle.floats.specs.Ranges.{inReach, inSearch};
-ghost use Rattle.sorted.specs.Lent.{goesOn};
+ghost use Rattle.sorted.specs.Lent.{mayFollow};
 ghost use Rattle.scl.specs.Table.{itemTable, itemsIn, isItems};
 ghost use Rattle.searching.specs.Answers.{saysFound};
 ghost use Rattle.searching.specs.Search.{foundAt};
 ghost use Rattle.searching.specs.DegreeAnswers.{saysDegreeSearch};
-ghost use Rattle.entries.specs.Entries.{entryIn, columnsIn};
+ghost use Rattle.entries.specs.Entries.{asEntry, columnsIn};
 ghost use Rattle.entries.specs.Columns.{columnSearch};
-ghost use Rattle.entries.specs.Scans.{Aims, Starts, Near, Ready, begunOf, goesUp, scanStep, placesOf, nearestBy, foundBy, answerOf};
+ghost use Rattle.entries.specs.Scans.{Aims, Starts, Comparable, Ready, begunOf, goesUp, scanStep, placesOf, nearestBy, foundBy, answerOf};
 
 // What a search looks for: the ratio without its periods, how many these are, and whether there is nothing to find (18).
 pub struct Aim {
@@ -141,7 +141,7 @@ fn places_of(s: Scan) -> usize
 
 // Whether an entry may stand after the ratio `last`: in the range, not below it, with a place within the count.
 fn is_next(last: f64, count: u16, e: SortedEntry) -> bool
-    ensures { λ r. ⌜ r ≡ (goesOn last (e .ratio) && leb (e .place) count) ⌝ }
+    ensures { λ r. ⌜ r ≡ (mayFollow last (e .ratio) && leb (e .place) count) ⌝ }
 {
     let ratio = e.ratio;
     let reached = floats::is_in_reach(ratio);
@@ -195,7 +195,7 @@ fn step(s: Scan, e: SortedEntry, i: usize) -> Scan
 // An entry as what was found.
 fn found_of(e: SortedEntry, index: usize, periods: i32, deviation: f64) -> Found
     requires { ⌜ index ≤ 65535 ⌝ }
-    ensures { λ r. ⌜ r ≡ foundAt (entryIn e) index periods deviation ⌝ }
+    ensures { λ r. ⌜ r ≡ foundAt (asEntry e) index periods deviation ⌝ }
 {
     Found {
         place: e.place,
@@ -208,7 +208,7 @@ fn found_of(e: SortedEntry, index: usize, periods: i32, deviation: f64) -> Found
 
 // The neighbour that comes nearer to the target; 18.
 fn nearest(s: Scan) -> FoundAnswer
-    requires { ⌜ Near s ⌝ }
+    requires { ⌜ Comparable s ⌝ }
     ensures { λ r. ⌜ saysFound r ≡ nearestBy s ⌝ }
 {
     let aim = s.aim;

@@ -17,14 +17,14 @@ use Rattle.base.specs.Said.{pick}
 use Rattle.floats.proofs.Fit.{fits-says}
 use Rattle.floats.specs.Units.{unitsOf}
 use Rattle.explog.specs.Log.{bOf}
-use Rattle.explog.specs.Rules.{ratioOf, logAt, logOf}
+use Rattle.explog.specs.Rules.{octavesOf, logAt, logOf}
 use Rattle.explog.proofs.Plain.{nearestDiff, plainLog}
 use Rattle.explog.proofs.Diff.{Diff, add, subtract, times, moved}
 use Rattle.floats.proofs.Units.{whole-units}
 
 -- ---- the last step
-ratio-diff : (z : ℤ) (a b : ℕ) → Diff z a b → nearestDiff a b (2 ^ 52) ≡ ratioOf z
-unfolding nearestDiff ratioOf
+ratio-diff : (z : ℤ) (a b : ℕ) → Diff z a b → nearestDiff a b (2 ^ 52) ≡ octavesOf z
+unfolding nearestDiff octavesOf
 ratio-diff (pos n) a b h =
     let l : b ≤ a = omega arith in
     let e : a - b ≡ n = omega arith in

@@ -11,8 +11,8 @@ use lib.Ieee.{Float, fin, binary64, le, lt, eq, fits, ofBits, round, nanBits}
 use lib.Ieee.Scale.{finite}
 use lib.Ieee.Exact.{HasValue}
 use lib.Count.{ones, ones-le}
-use Rattle.base.specs.Said.{gives}
-use Rattle.base.proofs.Said.{One, one-result}
+use Rattle.base.specs.Said.{gives, One}
+use Rattle.base.proofs.Said.{one-result}
 use Rattle.floats.specs.Floats.{twoTo, zeroF, oneF, abs}
 use Rattle.floats.specs.Ranges.{inReach, negligible}
 use Rattle.floats.specs.Answers.{saysFloat}

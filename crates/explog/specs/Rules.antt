@@ -41,14 +41,14 @@ inPowers = within (neg nineHundred) nineHundred
 unfoldable pub E : Float → Said Float
 E x = pick (inPowers x) (gives (powerOf (floorOf x))) (refuses beyond-reach 0)
 
--- the f64 nearest z / 2 ^ 52, ties to even; "zero is +0.0"
-unfoldable pub ratioOf : ℤ → Float
-ratioOf (pos n) = round binary64 false n (2 ^ 52)
-ratioOf (negsuc n) = round binary64 true (suc n) (2 ^ 52)
+-- z / 2 ^ 52 octaves: the f64 nearest, ties to even; "zero is +0.0"
+unfoldable pub octavesOf : ℤ → Float
+octavesOf (pos n) = round binary64 false n (2 ^ 52)
+octavesOf (negsuc n) = round binary64 true (suc n) (2 ^ 52)
 
 -- "x = m*2^e with 2^52 <= m < 2^53; y = m*2^10 .. Result: the f64 nearest ((e+52)*2^52 + B)/2^52"
 unfoldable pub logAt : ℕ → ℤ → Float
-logAt m e = ratioOf ((e +ℤ pos 52) *ℤ pos (2 ^ 52) +ℤ pos (bOf (m * 2 ^ 10) 52))
+logAt m e = octavesOf ((e +ℤ pos 52) *ℤ pos (2 ^ 52) +ℤ pos (bOf (m * 2 ^ 10) 52))
 
 -- x as such an m and e: its digits, with zeros after them to make 53
 unfoldable pub logOf : Float → Float

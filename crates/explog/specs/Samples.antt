@@ -8,11 +8,11 @@ use Rattle.floats.specs.Floats.{twoTo, zeroF, oneF}
 use Rattle.explog.specs.Root.{root, rootFrom}
 use Rattle.explog.specs.Exp.{tOf, pOf}
 use Rattle.explog.specs.Log.{bOf, yOf}
-use Rattle.explog.specs.Rules.{E, L, floorOf, timesPower, powerOf, logOf, logAt, ratioOf}
+use Rattle.explog.specs.Rules.{E, L, floorOf, timesPower, powerOf, logOf, logAt, octavesOf}
 
 -- L(2) = 1
 pub log-of-two : L (twoTo (pos 1)) ≡ gives oneF
-unfolding L logOf logAt ratioOf bOf yOf le round size ofBits
+unfolding L logOf logAt octavesOf bOf yOf le round size ofBits
 log-of-two = refl
 
 -- E(1) = 2
@@ -22,11 +22,11 @@ power-of-one = refl
 
 -- L(1) = +0.0, L(10), E(-0.5)
 pub log-of-one : L oneF ≡ gives zeroF
-unfolding L logOf logAt ratioOf bOf yOf le round size ofBits
+unfolding L logOf logAt octavesOf bOf yOf le round size ofBits
 log-of-one = refl
 
 pub log-of-ten : L (fin false 5 (pos 1)) ≡ gives (fin false 7480317065143153 (negsuc 50))
-unfolding L logOf logAt ratioOf bOf yOf le round size ofBits
+unfolding L logOf logAt octavesOf bOf yOf le round size ofBits
 log-of-ten = refl
 
 pub power-of-minus-half : E (fin true 1 (negsuc 0)) ≡ gives (fin false 6369051672525773 (negsuc 52))

@@ -9,8 +9,8 @@ use lib.Ieee.Bits.{is-true}
 use lib.Ieee.Fits.{div-fits}
 use Rattle.base.specs.Integers.{inI32, held}
 use Rattle.base.specs.Numbers.{unusable, overflow, beyond-reach}
-use Rattle.base.specs.Said.{Said, gives, andThen}
-use Rattle.base.proofs.Said.{One, same-value}
+use Rattle.base.specs.Said.{Said, gives, andThen, One}
+use Rattle.base.proofs.Said.{same-value}
 use Rattle.floats.specs.Ranges.{inReach, inSearch, inPitch}
 use Rattle.pitch.specs.Given.{computed}
 use Rattle.pitch.specs.Pitches.{betweenPitches}

@@ -2,8 +2,8 @@
 use mathlib.Core.Path.{_≡_, refl, sym, _∙_}
 use mathlib.Core.Logic.{inl, inr}
 use lib.Ieee.{Float}
-use Rattle.base.specs.Said.{Said}
-use Rattle.base.proofs.Said.{One, Split, one-result, one-plain}
+use Rattle.base.specs.Said.{Said, One}
+use Rattle.base.proofs.Said.{Split, one-result, one-plain}
 use Rattle.floats.specs.Floats.{abs, trunc, floor, count}
 use Rattle.floats.specs.Ranges.{inReach, inSearch, inGenerator, inPitch, negligible}
 use Rattle.floats.specs.Units.{Unpacked}

@@ -1,9 +1,9 @@
--- What Rust's std does to an f64 and document 01 takes over ("All other float steps are the Rust's own"): abs, trunc, floor,
+-- What Rust's std does to an f64 and document 01 takes over ("All other float steps are the Rust's own"): from, abs, trunc, floor,
 -- and a whole quotient as an i32 ("a wraparound count leaves i32" gives 18). Assumes nothing.
 use mathlib.Core.Bool.{true, false, _&&_}
-use Prim.Native.Nat.{_+_, _-_, _*_, _/_}
+use Prim.Native.Nat.{ℕ, _+_, _-_, _*_, _/_}
 use lib.IntN.{ℤ, pos}
-use lib.Ieee.{Float, nan, inf, fin, binary64, up, down, round, lt, le, ofBits, toSigned}
+use lib.Ieee.{Float, nan, inf, fin, binary64, up, down, round, lt, le, ofBits, ofInt, toSigned}
 use Rattle.base.specs.Numbers.{beyond-reach}
 use Rattle.base.specs.Said.{Said, gives, refuses, pick}
 
@@ -18,6 +18,10 @@ zeroF = ofBits binary64 0
 -- 1.0
 abbrev pub oneF : Float
 oneF = twoTo (pos 0)
+
+-- `f64::from` of a whole number
+abbrev pub float : ℕ → Float
+float n = ofInt binary64 (pos n)
 
 -- the size: the sign cleared
 unfoldable pub abs : Float → Float

@@ -37,7 +37,7 @@ reach-of h k w = within-reach (within-more h k w)
 
 -- ---- the steps before the walk
 -- what comes of them: the whole octaves, the power of two, and the target, none refused
-pub record Reduced (r : Float) : Type 0 where
+pub record BeforeWalk (r : Float) : Type 0 where
   pub octaves : Float
   pub whole : ℤ
   pub power : Float
@@ -91,8 +91,8 @@ module _ (r : Float) (f : fits binary64 r ≡ true) (s : inSearch r ≡ true) wh
   unfolding nearestFraction
   nearest-gives limit = rw (s, log-gives, count-gives, power-gives) (ap (λ (a : Said Float). andThen a (λ target. gives (bestFor target whole-of limit))) target-gives)
 
-  pub reduced : Reduced r
-  reduced =
+  pub before-walk : BeforeWalk r
+  before-walk =
       record {
         octaves = logOf r;
         whole = whole-of;

@@ -17,7 +17,7 @@ use Rattle.fraction.specs.NearestFraction.{fraction, widest, turns, walk
 use Rattle.pitch.specs.Ratios.{upward}
 use Rattle.fraction.specs.declared.NearestFraction.{NearestFraction}
 use Rattle.fraction.specs.declared.Walk.{Walk}
-use Rattle.fraction.proofs.NearestAnswers.{Reduced, reduced, fraction-within, deviation-reach, middle-proper, counted}
+use Rattle.fraction.proofs.NearestAnswers.{BeforeWalk, before-walk, fraction-within, deviation-reach, middle-proper, counted}
 use Rattle.fraction.proofs.States.{Counted, state-walked}
 use Rattle.fraction.proofs.WalkEnds.{walked-end}
 
@@ -28,7 +28,7 @@ nearest-refuses r limit h = rw h
 
 -- "and else follows its loop": it answers, and nothing on the way gives 18
 pub nearest-answers : (r : Float) (limit : ℕ) → fits binary64 r ≡ true → inSearch r ≡ true → (q : NearestFraction) × (nearestFraction r limit ≡ gives q)
-nearest-answers r limit f s = let d = reduced r f s in (bestFor (div binary64 r (d .power)) (d .whole) limit, d .nearest-is limit)
+nearest-answers r limit f s = let d = before-walk r f s in (bestFor (div binary64 r (d .power)) (d .whole) limit, d .nearest-is limit)
 
 -- the walk ends where it starts
 pub walk-limit-zero : (target : Float) → walked turns widest target 0 ≡ widest
@@ -43,7 +43,7 @@ best-limit-zero target octaves = rw (walk-limit-zero target)
 pub limit-zero : (r : Float) → fits binary64 r ≡ true → inSearch r ≡ true →
     (n : ℤ) × ((andThen (L r) (λ octaves. count (floor octaves)) ≡ gives n) × (nearestFraction r 0 ≡ gives (noFraction n)))
 limit-zero r f s =
-    let d = reduced r f s in (
+    let d = before-walk r f s in (
       d .whole,
       (
         ap (λ (a : Said Float). andThen a (λ octaves. count (floor octaves))) (d .log-is) ∙ d .count-is,
@@ -54,10 +54,10 @@ limit-zero r f s =
 -- ---- "A computed pitch or ratio outside 2^-900..2^900 gives 18 at that step": none of the walk does
 -- the power of two and the target; and after any number of turns the deviation from the fraction in the middle, and the
 -- same upwards
-pub steps-in-reach : (r : Float) → fits binary64 r ≡ true → inSearch r ≡ true → (d : Reduced r) × ((inReach (d .power) ≡ true) × (inReach (div binary64 r (d .power)) ≡ true))
-steps-in-reach r f s = let d = reduced r f s in (d, (within-reach (within-more (lit≤ tt) (lit≤ tt) (d .power-within)), within-reach (within-more (lit≤ tt) (lit≤ tt) (d .target-within))))
+pub steps-in-reach : (r : Float) → fits binary64 r ≡ true → inSearch r ≡ true → (d : BeforeWalk r) × ((inReach (d .power) ≡ true) × (inReach (div binary64 r (d .power)) ≡ true))
+steps-in-reach r f s = let d = before-walk r f s in (d, (within-reach (within-more (lit≤ tt) (lit≤ tt) (d .power-within)), within-reach (within-more (lit≤ tt) (lit≤ tt) (d .target-within))))
 
-pub walk-in-reach : {r : Float} (d : Reduced r) (limit k n m : ℕ) →
+pub walk-in-reach : {r : Float} (d : BeforeWalk r) (limit k n m : ℕ) →
     (let w = walked k widest (div binary64 r (d .power)) limit in
     let deviation = div binary64 (div binary64 r (d .power)) (floatOf (fraction n m)) in
     n ≡ w .low .numer + w .high .numer → m ≡ w .low .denom + w .high .denom → n ≤ 65535 → m ≤ 65535 → (inReach deviation ≡ true) × (inReach (upward deviation) ≡ true))
@@ -66,7 +66,7 @@ walk-in-reach {r} d limit k n m p q h g =
     deviation-reach target (fraction n m) (d .target-within) (middle-proper (state-walked target limit k) n m p q h g)
 
 -- and that fraction itself, as a ratio
-pub middle-in-reach : {r : Float} (d : Reduced r) (limit k n m : ℕ) →
+pub middle-in-reach : {r : Float} (d : BeforeWalk r) (limit k n m : ℕ) →
     (let w = walked k widest (div binary64 r (d .power)) limit in
     n ≡ w .low .numer + w .high .numer → m ≡ w .low .denom + w .high .denom → n ≤ 65535 → m ≤ 65535 → inReach (floatOf (fraction n m)) ≡ true)
 middle-in-reach {r} d limit k n m p q h g =
@@ -81,5 +81,5 @@ answers-best target octaves limit l t = go (walked turns widest target limit) (c
 
 pub nearest-within : (r : Float) (limit : ℕ) (q : NearestFraction) → fits binary64 r ≡ true → inSearch r ≡ true → 1 ≤ limit → nearestFraction r limit ≡ gives q → InLimit limit q
 nearest-within r limit q f s l h =
-    let d = reduced r f s in
+    let d = before-walk r f s in
     subst (InLimit limit) (same-value _ _ (sym (d .nearest-is limit) ∙ h)) (answers-best (div binary64 r (d .power)) (d .whole) limit l (d .target-within))

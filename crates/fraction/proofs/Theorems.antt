@@ -3,8 +3,8 @@ use mathlib.Core.Path.{refl}
 use mathlib.Core.Logic.{inl, inr}
 use Prim.Native.Nat.{ℕ}
 use lib.Ieee.{Float}
-use Rattle.base.specs.Said.{Said}
-use Rattle.base.proofs.Said.{One, Split, one-plain}
+use Rattle.base.specs.Said.{Said, One}
+use Rattle.base.proofs.Said.{Split, one-plain}
 use Rattle.fraction.specs.Answers.{saysNearest}
 use Rattle.fraction.specs.NearestFraction.{nearestFraction}
 use Rattle.fraction.specs.declared.NearestAnswer.the-variants as OfNearest

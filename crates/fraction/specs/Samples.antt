@@ -10,7 +10,7 @@ use Rattle.floats.specs.Ranges.{inSearch}
 use Rattle.explog.specs.Root.{root, rootFrom}
 use Rattle.explog.specs.Exp.{tOf, pOf}
 use Rattle.explog.specs.Log.{bOf, yOf}
-use Rattle.explog.specs.Rules.{E, L, floorOf, timesPower, powerOf, logOf, logAt, ratioOf}
+use Rattle.explog.specs.Rules.{E, L, floorOf, timesPower, powerOf, logOf, logAt, octavesOf}
 use Rattle.math.specs.OddPart.{halvedWhileEven}
 use Rattle.pitch.specs.Given.{computed}
 use Rattle.fraction.specs.NearestFraction.{fraction, walked, turnOf, turnAt, passed, improved, bothOver, bothWithin, floatOf, bestFor, nearestFraction}
@@ -35,7 +35,7 @@ is-1575 = refl
 
 -- "Ratio 1.25, odd limit 3: 4/3"
 pub four-thirds : nearestFraction (fin false 5 (negsuc 1)) 3 ≡ gives (answerOf 4 3 (div binary64 (fin false 5 (negsuc 1)) (floatOf (fraction 4 3))))
-unfolding nearestFraction le lt eq ofBits L logOf logAt ratioOf bOf yOf round size floor toSigned ofInt E floorOf powerOf timesPower tOf root rootFrom pOf neg div bestFor walked turnOf turnAt passed improved bothOver bothWithin halvedWhileEven upward
+unfolding nearestFraction le lt eq ofBits L logOf logAt octavesOf bOf yOf round size floor toSigned ofInt E floorOf powerOf timesPower tOf root rootFrom pOf neg div bestFor walked turnOf turnAt passed improved bothOver bothWithin halvedWhileEven upward
 four-thirds = refl
 
 -- ---- 1.575 with odd limit 9
@@ -46,7 +46,7 @@ walk = refl
 
 -- the steps before it: no octave is taken off
 octaves : L x1575 ≡ gives (fin false 2951442251136071 (negsuc 51))
-unfolding L le lt eq ofBits logOf logAt ratioOf bOf yOf round size
+unfolding L le lt eq ofBits logOf logAt octavesOf bOf yOf round size
 octaves = refl
 
 whole : count (floor (fin false 2951442251136071 (negsuc 51))) ≡ gives (pos 0)

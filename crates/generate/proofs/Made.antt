@@ -24,7 +24,7 @@ use Rattle.scl_tables.proofs.Theorems.{list-given}
 use Rattle.scl_build.specs.Builder.{Built, beside, state, builderOf, afterNew, afterAll, acceptedOf, built, counted}
 use Rattle.scl_build.specs.declared.SclBuilder.{SclBuilder}
 use Rattle.scl_build.proofs.Theorems.{run-built}
-use Rattle.generate.specs.Generated.{runOf, listOf, madeOf, countedOf, itemsLeft, listLeft}
+use Rattle.generate.specs.Generated.{allPushed, listOf, madeOf, countedOf, itemsLeft, listLeft}
 
 -- ---- the implicit item
 pub implicit-usable : isUsable implicit ≡ true
@@ -100,17 +100,17 @@ module _ (t : ItemTable) (l : ListTable) {made : Said (List Item)} where
   pub all-refused : {n d : ℕ} → made ≡ refuses n d → (refuses n d ≡ countedOf made) × (t ≡ itemsLeft made t l) × (l ≡ listLeft made t l)
   all-refused e = (ap countedOf (sym e), ap (λ (s : Said (List Item)). itemsLeft s t l) (sym e), ap (λ (s : Said (List Item)). listLeft s t l) (sym e))
 
-  pub all-given : {is : List Item} → made ≡ gives is → {t′ : ItemTable} {l′ : ListTable} → t′ ≡ runOf t l is .table → l′ ≡ afterList (listOf t l is) l
+  pub all-given : {is : List Item} → made ≡ gives is → {t′ : ItemTable} {l′ : ListTable} → t′ ≡ allPushed t l is .table → l′ ≡ afterList (listOf t l is) l
       → (gives (length is) ≡ countedOf made) × (t′ ≡ itemsLeft made t l) × (l′ ≡ listLeft made t l)
   all-given e p q = (ap countedOf (sym e), p ∙ ap (λ (s : Said (List Item)). itemsLeft s t l) (sym e), q ∙ ap (λ (s : Said (List Item)). listLeft s t l) (sym e))
 
 -- ---- a new builder, the pushes, the build: the run
 module _ (t : ItemTable) (l : ListTable) (is : List Item) {b s : SclBuilder} {t₁ t₂ : ItemTable} (new : s ≡ state (roomOf t l) 0) (first : t₁ ≡ afterNew t l) (pushes : beside b t₂ ≡ afterAll (beside s t₁) is) where
-  the-run : beside b t₂ ≡ runOf t l is
+  the-run : beside b t₂ ≡ allPushed t l is
   the-run = pushes ∙ rw (new, first)
 
   pub run-left : {x : Said ℕ} {l′ : ListTable} → (x ≡ counted b (built b t₂ l)) × (l′ ≡ afterList (built b t₂ l) l)
-      → (x ≡ counted (runOf t l is .builder) (listOf t l is)) × (t₂ ≡ runOf t l is .table) × (l′ ≡ afterList (listOf t l is) l)
+      → (x ≡ counted (allPushed t l is .builder) (listOf t l is)) × (t₂ ≡ allPushed t l is .table) × (l′ ≡ afterList (listOf t l is) l)
   run-left e = (
     e .0 ∙ ap (λ (z : Built). counted (z .builder) (built (z .builder) (z .table) l)) the-run,
     ap (λ (z : Built). z .table) the-run,

@@ -12,12 +12,12 @@ use Rattle.scl.specs.declared.Item.{Item}
 use Rattle.scl_tables.specs.Room.{roomOf}
 use Rattle.scl_tables.proofs.Numbers.{sized-numbered}
 use Rattle.scl_build.specs.Builder.{isReady, built}
-use Rattle.generate.specs.Generated.{runOf, listOf, madeOf, countedOf, itemsFrom}
+use Rattle.generate.specs.Generated.{allPushed, listOf, madeOf, countedOf, itemsFrom}
 
 list-numbered : (t : ItemTable) (l : ListTable) (is : List Item) → Numbered (listOf t l is)
 unfolding built
 list-numbered t l is =
-    numbered-pick (isReady (runOf t l is .builder) (runOf t l is .table) l) (sized-numbered (itemsIn (runOf t l is .builder .count) (runOf t l is .table))) (Numbered.number (omega arith) (omega arith))
+    numbered-pick (isReady (allPushed t l is .builder) (allPushed t l is .table) l) (sized-numbered (itemsIn (allPushed t l is .builder .count) (allPushed t l is .table))) (Numbered.number (omega arith) (omega arith))
 
 pub made-numbered : (t : ItemTable) (l : ListTable) (n : ℕ) {items : Said (List Item)} → Numbered items → Numbered (madeOf t l n items)
 unfolding madeOf

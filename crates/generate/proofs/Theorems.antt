@@ -7,8 +7,8 @@ use Prim.Native.Nat.{ℕ, _+_, _-_, _≤_, _<_}
 use native.Mathlib.Omega.{arith}
 use lib.ListN.{length}
 use Rattle.base.specs.Numbers.{beyond-reach}
-use Rattle.base.specs.Said.{Said, gives, refuses, pick}
-use Rattle.base.proofs.Said.{One, one-result, no-value, no-refusal, same-value}
+use Rattle.base.specs.Said.{Said, gives, refuses, pick, One}
+use Rattle.base.proofs.Said.{one-result, no-value, no-refusal, same-value}
 use Rattle.floats.specs.Floats.{oneF}
 use Rattle.sorting.specs.Entries.{Entry}
 use Rattle.sorted.specs.Lent.{ListTable, isList}
@@ -23,20 +23,20 @@ use Rattle.scl_tables.proofs.Theorems.{beyond-reach-is}
 use Rattle.scl_build.specs.Builder as Built
 use Rattle.scl_build.specs.declared.SclBuilder.{SclBuilder}
 use Rattle.scl_build.proofs.Theorems.{run-items, build-leaves}
-use Rattle.generate.specs.Generated.{runOf, listOf, madeOf, itemsLeft, listLeft, Leaves}
+use Rattle.generate.specs.Generated.{allPushed, listOf, madeOf, itemsLeft, listLeft, Leaves}
 use Rattle.generate.proofs.Made.{accepted, all-usable, implicit-held, list-looks, some-list, made-beyond, made-given}
 
 module _ (t : ItemTable) (l : ListTable) (is : List Item) (few : length is ≤ 65535) (room : length is < roomOf t l) (usable : areUsable is ≡ true) (held : AllHeld is) where
   -- how many items the builder has, and which
-  pub left-items : itemsIn (runOf t l is .builder .count) (runOf t l is .table) ≡ implicit ∷ is
+  pub left-items : itemsIn (allPushed t l is .builder .count) (allPushed t l is .table) ≡ implicit ∷ is
   left-items = run-items t l (omega arith) is ∙ ap (λ (x : List Item). implicit ∷ x) (accepted t l is few room usable held)
 
   module _ (within : isBeyond (length is) (lastOf (implicit ∷ is)) ≡ false) where
     abbrev b : SclBuilder
-    b = runOf t l is .builder
+    b = allPushed t l is .builder
 
     abbrev left : ItemTable
-    left = runOf t l is .table
+    left = allPushed t l is .table
 
     -- the build is accepted
     pub listed : listOf t l is ≡ gives (some-list t l is few room usable held .0)

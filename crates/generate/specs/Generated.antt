@@ -17,12 +17,12 @@ use Rattle.scl_tables.specs.Room.{roomOf}
 use Rattle.scl_build.specs.Builder.{Built, beside, state, afterNew, afterAll, built}
 
 -- these items pushed into a new builder beside the tables, one after the other
-abbrev pub runOf : ItemTable → ListTable → List Item → Built
-runOf t l items = afterAll (beside (state (roomOf t l) 0) (afterNew t l)) items
+abbrev pub allPushed : ItemTable → ListTable → List Item → Built
+allPushed t l items = afterAll (beside (state (roomOf t l) 0) (afterNew t l)) items
 
 -- and the build after them: the sorted list, or why there is none
 abbrev pub listOf : ItemTable → ListTable → List Item → Said (List Entry)
-listOf t l items = built (runOf t l items .builder) (runOf t l items .table) l
+listOf t l items = built (allPushed t l items .builder) (allPushed t l items .table) l
 
 -- the items of an accepted generator of so many: 12 where they and place 0 have no room, then what refuses one of them, then the build
 unfoldable pub madeOf : ItemTable → ListTable → ℕ → Said (List Item) → Said (List Item)
@@ -34,7 +34,7 @@ countedOf made = andThen made (λ is. gives (length is))
 
 -- THE TABLES after it: what the pushes and the build leave; a refusal leaves them as they were
 abbrev pub itemsLeft : Said (List Item) → ItemTable → ListTable → ItemTable
-itemsLeft (gives is) t l = runOf t l is .table
+itemsLeft (gives is) t l = allPushed t l is .table
 itemsLeft (refuses number detail) t l = t
 
 abbrev pub listLeft : Said (List Item) → ItemTable → ListTable → ListTable

@@ -5,12 +5,13 @@ use lib.Dec.{ltb}
 use lib.Ieee.{binary64, mul, div}
 use Rattle.base.specs.Said.{Numbered}
 use Rattle.base.proofs.Said.{numbered-pick, numbered-then}
+use Rattle.floats.specs.Floats.{float}
 use Rattle.pitch.proofs.Numbers.{given-numbered, as-octaves-numbered, from-octaves-numbered}
 use Rattle.sorted.specs.Lent.{ListTable}
 use Rattle.scl.specs.Table.{ItemTable}
 use Rattle.generate.specs.Generated.{countedOf}
 use Rattle.generate.proofs.Numbers.{made-numbered, counted-numbered, items-numbered}
-use Rattle.harmonics.specs.Segment.{float, intervalOf, fractionAt, stepsOf, segmentCount}
+use Rattle.harmonics.specs.Segment.{intervalOf, fractionAt, stepsOf, segmentCount}
 use Rattle.harmonics.specs.Harmonics.{asItem, itemAt, madeHarmonics}
 use Rattle.harmonics.specs.declared.segment.Divisions.{Divisions}
 use Rattle.harmonics.specs.declared.segment.Divisions.the-variants.{Into, Lacking}

@@ -14,6 +14,7 @@ use borrow.Author.Tests.{lt-ltb, le-ltb}
 use Rattle.base.specs.Numbers.{unusable, no-room, beyond-reach}
 use Rattle.base.specs.Said.{Said, gives, refuses, pick, andThen}
 use Rattle.base.proofs.Said.{no-value, no-refusal, same-value, same-refuses}
+use Rattle.floats.specs.Floats.{float}
 use Rattle.pitch.specs.Ratios.{fromFloat, asOctaves, dividedInto}
 use Rattle.sorted.specs.Lent.{ListTable}
 use Rattle.scl.specs.Items.{isUsable}
@@ -23,13 +24,13 @@ use Rattle.scl_tables.specs.Build.{lastOf, isBeyond, afterList}
 use Rattle.scl_tables.specs.Room.{roomOf}
 use Rattle.scl_tables.proofs.Beyond.{too-few}
 use Rattle.scl_build.specs.Builder.{counted}
-use Rattle.generate.specs.Generated.{runOf, listOf, madeOf, itemsFrom, countedOf, itemsLeft, listLeft}
+use Rattle.generate.specs.Generated.{allPushed, listOf, madeOf, itemsFrom, countedOf, itemsLeft, listLeft}
 use Rattle.generate.proofs.Items.{Fine, All, all-items, none-of, last-of}
 use Rattle.generate.proofs.Made.{made-no-room, made-refused, made-beyond, made-given, all-refused, all-given}
 use Rattle.generate.proofs.Theorems.{listed, count-is}
-use Rattle.harmonics.specs.Segment.{float, intervalOf, fractionAt, stepsOf, segmentCount}
+use Rattle.harmonics.specs.Segment.{intervalOf, fractionAt, stepsOf, segmentCount}
 use Rattle.harmonics.specs.Harmonics.{asItem, itemAt, harmonicsOf, madeHarmonics}
-use Rattle.harmonics.specs.Steps.{saidFrom, Reaches, looked, planned}
+use Rattle.harmonics.specs.Steps.{saidFrom, StepsReach, looked, planned}
 use Rattle.harmonics.specs.declared.segment.Divisions.{Divisions}
 use Rattle.harmonics.specs.declared.segment.Divisions.the-variants.{Into, Lacking}
 use Rattle.harmonics.specs.declared.segment.Fraction.{Fraction}
@@ -48,15 +49,15 @@ part-held (gives ratio) number step e = go (asOctaves ratio) e
     go (refuses a d) q = no-value q
     go (gives octaves) q = power-held (div binary64 octaves (float number)) step (is-true (fits binary64 (div binary64 octaves (float number))) (div-fits binary64 octaves (float number))) q
 
-pub steps-reach : (start size : ℕ) (divisions : Divisions) (steps : Steps) → stepsOf start size divisions ≡ gives steps → Reaches size (segmentCount size divisions) steps
-steps-reach start size Lacking steps e = subst (Reaches size size) (same-value Whole steps e) (omega arith)
+pub steps-reach : (start size : ℕ) (divisions : Divisions) (steps : Steps) → stepsOf start size divisions ≡ gives steps → StepsReach size (segmentCount size divisions) steps
+steps-reach start size Lacking steps e = subst (StepsReach size size) (same-value Whole steps e) (omega arith)
 steps-reach start size (Into number) steps e = go (andThen (fromFloat (intervalOf start size)) (λ ratio. dividedInto ratio (float number))) refl e
   where
-    go : (s : Said Float) → andThen (fromFloat (intervalOf start size)) (λ ratio. dividedInto ratio (float number)) ≡ s → andThen s (λ step. gives (Equal step)) ≡ gives steps → Reaches size number steps
-    go (gives step) h q = subst (Reaches size number) (same-value (Equal step) steps q) (part-held (fromFloat (intervalOf start size)) number step h)
+    go : (s : Said Float) → andThen (fromFloat (intervalOf start size)) (λ ratio. dividedInto ratio (float number)) ≡ s → andThen s (λ step. gives (Equal step)) ≡ gives steps → StepsReach size number steps
+    go (gives step) h q = subst (StepsReach size number) (same-value (Equal step) steps q) (part-held (fromFloat (intervalOf start size)) number step h)
     go (refuses a d) h q = no-value q
 
-module _ (type : SegmentType) (start size : ℕ) (some : 0 < start) (s-small : start < 2 ^ 16) (z-small : size < 2 ^ 16) (n : ℕ) (small : n < 2 ^ 16) (steps : Steps) (r : Reaches size n steps) where
+module _ (type : SegmentType) (start size : ℕ) (some : 0 < start) (s-small : start < 2 ^ 16) (z-small : size < 2 ^ 16) (n : ℕ) (small : n < 2 ^ 16) (steps : Steps) (r : StepsReach size n steps) where
   abbrev f : ℕ → Said Item
   f = itemAt type start size steps
 
@@ -164,7 +165,7 @@ module _ (t : ItemTable) (l : ListTable) (type : SegmentType) (start size : ℕ)
       unfolding madeHarmonics
       made-by e = rw (lt-ltb 0 start some, e)
 
-      at : {a d : ℕ} (steps : Steps) → Reaches size (segmentCount size divisions) steps → looked type start size (segmentCount size divisions) steps ≡ refuses a d
+      at : {a d : ℕ} (steps : Steps) → StepsReach size (segmentCount size divisions) steps → looked type start size (segmentCount size divisions) steps ≡ refuses a d
           → madeOf t l (segmentCount size divisions) (itemsFrom (itemAt type start size steps) 1 (segmentCount size divisions)) ≡ refuses a d
       unfolding looked
       at {a} {d} steps r e = go (ways start size some s-small z-small type (segmentCount size divisions) small steps r)
@@ -214,8 +215,8 @@ module _ (t : ItemTable) (l : ListTable) (type : SegmentType) (start size : ℕ)
 
       -- what is written is what the definition leaves
       pub plan-given : {steps : Steps} → gives steps ≡ planned type start size divisions → {x : Said ℕ} {t′ : ItemTable} {l′ : ListTable}
-          → x ≡ counted (runOf t l (saidFrom (itemAt type start size steps) 1 (segmentCount size divisions)) .builder) (listOf t l (saidFrom (itemAt type start size steps) 1 (segmentCount size divisions)))
-          → t′ ≡ runOf t l (saidFrom (itemAt type start size steps) 1 (segmentCount size divisions)) .table
+          → x ≡ counted (allPushed t l (saidFrom (itemAt type start size steps) 1 (segmentCount size divisions)) .builder) (listOf t l (saidFrom (itemAt type start size steps) 1 (segmentCount size divisions)))
+          → t′ ≡ allPushed t l (saidFrom (itemAt type start size steps) 1 (segmentCount size divisions)) .table
           → l′ ≡ afterList (listOf t l (saidFrom (itemAt type start size steps) 1 (segmentCount size divisions))) l
           → (x ≡ countedOf made) × (t′ ≡ itemsLeft made t l) × (l′ ≡ listLeft made t l)
       plan-given {steps} e {x} {t′} {l′} ex et el = go (stepsOf start size divisions) refl e
@@ -223,7 +224,7 @@ module _ (t : ItemTable) (l : ListTable) (type : SegmentType) (start size : ℕ)
           n : ℕ
           n = segmentCount size divisions
 
-          all : Reaches size n steps → stepsOf start size divisions ≡ gives steps → looked type start size n steps ≡ gives steps → (x ≡ countedOf made) × (t′ ≡ itemsLeft made t l) × (l′ ≡ listLeft made t l)
+          all : StepsReach size n steps → stepsOf start size divisions ≡ gives steps → looked type start size n steps ≡ gives steps → (x ≡ countedOf made) × (t′ ≡ itemsLeft made t l) × (l′ ≡ listLeft made t l)
           all r h q =
               let w = looked-given type start size some s-small z-small n small steps r q in
               let m = w .0 in
@@ -236,9 +237,9 @@ module _ (t : ItemTable) (l : ListTable) (type : SegmentType) (start size : ℕ)
               made-by (ap (λ (s : Said Steps). andThen s (λ steps. itemsFrom (itemAt type start size steps) 1 n)) h ∙ m .are)
               ∙ ap (λ (k : ℕ). madeOf t l k (gives is)) (sym y) ∙ made-given t l is few fit (m .usable) (m .held) b in
               let said : saidFrom (itemAt type start size steps) 1 n ≡ is = said-all (itemAt type start size steps) n 1 (m .are) in
-              let a = all-given t l g (et ∙ ap (λ (z : List Item). runOf t l z .table) said) (el ∙ ap (λ (z : List Item). afterList (listOf t l z) l) said) in (
-                ex ∙ ap (λ (z : List Item). counted (runOf t l z .builder) (listOf t l z)) said
-                    ∙ ap (counted (runOf t l is .builder)) (listed t l is few fit (m .usable) (m .held) b)
+              let a = all-given t l g (et ∙ ap (λ (z : List Item). allPushed t l z .table) said) (el ∙ ap (λ (z : List Item). afterList (listOf t l z) l) said) in (
+                ex ∙ ap (λ (z : List Item). counted (allPushed t l z .builder) (listOf t l z)) said
+                    ∙ ap (counted (allPushed t l is .builder)) (listed t l is few fit (m .usable) (m .held) b)
                     ∙ ap gives (count-is t l is few fit (m .usable) (m .held) b) ∙ a .0,
                 a .1,
                 a .2,

@@ -14,6 +14,7 @@ use borrow.Author.Tests.{lt-ltb}
 use Rattle.base.specs.Numbers.{beyond-reach}
 use Rattle.base.specs.Said.{Said, gives, refuses, andThen}
 use Rattle.base.proofs.Said.{same-value, no-value}
+use Rattle.floats.specs.Floats.{float}
 use Rattle.floats.specs.Ranges.{inReach}
 use Rattle.floats.proofs.Ranges.{Within, within-fin, reach-says}
 use Rattle.floats.proofs.Between.{round-within, over-within, within-reach, within-more}
@@ -24,9 +25,9 @@ use Rattle.pitch.specs.Ratios.{fromOctaves, repeated}
 use Rattle.scl.proofs.Items.{Ratio, octaves-ratio, powers-ratio}
 use Rattle.scl_tables.proofs.Reaches.{log-gives, octaves-sized}
 use Rattle.generate.proofs.Items.{Fine}
-use Rattle.harmonics.specs.Segment.{float, nearAt, wholeAt, harmonicOf}
+use Rattle.harmonics.specs.Segment.{nearAt, wholeAt, harmonicOf}
 use Rattle.harmonics.specs.Harmonics.{asItem, itemAt}
-use Rattle.harmonics.specs.Steps.{Reaches}
+use Rattle.harmonics.specs.Steps.{StepsReach}
 use Rattle.harmonics.specs.declared.segment.SegmentType.{SegmentType}
 use Rattle.harmonics.specs.declared.segment.SegmentType.the-variants.{Otonal, Utonal}
 use Rattle.harmonics.specs.declared.segment.Steps.{Steps}
@@ -114,7 +115,7 @@ module _ (start size : ℕ) (some : 0 < start) (s-small : start < 2 ^ 16) (z-sma
     all : ((j : ℕ) → j ≤ n → Fine (f j)) → Ways f n
     beyond : f n ≡ refuses beyond-reach 0 → ((j : ℕ) → Fine (f j) ⊎ (f j ≡ refuses beyond-reach 0)) → Ways f n
 
-  pub ways : (type : SegmentType) (n : ℕ) → n < 2 ^ 16 → (steps : Steps) → Reaches size n steps → Ways (itemAt type start size steps) n
+  pub ways : (type : SegmentType) (n : ℕ) → n < 2 ^ 16 → (steps : Steps) → StepsReach size n steps → Ways (itemAt type start size steps) n
   ways type n small Whole h = Ways.all (λ j l. whole-fine type j (le-trans l h))
   ways type n small (Equal step) h = go (inPowers (mul binary64 (logOf step) (float n))) refl
     where

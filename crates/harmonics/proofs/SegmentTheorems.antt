@@ -2,8 +2,8 @@
 use mathlib.Core.Path.{_≡_, refl}
 use mathlib.Core.Logic.{inl, inr}
 use Prim.Native.Nat.{ℕ}
-use Rattle.base.specs.Said.{Said}
-use Rattle.base.proofs.Said.{One, Split, one-result, one-plain}
+use Rattle.base.specs.Said.{Said, One}
+use Rattle.base.proofs.Said.{Split, one-result, one-plain}
 use Rattle.harmonics.specs.Answers.{saysFraction, saysSteps}
 use Rattle.harmonics.specs.Segment.{fraction, wholeAt, fractionAt, stepsOf, segmentCount}
 use Rattle.harmonics.specs.declared.segment.Divisions.{Divisions}

@@ -13,10 +13,10 @@ use lib.Ieee.Fits.{down-pos, up-pos}
 use lib.Ieee.Order.{round-mono}
 use lib.Ieee.Scale.{round-same}
 use borrow.Author.Tests.{eqb-true}
+use Rattle.floats.specs.Floats.{float}
 use Rattle.floats.proofs.Compare.{le-pos}
 use Rattle.floats.proofs.Sign.{round-neg}
 use Rattle.floats.proofs.Sized.{Sized, sized, sized-neg}
-use Rattle.harmonics.specs.Segment.{float}
 
 -- ---- so many times a float, rounded once
 times-of : (s : Bool) (m j : ℕ) (e : ℤ) (y : Float) → HasValue y false j 1 → mul binary64 (fin s m e) y ≡ round binary64 s (m * up e * j) (down e)

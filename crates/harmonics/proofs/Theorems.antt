@@ -15,8 +15,9 @@ use lib.Ieee.Scale.{round-same}
 use lib.ListN.{length}
 use borrow.Author.Tests.{ltb-true, lt-ltb}
 use Rattle.base.specs.Numbers.{unusable, no-room, beyond-reach}
-use Rattle.base.specs.Said.{Said, gives, refuses, pick, andThen}
-use Rattle.base.proofs.Said.{One, one-result, no-value, same-value}
+use Rattle.base.specs.Said.{Said, gives, refuses, pick, andThen, One}
+use Rattle.base.proofs.Said.{one-result, no-value, same-value}
+use Rattle.floats.specs.Floats.{float}
 use Rattle.floats.specs.Ranges.{inReach}
 use Rattle.explog.specs.Rules.{E, logOf}
 use Rattle.scl_tables.proofs.Reaches.{log-gives}
@@ -33,9 +34,9 @@ use Rattle.generate.specs.Generated.{listOf, madeOf, itemsFrom, countedOf, item
 use Rattle.generate.proofs.Items.{All, all-items, none-of}
 use Rattle.generate.proofs.Made.{made-refused}
 use Rattle.generate.proofs.Theorems.{made-leaves}
-use Rattle.harmonics.specs.Segment.{float, intervalOf, stepsOf, segmentCount}
+use Rattle.harmonics.specs.Segment.{intervalOf, stepsOf, segmentCount}
 use Rattle.harmonics.specs.Harmonics.{itemAt, harmonicsOf, madeHarmonics}
-use Rattle.harmonics.specs.Steps.{Reaches}
+use Rattle.harmonics.specs.Steps.{StepsReach}
 use Rattle.harmonics.specs.declared.segment.Divisions.the-variants.{Into}
 use Rattle.harmonics.specs.declared.segment.Divisions.{Divisions}
 use Rattle.harmonics.specs.declared.segment.SegmentType.{SegmentType}
@@ -101,7 +102,7 @@ module _ (t : ItemTable) (l : ListTable) (type : SegmentType) (start size : ℕ)
   abbrev n : ℕ
   n = segmentCount size divisions
 
-  said-leaves : 0 < start → n < roomOf t l → (steps : Steps) → Reaches size n steps → {is : List Item} → itemsFrom (itemAt type start size steps) 1 n ≡ gives is → madeOf t l n (gives is) ≡ gives is → Leaves t l is
+  said-leaves : 0 < start → n < roomOf t l → (steps : Steps) → StepsReach size n steps → {is : List Item} → itemsFrom (itemAt type start size steps) 1 n ≡ gives is → madeOf t l n (gives is) ≡ gives is → Leaves t l is
   said-leaves some room steps r {is} e made = go (ways start size some s-small z-small type n small steps r)
     where
       f : ℕ → Said Item
@@ -131,13 +132,13 @@ module _ (t : ItemTable) (l : ListTable) (type : SegmentType) (start size : ℕ)
       Left : Type 0
       Left = (0 < start) × (n < roomOf t l) × Leaves t l is
 
-      listed : 0 < start → n < roomOf t l → (steps : Steps) → Reaches size n steps → {is′ : List Item} → itemsFrom (itemAt type start size steps) 1 n ≡ gives is′ → (x : Said (List Entry)) → listOf t l is′ ≡ x → andThen x (λ es. gives is′) ≡ gives is → Left
+      listed : 0 < start → n < roomOf t l → (steps : Steps) → StepsReach size n steps → {is′ : List Item} → itemsFrom (itemAt type start size steps) 1 n ≡ gives is′ → (x : Said (List Entry)) → listOf t l is′ ≡ x → andThen x (λ es. gives is′) ≡ gives is → Left
       listed some room steps r {is′} h (gives es) g q =
           let same : is′ ≡ is = same-value is′ is q in
           (some, room, said-leaves some room steps r (h ∙ ap gives same) (rw (lt-ltb n (roomOf t l) room, ← same, g)))
       listed some room steps r h (refuses a d) g q = no-value q
 
-      third : 0 < start → n < roomOf t l → (steps : Steps) → Reaches size n steps → (x : Said (List Item)) → itemsFrom (itemAt type start size steps) 1 n ≡ x → andThen x (λ is′. andThen (listOf t l is′) (λ es. gives is′)) ≡ gives is → Left
+      third : 0 < start → n < roomOf t l → (steps : Steps) → StepsReach size n steps → (x : Said (List Item)) → itemsFrom (itemAt type start size steps) 1 n ≡ x → andThen x (λ is′. andThen (listOf t l is′) (λ es. gives is′)) ≡ gives is → Left
       third some room steps r (gives is′) h q = listed some room steps r h (listOf t l is′) refl q
       third some room steps r (refuses a d) h q = no-value q
 

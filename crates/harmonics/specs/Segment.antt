@@ -1,10 +1,9 @@
 -- The fractions of a segment of the harmonic series, as the Rust's `create_harmonics_scale` makes them, its f64 steps in its order
 -- with document 01's E and L. Assumes nothing.
 use Prim.Native.Nat.{ℕ, _+_, _-_}
-use lib.IntN.{pos}
-use lib.Ieee.{Float, binary64, add, mul, div, neg, lt, ofInt, toUnsigned}
+use lib.Ieee.{Float, binary64, add, mul, div, neg, lt, toUnsigned}
 use Rattle.base.specs.Said.{Said, gives, pick, andThen}
-use Rattle.floats.specs.Floats.{floor}
+use Rattle.floats.specs.Floats.{float, floor}
 use Rattle.pitch.specs.Ratios.{fromFloat, repeated, dividedInto}
 use Rattle.harmonics.specs.declared.segment.Divisions.{Divisions}
 use Rattle.harmonics.specs.declared.segment.Divisions.the-variants.{Into, Lacking}
@@ -13,10 +12,6 @@ use Rattle.harmonics.specs.declared.segment.SegmentType.{SegmentType}
 use Rattle.harmonics.specs.declared.segment.SegmentType.the-variants.{Otonal, Utonal}
 use Rattle.harmonics.specs.declared.segment.Steps.{Steps}
 use Rattle.harmonics.specs.declared.segment.Steps.the-variants.{Whole, Equal}
-
--- `f64::from` of a whole number
-abbrev pub float : ℕ → Float
-float n = ofInt binary64 (pos n)
 
 -- f64::ceil: the floor of the number turned over, turned back
 abbrev pub ceil : Float → Float

@@ -34,9 +34,9 @@ saidFrom f k zero = []
 saidFrom f k (suc n) = withSaid (f k) (saidFrom f (suc k) n)
 
 -- a segment without divisions has so many items; an equal step is a ratio
-abbrev pub Reaches : ℕ → ℕ → Steps → Type 0
-Reaches size n Whole = n ≤ size
-Reaches size n (Equal step) = (inReach step ≡ true) × (fits binary64 step ≡ true)
+abbrev pub StepsReach : ℕ → ℕ → Steps → Type 0
+StepsReach size n Whole = n ≤ size
+StepsReach size n (Equal step) = (inReach step ≡ true) × (fits binary64 step ≡ true)
 
 -- the steps where all items are said and the last one is within reach
 unfoldable pub looked : SegmentType → ℕ → ℕ → ℕ → Steps → Said Steps

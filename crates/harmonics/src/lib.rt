@@ -23,10 +23,10 @@ ghost use Rattle.scl.specs.declared.Item.the-variants.{Fraction};
 ghost use Rattle.sorted.specs.Lent.{listTable};
 ghost use Rattle.scl_tables.specs.Build.{afterList};
 ghost use Rattle.scl_build.specs.Builder.{beside, afterOne, afterAll, counted};
-ghost use Rattle.generate.specs.Generated.{runOf, listOf, countedOf, itemsLeft, listLeft};
+ghost use Rattle.generate.specs.Generated.{allPushed, listOf, countedOf, itemsLeft, listLeft};
 ghost use Rattle.harmonics.specs.Answers.{saysSteps};
 ghost use Rattle.harmonics.specs.Harmonics.{itemAt, madeHarmonics};
-ghost use Rattle.harmonics.specs.Steps.{afterSaid, saidFrom, Reaches, looked, planned};
+ghost use Rattle.harmonics.specs.Steps.{afterSaid, saidFrom, StepsReach, looked, planned};
 
 // The builder after a push: as it was where the push is refused.
 fn pushed(
@@ -128,10 +128,10 @@ fn write(
     ratio: &mut [f64],
     wraps: &mut [i32],
 ) -> SclAnswer
-    ensures { λ r. ⌜ saysScl r ≡ counted (runOf (itemTable (now (kind .entry)) (now (cents .entry)) (now (numer .entry)) (now (denom .entry))) (listTable (now (place .entry)) (now (ratio .entry)) (now (wraps .entry))) (saidFrom (itemAt «segment_type» start size steps) 1 n) .builder)
+    ensures { λ r. ⌜ saysScl r ≡ counted (allPushed (itemTable (now (kind .entry)) (now (cents .entry)) (now (numer .entry)) (now (denom .entry))) (listTable (now (place .entry)) (now (ratio .entry)) (now (wraps .entry))) (saidFrom (itemAt «segment_type» start size steps) 1 n) .builder)
         (listOf (itemTable (now (kind .entry)) (now (cents .entry)) (now (numer .entry)) (now (denom .entry))) (listTable (now (place .entry)) (now (ratio .entry)) (now (wraps .entry))) (saidFrom (itemAt «segment_type» start size steps) 1 n)) ⌝ }
     ensures { λ _. ⌜ itemTable (now (kind .exit)) (now (cents .exit)) (now (numer .exit)) (now (denom .exit))
-        ≡ runOf (itemTable (now (kind .entry)) (now (cents .entry)) (now (numer .entry)) (now (denom .entry))) (listTable (now (place .entry)) (now (ratio .entry)) (now (wraps .entry))) (saidFrom (itemAt «segment_type» start size steps) 1 n) .table ⌝ }
+        ≡ allPushed (itemTable (now (kind .entry)) (now (cents .entry)) (now (numer .entry)) (now (denom .entry))) (listTable (now (place .entry)) (now (ratio .entry)) (now (wraps .entry))) (saidFrom (itemAt «segment_type» start size steps) 1 n) .table ⌝ }
     ensures { λ _. ⌜ listTable (now (place .exit)) (now (ratio .exit)) (now (wraps .exit))
         ≡ afterList (listOf (itemTable (now (kind .entry)) (now (cents .entry)) (now (numer .entry)) (now (denom .entry))) (listTable (now (place .entry)) (now (ratio .entry)) (now (wraps .entry))) (saidFrom (itemAt «segment_type» start size steps) 1 n)) (listTable (now (place .entry)) (now (ratio .entry)) (now (wraps .entry))) ⌝ }
 {
@@ -153,7 +153,7 @@ fn write(
 
 // The steps of a segment of n items, or the 18 of its last one.
 fn look(segment_type: SegmentType, start: u16, size: u16, steps: Steps, n: u16) -> StepsAnswer
-    requires { ⌜ (0 < start) × Reaches size n steps ⌝ }
+    requires { ⌜ (0 < start) × StepsReach size n steps ⌝ }
     ensures { λ r. ⌜ saysSteps r ≡ looked «segment_type» start size n steps ⌝ }
 {
     if n == 0 {

@@ -4,8 +4,8 @@ use mathlib.Core.Logic.{inl, inr}
 use Prim.Native.Nat.{ℕ}
 use lib.IntN.{ℤ, _+ℤ_, _-ℤ_}
 use Rattle.base.specs.Integers.{floorDiv, floorMod, held}
-use Rattle.base.specs.Said.{Said}
-use Rattle.base.proofs.Said.{One, Split, one-result, one-plain}
+use Rattle.base.specs.Said.{Said, One}
+use Rattle.base.proofs.Said.{Split, one-result, one-plain}
 use Rattle.integer_math.specs.Answers.{saysI32}
 use Rattle.integer_math.specs.declared.I32Answer.the-variants as I
 

@@ -7,7 +7,8 @@ use mathlib.Core.Logic.{_↔_}
 use Prim.Native.Nat.{ℕ, _^_, _<_}
 use native.Mathlib.Omega.{arith}
 use lib.IntN.{ℤ, natAbs}
-use Rattle.base.proofs.Said.{One, one-result}
+use Rattle.base.specs.Said.{One}
+use Rattle.base.proofs.Said.{one-result}
 use Rattle.base.proofs.Apart.{one-back}
 use Rattle.integers.specs.Integer.{Int, value, none, readInt, u16Of, u32Of, i16Of, i32Of}
 use Rattle.integers.specs.IntegerText.{IntText}

@@ -8,8 +8,8 @@ use Prim.Native.Nat.{ℕ}
 use lib.IntN.{ℤ}
 use Rattle.base.specs.Integers.{inI32}
 use Rattle.base.specs.Numbers.{unusable, overflow}
-use Rattle.base.specs.Said.{Said, refuses}
-use Rattle.base.proofs.Said.{One, Split, one-result, one-plain, one-answer}
+use Rattle.base.specs.Said.{Said, refuses, One}
+use Rattle.base.proofs.Said.{Split, one-result, one-plain, one-answer}
 use Rattle.key.specs.declared.PianoKey.{PianoKey}
 use Rattle.pitch.specs.declared.Pitch.{Pitch}
 use Rattle.kbm.specs.Answers.{saysRoot, saysDegree, saysKbm}

@@ -9,7 +9,7 @@ use lib.IntN.{ℤ}
 use lib.ListN.{length}
 use borrow.Author.Tests.{le-leb}
 use Rattle.base.specs.Said.{gives}
-use Rattle.kbm_build.specs.Builder.{builderOf, withOctave, fitsTable, Built, pushedAll, Appended, built, mapping, empty}
+use Rattle.kbm_build.specs.Builder.{builderOf, withOctave, fitsTable, Built, pushedAll, Appended, built, builtMapping, empty}
 use Rattle.kbm.specs.Root.{isRoot}
 use Rattle.kbm.specs.Table.{AreI16, areEntries, entriesOf, isTable, tableOf}
 use Rattle.kbm.specs.declared.Entry.{Entry}
@@ -35,7 +35,7 @@ module _ (root : KbmRoot) (map : List ℤ) where
   empty-entries = refl
 
 -- a build where nothing is at fault
-built-gives : (b : KbmBuilder) (map : List ℤ) (z : ℤ) → fitsTable b map ≡ true → isTable (b .count) map ≡ true → isRoot (b .root) ≡ true → b .count ≤ 65535 → b .octave ≡ Given z → built b map ≡ gives (mapping b z)
+built-gives : (b : KbmBuilder) (map : List ℤ) (z : ℤ) → fitsTable b map ≡ true → isTable (b .count) map ≡ true → isRoot (b .root) ≡ true → b .count ≤ 65535 → b .octave ≡ Given z → built b map ≡ gives (builtMapping b z)
 unfolding built
 built-gives b map z f t r n o = rw (f, t, r, o, le-leb (b .count) 65535 n)
 
@@ -45,7 +45,7 @@ module _ (root : KbmRoot) (map : List ℤ) (es : List Entry) (octave : ℤ) (r :
 
   -- what was pushed one by one, and given a formal octave, is built, and its table holds the plain list
   pub built-is-plain : (left : Built) → Appended (empty root map) map es left →
-      (built (withOctave (left .builder) octave) (left .table) ≡ gives (mapping (left .builder) octave)) × (tableOf (left .builder .count) (left .table) ≡ es)
+      (built (withOctave (left .builder) octave) (left .table) ≡ gives (builtMapping (left .builder) octave)) × (tableOf (left .builder .count) (left .table) ≡ es)
   built-is-plain left a =
       let whole : left .builder .count ≡ 0 + length es = ap (λ b. b .count) (a .counted) in
       let count : left .builder .count ≡ length es = omega (arith, whole) in

@@ -9,8 +9,8 @@ use lib.Dec.{leb, ltb}
 use lib.IntN.{ℤ, pos}
 use borrow.Author.Tests.{leb-true, ltb-false}
 use Rattle.base.specs.Numbers.{unusable}
-use Rattle.base.specs.Said.{Said, gives, refuses, pick}
-use Rattle.base.proofs.Said.{One, Split, one-result, one-plain}
+use Rattle.base.specs.Said.{Said, gives, refuses, pick, One}
+use Rattle.base.proofs.Said.{Split, one-result, one-plain}
 use Rattle.key.specs.declared.PianoKey.{PianoKey}
 use Rattle.kbm.specs.Answers.{saysKbm}
 use Rattle.kbm.specs.Root.{isRoot}
@@ -21,7 +21,7 @@ use Rattle.kbm.specs.declared.KbmRoot.{KbmRoot}
 use Rattle.kbm.proofs.Entries.{and-both}
 use Rattle.kbm.proofs.Theorems.{kbm-one}
 use Rattle.kbm_build.specs.Answers.{saysBuilder}
-use Rattle.kbm_build.specs.Builder.{builderOf, withRange, withOctave, fitsTable, pushed, afterPush, isReady, kbmWith, kbmOf, built, OctaveIs, mapping, Leaves}
+use Rattle.kbm_build.specs.Builder.{builderOf, withRange, withOctave, fitsTable, pushed, afterPush, isReady, kbmWith, kbmOf, built, OctaveIs, builtMapping, Leaves}
 use Rattle.kbm_build.specs.declared.BuilderAnswer.the-variants as OfBuilder
 use Rattle.kbm_build.specs.declared.KbmBuilder.{KbmBuilder}
 use Rattle.kbm_build.specs.declared.Octave.{Octave}
@@ -31,12 +31,12 @@ use Rattle.kbm_build.specs.declared.Octave.the-variants.{Given, Missing}
 no-mapping : {n d : ℕ} {kbm : Kbm} → refuses n d ≡ gives kbm → ⊥
 no-mapping e = let no : _≡_ {A = ℕ} 0 1 = cc in omega arith
 
-with-leaves : (b : KbmBuilder) (map : List ℤ) (z : ℤ) (kbm : Kbm) → isReady b map ≡ true → OctaveIs b z → (t : Bool) → leb (b .count) 65535 ≡ t → pick t (gives (mapping b z)) (refuses 13 0) ≡ gives kbm → Leaves b map kbm
+with-leaves : (b : KbmBuilder) (map : List ℤ) (z : ℤ) (kbm : Kbm) → isReady b map ≡ true → OctaveIs b z → (t : Bool) → leb (b .count) 65535 ≡ t → pick t (gives (builtMapping b z)) (refuses 13 0) ≡ gives kbm → Leaves b map kbm
 with-leaves b map z kbm r o false t e = absurd (no-mapping e)
 with-leaves b map z kbm r o true t e =
     let tests = and-both (fitsTable b map) (isTable (b .count) map && isRoot (b .root)) r .1 in
     let parts = and-both (isTable (b .count) map) (isRoot (b .root)) tests in
-    let is : mapping b z ≡ kbm = cc in
+    let is : builtMapping b z ≡ kbm = cc in
     rw (← is) (record { table = parts .0; root = parts .1; small = leb-true (b .count) 65535 t; octave = o; same = refl })
 
 octave-leaves : (b : KbmBuilder) (map : List ℤ) (kbm : Kbm) → isReady b map ≡ true → (o : Octave) → b .octave ≡ o → kbmOf b o ≡ gives kbm → Leaves b map kbm

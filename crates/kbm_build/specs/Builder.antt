@@ -106,8 +106,8 @@ built b map = pick (isReady b map) (kbmOf b (b .octave)) (refuses unusable 0)
 abbrev pub OctaveIs : KbmBuilder → ℤ → Type 0
 OctaveIs b z = (b .octave ≡ Given z) ⊎ ((b .octave ≡ Missing) × ((b .count ≡ 0) × (z ≡ pos 0)))
 
-abbrev pub mapping : KbmBuilder → ℤ → Kbm
-mapping b z = record { root = b .root; start = b .start; end = b .end; octave = z; count = b .count }
+abbrev pub builtMapping : KbmBuilder → ℤ → Kbm
+builtMapping b z = record { root = b .root; start = b .start; end = b .end; octave = z; count = b .count }
 
 -- what an accepted build leaves: a mapping that passes every later test, with the fields that were asked for
 pub record Leaves (b : KbmBuilder) (map : List ℤ) (kbm : Kbm) : Type 0 where
@@ -115,4 +115,4 @@ pub record Leaves (b : KbmBuilder) (map : List ℤ) (kbm : Kbm) : Type 0 where
   pub root : isRoot (kbm .root) ≡ true
   pub small : kbm .count ≤ 65535
   pub octave : OctaveIs b (kbm .octave)
-  pub same : kbm ≡ mapping b (kbm .octave)
+  pub same : kbm ≡ builtMapping b (kbm .octave)

@@ -29,8 +29,8 @@ use Rattle.decimals.specs.declared.DecimalAnswer.the-variants as decimal
 use Rattle.kbm_read.specs.Language.{Required, Value, Gives, Wrong}
 
 -- the last key, where it is not the largest; the pitch, where it is in its range
-abbrev pub lastOf : ℕ → ℤ → Said ℤ
-lastOf k z = pick (leZ (pos 2147483647) z) (refuses overflow k) (gives z)
+abbrev pub lastKeyAt : ℕ → ℤ → Said ℤ
+lastKeyAt k z = pick (leZ (pos 2147483647) z) (refuses overflow k) (gives z)
 
 abbrev pub pitchOf : ℕ → Float → Said Float
 pitchOf k v = pick (inPitch v) (gives v) (refuses unusable k)
@@ -39,7 +39,7 @@ pitchOf k v = pick (inPitch v) (gives v) (refuses unusable k)
 abbrev pub readAs : (f : Required) → ℕ → List ℕ → Said (Value f)
 readAs Required.size k t = andThen (intAt int-value k (readInt false (2 ^ 16) t)) (λ z. gives (natAbs z))
 readAs Required.first k t = andThen (intAt int-value k (readInt true (2 ^ 31) t)) (λ z. gives z)
-readAs Required.last k t = andThen (intAt int-value k (readInt true (2 ^ 31) t)) (lastOf k)
+readAs Required.last k t = andThen (intAt int-value k (readInt true (2 ^ 31) t)) (lastKeyAt k)
 readAs Required.middle k t = andThen (intAt int-value k (readInt true (2 ^ 15) t)) (λ z. gives z)
 readAs Required.reference k t = andThen (intAt int-value k (readInt true (2 ^ 15) t)) (λ z. gives z)
 readAs Required.pitch k t = andThen (saysDecimal float-value k (readDecimal t)) (pitchOf k)
@@ -63,21 +63,21 @@ over-largest t z (IntText.plus s n p d h e) f = e ∙ top-key n h (rw e at f)
 over-largest t z (IntText.minus s n g p d h e) f = absurd (below-key n (rw e at f))
 
 -- the last key and the pitch, tested
-last-gives : (k : ℕ) (z v : ℤ) → lastOf k z ≡ gives v → (z ≡ v) × (z ≡ pos 2147483647 → ⊥)
+last-gives : (k : ℕ) (z v : ℤ) → lastKeyAt k z ≡ gives v → (z ≡ v) × (z ≡ pos 2147483647 → ⊥)
 last-gives k z v e = go (leZ (pos 2147483647) z) refl e
   where
     go : (b : Bool) → leZ (pos 2147483647) z ≡ b → pick b (refuses overflow k) (gives z) ≡ gives v → (z ≡ v) × (z ≡ pos 2147483647 → ⊥)
     go true p q = no-value q
     go false p q = (same-value z v q, largest z p)
 
-gives-last : (k : ℕ) (t : List ℕ) (z : ℤ) → IntText true (2 ^ 31) t z → (z ≡ pos 2147483647 → ⊥) → lastOf k z ≡ gives z
+gives-last : (k : ℕ) (t : List ℕ) (z : ℤ) → IntText true (2 ^ 31) t z → (z ≡ pos 2147483647 → ⊥) → lastKeyAt k z ≡ gives z
 gives-last k t z i n = go (leZ (pos 2147483647) z) refl
   where
     go : (b : Bool) → leZ (pos 2147483647) z ≡ b → pick b (refuses overflow k) (gives z) ≡ gives z
     go true p = absurd (n (over-largest t z i p))
     go false p = refl
 
-last-refuses : (k : ℕ) (t : List ℕ) (z : ℤ) {n d : ℕ} → IntText true (2 ^ 31) t z → lastOf k z ≡ refuses n d → (d ≡ k) × (n ≡ overflow) × IntText true (2 ^ 31) t (pos 2147483647)
+last-refuses : (k : ℕ) (t : List ℕ) (z : ℤ) {n d : ℕ} → IntText true (2 ^ 31) t z → lastKeyAt k z ≡ refuses n d → (d ≡ k) × (n ≡ overflow) × IntText true (2 ^ 31) t (pos 2147483647)
 last-refuses k t z {n} {d} i e = go (leZ (pos 2147483647) z) refl e
   where
     go : (b : Bool) → leZ (pos 2147483647) z ≡ b → pick b (refuses overflow k) (gives z) ≡ refuses n d → (d ≡ k) × (n ≡ overflow) × IntText true (2 ^ 31) t (pos 2147483647)
@@ -106,7 +106,7 @@ read-gives Required.size k t v e =
     rw (sym (ap pos n) ∙ unsigned (2 ^ 16) t (r .0) (r .1)) (r .1)
 read-gives Required.first k t v e = int-is int-value true (2 ^ 31) (lit< tt) k t v e
 read-gives Required.last k t v e =
-    let r = int-gives int-value true (2 ^ 31) (lit< tt) k t (lastOf k) e in
+    let r = int-gives int-value true (2 ^ 31) (lit< tt) k t (lastKeyAt k) e in
     let p = last-gives k (r .0) v (r .2) in
     rw (sym (p .0)) (r .1, p .1)
 read-gives Required.middle k t v e = int-is int-value true (2 ^ 15) (lit< tt) k t v e
@@ -122,7 +122,7 @@ read-gives Required.octave k t v e = int-is int-value true (2 ^ 15) (lit< tt) k 
 pub gives-read : (f : Required) (k : ℕ) (t : List ℕ) (v : Value f) → Gives f t v → readAs f k t ≡ gives v
 gives-read Required.size k t v g = gives-int int-value false (2 ^ 16) (lit< tt) k t (λ z. gives (natAbs z)) g
 gives-read Required.first k t v g = gives-int int-value true (2 ^ 31) (lit< tt) k t (λ z. gives z) g
-gives-read Required.last k t v g = gives-int int-value true (2 ^ 31) (lit< tt) k t (lastOf k) (g .0) ∙ gives-last k t v (g .0) (g .1)
+gives-read Required.last k t v g = gives-int int-value true (2 ^ 31) (lit< tt) k t (lastKeyAt k) (g .0) ∙ gives-last k t v (g .0) (g .1)
 gives-read Required.middle k t v g = gives-int int-value true (2 ^ 15) (lit< tt) k t (λ z. gives z) g
 gives-read Required.reference k t v g = gives-int int-value true (2 ^ 15) (lit< tt) k t (λ z. gives z) g
 gives-read Required.pitch k t v g = rw (gives-complete t v (g .0), g .1)
@@ -132,7 +132,7 @@ gives-read Required.octave k t v g = gives-int int-value true (2 ^ 15) (lit< tt)
 pub read-wrong : (f : Required) (k : ℕ) (t : List ℕ) (n d : ℕ) → readAs f k t ≡ refuses n d → (d ≡ k) × Wrong f t n
 read-wrong Required.size k t n d e = int-wrong int-value false (2 ^ 16) (lit< tt) k t natAbs e
 read-wrong Required.first k t n d e = int-wrong int-value true (2 ^ 31) (lit< tt) k t (λ z. z) e
-read-wrong Required.last k t n d e = elim (int-refuses int-value true (2 ^ 31) (lit< tt) k t (lastOf k) e) [
+read-wrong Required.last k t n d e = elim (int-refuses int-value true (2 ^ 31) (lit< tt) k t (lastKeyAt k) e) [
   | inl w ↦ (w .0, inl (w .1))
   | inr w ↦ let l = last-refuses k t (w .0) (w .1) (w .2) in (l .0, inr (l .1, l .2))
 ]
@@ -149,8 +149,8 @@ read-wrong Required.octave k t n d e = int-wrong int-value true (2 ^ 15) (lit< t
 pub wrong-read : (f : Required) (k : ℕ) (t : List ℕ) (n : ℕ) → Wrong f t n → readAs f k t ≡ refuses n k
 wrong-read Required.size k t n w = refuses-int int-value false (2 ^ 16) (lit< tt) k t (λ z. gives (natAbs z)) w
 wrong-read Required.first k t n w = refuses-int int-value true (2 ^ 31) (lit< tt) k t (λ z. gives z) w
-wrong-read Required.last k t n (inl w) = refuses-int int-value true (2 ^ 31) (lit< tt) k t (lastOf k) w
-wrong-read Required.last k t n (inr w) = rw (w .0) (gives-int int-value true (2 ^ 31) (lit< tt) k t (lastOf k) (w .1))
+wrong-read Required.last k t n (inl w) = refuses-int int-value true (2 ^ 31) (lit< tt) k t (lastKeyAt k) w
+wrong-read Required.last k t n (inr w) = rw (w .0) (gives-int int-value true (2 ^ 31) (lit< tt) k t (lastKeyAt k) (w .1))
 wrong-read Required.middle k t n w = refuses-int int-value true (2 ^ 15) (lit< tt) k t (λ z. gives z) w
 wrong-read Required.reference k t n w = refuses-int int-value true (2 ^ 15) (lit< tt) k t (λ z. gives z) w
 wrong-read Required.pitch k t n (inl w) = rw (w .0, refuses-complete t (w .1))

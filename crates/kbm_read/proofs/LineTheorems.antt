@@ -3,7 +3,8 @@ use mathlib.Core.Path.{refl}
 use mathlib.Core.Logic.{inl, inr}
 use mathlib.Core.List.{List}
 use Prim.Native.Nat.{ℕ}
-use Rattle.base.proofs.Said.{One, Split, one-result, one-plain}
+use Rattle.base.specs.Said.{One}
+use Rattle.base.proofs.Said.{Split, one-result, one-plain}
 use Rattle.text.specs.ReadLine.{shown}
 use Rattle.text.specs.declared.line.LineSays.{LineSays}
 use Rattle.kbm_read.specs.Steps.{saysStep, entryIn, takeMeaning, foundIn}

@@ -52,7 +52,7 @@ pub record Samples : Type 0 where
   pub nothing : readOf 8 [] ≡ refuses 2 1
 
 pub samples : Samples
-unfolding lines meaningBy meanings tokenLength widthBy run leadOf utf8Step utf8.utf8From scan magnitudeOf readSigned numerals.runOf spelled scanOf readDecimal entryIn takeToken finished walkLines givenAfter blanks round ofBits le
+unfolding lines meaningBy meanings tokenLength widthBy run leadOf utf8Step utf8.utf8From scan magnitudeOf readSigned numerals.digitRunOf spelled scanOf readDecimal entryIn takeToken finished walkLines givenAfter blanks round ofBits le
 samples =
     record {
       mapping = refl;

@@ -35,7 +35,7 @@ use Rattle.kbm_read.specs.declared.line.EntryRead.the-variants as entry
 use Rattle.kbm_read.specs.declared.line.Head.{Head}
 use Rattle.kbm_read.specs.declared.line.State.{State}
 use Rattle.kbm_read.proofs.EntryTexts.{entry-text, text-entry, no-entry, entry-none}
-use Rattle.kbm_read.proofs.Fields.{readAs, lastOf, pitchOf, read-gives, gives-read, read-wrong, wrong-read}
+use Rattle.kbm_read.proofs.Fields.{readAs, lastKeyAt, pitchOf, read-gives, gives-read, read-wrong, wrong-read}
 use Rattle.base.proofs.Said.{same-value, no-value, no-refusal, same-refuses}
 
 -- what was said, with one value more
@@ -119,7 +119,7 @@ module _ (k : ℕ) (es : List Entry) (z : length es ≡ 0) (d : Due) (start : Ea
 
   last-alike : (i : Int) (w : ℤ → Head) →
       Alike Stands (andThen (intAt int-value k i) (λ y. pick (leZ (pos 2147483647) y) (refuses overflow k) (goesOn d (w y))))
-      (andThen (andThen (intAt int-value k i) (lastOf k)) (λ a. gives (record { fields = fieldsFrom d; head = w a; es = es })))
+      (andThen (andThen (intAt int-value k i) (lastKeyAt k)) (λ a. gives (record { fields = fieldsFrom d; head = w a; es = es })))
   last-alike (value y) w = go (leZ (pos 2147483647) y)
     where
       go : (b : Bool) → Alike Stands (pick b (refuses overflow k) (goesOn d (w y))) (andThen (pick b (refuses overflow k) (gives y)) (λ a. gives (record { fields = fieldsFrom d; head = w a; es = es })))

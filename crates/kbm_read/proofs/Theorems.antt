@@ -5,7 +5,8 @@ use mathlib.Core.Logic.{inl, inr}
 use Prim.Native.Nat.{ℕ}
 use lib.IntN.{ℤ}
 use lib.ListN.{length}
-use Rattle.base.proofs.Said.{One, Split, one-result, one-plain}
+use Rattle.base.specs.Said.{One}
+use Rattle.base.proofs.Said.{Split, one-result, one-plain}
 use Rattle.kbm.specs.Answers.{saysKbm}
 use Rattle.kbm.specs.declared.KbmAnswer.the-variants as answer
 use Rattle.kbm_read.specs.Reader.{readOf, afterRead}

@@ -26,7 +26,7 @@ use Rattle.writing.specs.Lines.{line, linesText}
 use Rattle.writing.proofs.Lines.{lines-cons}
 use Rattle.writing.proofs.Room.{fitted-gives}
 use Rattle.writing.proofs.Widths.{line-under, size-line, three-under}
-use Rattle.kbm_write.specs.Export.{lastOf, middleOf, entryText, entryTexts, exportText, exportOf, Writable}
+use Rattle.kbm_write.specs.Export.{lastKeyOf, middleKeyOf, entryText, entryTexts, exportText, exportOf, Writable}
 use Rattle.kbm_write.specs.Typed.{Typed, OfTypes}
 use Rattle.kbm_write.proofs.Lines.{five-length}
 use Rattle.kbm_write.proofs.Printed.{pitch-few}
@@ -63,14 +63,14 @@ pub export-short : (kbm : Kbm) (es : List Entry) → Typed kbm es → length (ex
 export-short kbm es y =
     let size = wholeText (pos (kbm .count)) in
     let first = wholeText (kbm .start .0) in
-    let last = wholeText (lastOf kbm) in
-    let middle = wholeText (middleOf kbm) in
+    let last = wholeText (lastKeyOf kbm) in
+    let middle = wholeText (middleKeyOf kbm) in
     let reference = wholeText (kbm .root .reference .0) in
     let pitch = textOf 3 false (kbm .root .pitch .0) in
     let octave = wholeText (kbm .octave) in
     let a = four-length (size ∷ first ∷ last ∷ middle ∷ reference ∷ []) pitch octave (entryTexts es) in
     let b = five-length size first last middle reference in
-    sum a b (size-line (kbm .count) (y .size)) (key-line (kbm .start .0) (y .start)) (key-line (lastOf kbm) (y .last)) (key-line (middleOf kbm) (y .middle)) (key-line (kbm .root .reference .0) (y .reference))
+    sum a b (size-line (kbm .count) (y .size)) (key-line (kbm .start .0) (y .start)) (key-line (lastKeyOf kbm) (y .last)) (key-line (middleKeyOf kbm) (y .middle)) (key-line (kbm .root .reference .0) (y .reference))
     (pitch-line (kbm .root .pitch .0) (y .pitch)) (degree-line (kbm .octave) (y .octave)) (entry-lines es (y .degrees)) (y .counted)
   where
     sum : {all five a b c d e f g more count n : ℕ} → all ≡ five + (f + (g + more)) → five ≡ a + (b + (c + (d + e))) → a ≤ 6 → b ≤ 12 → c ≤ 12 → d ≤ 12 → e ≤ 12 → f ≤ 12 → g ≤ 7 → more ≤ 7 * n → n ≡ count
@@ -85,10 +85,10 @@ module _ (kbm : Kbm) (map : List ℤ) where
   pub export-accepted : (room : ℕ) {t : List ℕ} → exportOf kbm map room ≡ gives t → Writable kbm map × (t ≡ text)
   unfolding exportOf held fitted
   export-accepted room {t} e =
-      go (isTable (kbm .count) map) (inPitch (kbm .root .pitch .0)) (inI32 (lastOf kbm)) (inI32 (middleOf kbm)) (leb (length text) room) refl refl refl refl e
+      go (isTable (kbm .count) map) (inPitch (kbm .root .pitch .0)) (inI32 (lastKeyOf kbm)) (inI32 (middleKeyOf kbm)) (leb (length text) room) refl refl refl refl e
     where
-      go : (a b c d f : Bool) → isTable (kbm .count) map ≡ a → inPitch (kbm .root .pitch .0) ≡ b → inI32 (lastOf kbm) ≡ c → inI32 (middleOf kbm) ≡ d
-          → pick (a && b) (andThen (pick c (gives (lastOf kbm)) (refuses overflow 0)) (λ last. andThen (pick d (gives (middleOf kbm)) (refuses overflow 0)) (λ middle. pick f (gives text) (refuses no-room 0)))) (refuses unusable 0) ≡ gives t
+      go : (a b c d f : Bool) → isTable (kbm .count) map ≡ a → inPitch (kbm .root .pitch .0) ≡ b → inI32 (lastKeyOf kbm) ≡ c → inI32 (middleKeyOf kbm) ≡ d
+          → pick (a && b) (andThen (pick c (gives (lastKeyOf kbm)) (refuses overflow 0)) (λ last. andThen (pick d (gives (middleKeyOf kbm)) (refuses overflow 0)) (λ middle. pick f (gives text) (refuses no-room 0)))) (refuses unusable 0) ≡ gives t
           → Writable kbm map × (t ≡ text)
       go true true true true true h i j k q = (record { table = h; pitch = i; last = j; middle = k }, cc)
       go true true true true false h i j k q = let z : _≡_ {A = ℕ} 0 1 = cc in absurd (omega arith)

@@ -10,7 +10,7 @@ use Rattle.text.specs.ReadLine.{strictly, meanings}
 use Rattle.text.specs.Reading.{strict, Says}
 use Rattle.kbm.specs.declared.Entry.{Entry}
 use Rattle.kbm.specs.declared.Kbm.{Kbm}
-use Rattle.kbm_write.specs.Export.{keyTexts, soundTexts, lastOf, middleOf, entryTexts, exportText}
+use Rattle.kbm_write.specs.Export.{keyTexts, soundTexts, lastKeyOf, middleKeyOf, entryTexts, exportText}
 use Rattle.writing.proofs.Plain.{Words, selves, word-lines, words-say, words-found}
 use Rattle.writing.proofs.Printed.{whole-word, three-word}
 use Rattle.kbm_write.proofs.Printed.{entry-words}
@@ -19,7 +19,7 @@ module _ (kbm : Kbm) (es : List Entry) where
   -- the texts of the lines
   abbrev pub exportTexts : List (List ℕ)
   exportTexts =
-      (keyTexts (pos (kbm .count)) (kbm .start .0) (lastOf kbm) (middleOf kbm) (kbm .root .reference .0) ++ soundTexts (kbm .root .pitch .0) (kbm .octave))
+      (keyTexts (pos (kbm .count)) (kbm .start .0) (lastKeyOf kbm) (middleKeyOf kbm) (kbm .root .reference .0) ++ soundTexts (kbm .root .pitch .0) (kbm .octave))
       ++ entryTexts es
 
   pub export-words : Words exportTexts
@@ -28,9 +28,9 @@ module _ (kbm : Kbm) (es : List Entry) where
     (
       whole-word (kbm .start .0),
       (
-        whole-word (lastOf kbm),
+        whole-word (lastKeyOf kbm),
         (
-          whole-word (middleOf kbm),
+          whole-word (middleKeyOf kbm),
           (
             whole-word (kbm .root .reference .0),
             (three-word (kbm .root .pitch .0), (whole-word (kbm .octave), entry-words es)),

@@ -19,7 +19,7 @@ use Rattle.kbm.specs.declared.Entry.{Entry}
 use Rattle.kbm.specs.declared.Entry.the-variants.{Mapped, Unmapped}
 use Rattle.kbm.specs.declared.Kbm.{Kbm}
 use Rattle.kbm.proofs.Entries.{mag-i16}
-use Rattle.kbm_write.specs.Export.{lastOf, middleOf, entryTexts, exportText}
+use Rattle.kbm_write.specs.Export.{lastKeyOf, middleKeyOf, entryTexts, exportText}
 use Rattle.kbm_write.specs.Published as P
 use Rattle.kbm_write.specs.Typed.{Typed}
 use Rattle.kbm_write.proofs.ExportLines.{exportTexts, export-lines, export-words}
@@ -64,8 +64,8 @@ export-published kbm es y =
     record {
       l1 = wholeText (pos (kbm .count));
       l2 = wholeText (kbm .start .0);
-      l3 = wholeText (lastOf kbm);
-      l4 = wholeText (middleOf kbm);
+      l3 = wholeText (lastKeyOf kbm);
+      l4 = wholeText (middleKeyOf kbm);
       l5 = wholeText (kbm .root .reference .0);
       l6 = textOf 3 false (kbm .root .pitch .0);
       l7 = wholeText (kbm .octave);
@@ -75,8 +75,8 @@ export-published kbm es y =
       keeps = all-kept (exportTexts kbm es) (export-words kbm es);
       size = number (pos (kbm .count)) (omega (arith, y .size));
       first = number (kbm .start .0) (mag-in (kbm .start .0) (y .start));
-      last = number (lastOf kbm) (mag-in (lastOf kbm) (y .last));
-      middle = number (middleOf kbm) (mag-in (middleOf kbm) (y .middle));
+      last = number (lastKeyOf kbm) (mag-in (lastKeyOf kbm) (y .last));
+      middle = number (middleKeyOf kbm) (mag-in (middleKeyOf kbm) (y .middle));
       reference = number (kbm .root .reference .0) (mag-in (kbm .root .reference .0) (y .reference));
       frequency = frequency (kbm .root .pitch .0) (y .pitch);
       octave = number (kbm .octave) (omega (arith, mag-i16 (kbm .octave) (y .octave)));

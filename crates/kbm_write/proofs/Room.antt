@@ -18,7 +18,7 @@ use Rattle.writing.proofs.Lines.{lines-append}
 use Rattle.writing.proofs.Room.{Fitting, pick-fitting, then-fitting, fitted-fitting}
 use Rattle.kbm.specs.Table.{isTable, areEntries, tableOf}
 use Rattle.kbm.specs.declared.Kbm.{Kbm}
-use Rattle.kbm_write.specs.Export.{lastOf, middleOf, exportText, heldText, exportOf}
+use Rattle.kbm_write.specs.Export.{lastKeyOf, middleKeyOf, exportText, heldText, exportOf}
 
 -- keys, pitch, formal octave, entries
 module _ (keys : List (List ℕ)) (pitch octave : List ℕ) (entries : List (List ℕ)) where
@@ -50,5 +50,5 @@ unfolding exportOf
 export-fitting kbm map room =
     let t = exportText kbm (tableOf (kbm .count) map) in
     pick-fitting room (isTable (kbm .count) map && inPitch (kbm .root .pitch .0)) (heldText kbm (tableOf (kbm .count) map) room) (refuses unusable 0)
-    (then-fitting room (held (lastOf kbm)) (λ last. andThen (held (middleOf kbm)) (λ middle. fitted room t))
-    (λ last. then-fitting room (held (middleOf kbm)) (λ middle. fitted room t) (λ middle. fitted-fitting room t))) tt
+    (then-fitting room (held (lastKeyOf kbm)) (λ last. andThen (held (middleKeyOf kbm)) (λ middle. fitted room t))
+    (λ last. then-fitting room (held (middleKeyOf kbm)) (λ middle. fitted room t) (λ middle. fitted-fitting room t))) tt

@@ -8,9 +8,9 @@ use lib.IntN.{ℤ}
 use lib.ListN.{length, drop}
 use Rattle.base.specs.Integers.{held}
 use Rattle.base.specs.Numbers.{no-room}
-use Rattle.base.specs.Said.{refuses}
+use Rattle.base.specs.Said.{refuses, One}
 use Rattle.base.specs.Tables.{after}
-use Rattle.base.proofs.Said.{One, one-result}
+use Rattle.base.proofs.Said.{one-result}
 use Rattle.kbm.specs.Table.{tableOf}
 use Rattle.kbm.specs.declared.Kbm.{Kbm}
 use Rattle.writing.specs.Answers.{saysSize}

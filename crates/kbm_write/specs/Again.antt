@@ -5,10 +5,10 @@ use mathlib.Core.Bool.{true}
 use Rattle.writing.specs.Thousandths.{nearestThree}
 use Rattle.kbm.specs.Table.{inI16}
 use Rattle.kbm.specs.declared.Kbm.{Kbm}
-use Rattle.kbm_write.specs.Export.{middleOf}
+use Rattle.kbm_write.specs.Export.{middleKeyOf}
 
 -- reference and middle key fit i16, and the pitch is the f64 nearest its own three decimals
 pub record ComesBack (kbm : Kbm) : Type 0 where
   pub reference : inI16 (kbm .root .reference .0) ≡ true
-  pub middle : inI16 (middleOf kbm) ≡ true
+  pub middle : inI16 (middleKeyOf kbm) ≡ true
   pub pitch : nearestThree (kbm .root .pitch .0) ≡ kbm .root .pitch .0

@@ -27,12 +27,12 @@ abbrev pub soundTexts : Float → ℤ → List (List ℕ)
 soundTexts pitch octave = textOf 3 false pitch ∷ wholeText octave ∷ []
 
 -- the last key: the one before the end
-abbrev pub lastOf : Kbm → ℤ
-lastOf kbm = kbm .end .0 -ℤ pos 1
+abbrev pub lastKeyOf : Kbm → ℤ
+lastKeyOf kbm = kbm .end .0 -ℤ pos 1
 
 -- the middle key: so far above the reference key as the root says
-abbrev pub middleOf : Kbm → ℤ
-middleOf kbm = kbm .root .reference .0 +ℤ kbm .root .offset
+abbrev pub middleKeyOf : Kbm → ℤ
+middleKeyOf kbm = kbm .root .reference .0 +ℤ kbm .root .offset
 
 -- an entry: its degree, or `x` where it is unmapped
 abbrev pub entryText : Entry → List ℕ
@@ -56,12 +56,12 @@ mappingText size first last middle reference pitch octave entries =
 -- the bytes of a mapping with these entries
 abbrev pub exportText : Kbm → List Entry → List ℕ
 exportText kbm entries =
-    mappingText (pos (kbm .count)) (kbm .start .0) (lastOf kbm) (middleOf kbm) (kbm .root .reference .0) (kbm .root .pitch .0) (kbm .octave) entries
+    mappingText (pos (kbm .count)) (kbm .start .0) (lastKeyOf kbm) (middleKeyOf kbm) (kbm .root .reference .0) (kbm .root .pitch .0) (kbm .octave) entries
 
 -- 11 for a last or middle key outside i32; else the text, by its room
 abbrev pub heldText : Kbm → List Entry → ℕ → Said (List ℕ)
 heldText kbm entries room =
-    andThen (held (lastOf kbm)) (λ last. andThen (held (middleOf kbm)) (λ middle. fitted room (exportText kbm entries)))
+    andThen (held (lastKeyOf kbm)) (λ last. andThen (held (middleKeyOf kbm)) (λ middle. fitted room (exportText kbm entries)))
 
 -- what an export writes into so many bytes: 10 for an unusable table or pitch, before all else
 unfoldable pub exportOf : Kbm → List ℤ → ℕ → Said (List ℕ)
@@ -72,5 +72,5 @@ exportOf kbm map room =
 pub record Writable (kbm : Kbm) (map : List ℤ) : Type 0 where
   pub table : isTable (kbm .count) map ≡ true
   pub pitch : inPitch (kbm .root .pitch .0) ≡ true
-  pub last : inI32 (lastOf kbm) ≡ true
-  pub middle : inI32 (middleOf kbm) ≡ true
+  pub last : inI32 (lastKeyOf kbm) ≡ true
+  pub middle : inI32 (middleKeyOf kbm) ≡ true

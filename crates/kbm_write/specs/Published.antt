@@ -14,8 +14,8 @@ use Rattle.kbm.specs.declared.Entry.{Entry}
 use Rattle.kbm.specs.declared.Entry.the-variants.{Mapped, Unmapped}
 use Rattle.kbm.specs.declared.Kbm.{Kbm}
 use Rattle.printing.specs.PrintText.{scaledOf}
-pub use Rattle.writing.specs.PublishedLines.{Comment, Kept, Blank, Ends, Stands, Whole, Number}
-use Rattle.kbm_write.specs.Export.{lastOf, middleOf}
+pub use Rattle.writing.specs.PublishedLines.{PublishedComment, Kept, Blank, Ends, Stands, Whole, Number}
+use Rattle.kbm_write.specs.Export.{lastKeyOf, middleKeyOf}
 
 -- a frequency of n / 10^k Hz, "as 440.0"
 pub record Hertz (t : List ℕ) (n k : ℕ) : Type 0 where
@@ -95,8 +95,8 @@ publishedOf kbm es =
     record {
       size = kbm .count;
       first = kbm .start .0;
-      last = lastOf kbm;
-      middle = middleOf kbm;
+      last = lastKeyOf kbm;
+      middle = middleKeyOf kbm;
       reference = kbm .root .reference .0;
       hertz = scaledOf 3 (kbm .root .pitch .0);
       places = 3;

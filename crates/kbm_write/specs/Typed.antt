@@ -10,7 +10,7 @@ use Rattle.floats.specs.Ranges.{inPitch}
 use Rattle.kbm.specs.Table.{inI16, AreI16}
 use Rattle.kbm.specs.declared.Entry.{Entry}
 use Rattle.kbm.specs.declared.Kbm.{Kbm}
-use Rattle.kbm_write.specs.Export.{lastOf, middleOf}
+use Rattle.kbm_write.specs.Export.{lastKeyOf, middleKeyOf}
 
 -- keys and octave are of their types, the pitch is usable, last and middle key are keys, and the entries are as many as the count
 pub record Typed (kbm : Kbm) (es : List Entry) : Type 0 where
@@ -20,8 +20,8 @@ pub record Typed (kbm : Kbm) (es : List Entry) : Type 0 where
   pub pitch : inPitch (kbm .root .pitch .0) ≡ true
   pub octave : inI16 (kbm .octave) ≡ true
   pub size : kbm .count ≤ 65535
-  pub last : inI32 (lastOf kbm) ≡ true
-  pub middle : inI32 (middleOf kbm) ≡ true
+  pub last : inI32 (lastKeyOf kbm) ≡ true
+  pub middle : inI32 (middleKeyOf kbm) ≡ true
   pub degrees : AreI16 es
   pub counted : length es ≡ kbm .count
 

@@ -2,7 +2,8 @@
 use mathlib.Core.Path.{refl}
 use mathlib.Core.Logic.{inl, inr}
 use lib.IntN.{ℤ}
-use Rattle.base.proofs.Said.{One, Split, one-result, one-plain}
+use Rattle.base.specs.Said.{One}
+use Rattle.base.proofs.Said.{Split, one-result, one-plain}
 use Rattle.integer_math.specs.Answers.{saysI32}
 use Rattle.integer_math.proofs.Theorems.{i32-one}
 use Rattle.key.specs.Answers.{saysKey, saysMidi}

@@ -3,8 +3,8 @@ use mathlib.Core.Bool.{false}
 use mathlib.Core.List.{List}
 use Prim.Native.Nat.{ℕ}
 use lib.Ieee.{Float}
-use Rattle.base.specs.Said.{pick}
-use Rattle.base.proofs.Said.{One, one-result}
+use Rattle.base.specs.Said.{pick, One}
+use Rattle.base.proofs.Said.{one-result}
 use Rattle.floats.specs.Answers.{saysFloat}
 use Rattle.floats.proofs.Theorems.{float-one}
 use Rattle.printing.specs.declared.Placed.the-variants.{Full}

@@ -7,9 +7,9 @@ use native.Mathlib.Omega.{arith}
 use lib.IntN.{ℤ}
 use borrow.Author.Tests.{ne-eqb}
 use Rattle.base.specs.Integers.{Divides, floorDiv, floorMod}
-use Rattle.base.specs.Said.{gives, refuses}
+use Rattle.base.specs.Said.{gives, refuses, One}
 use Rattle.base.proofs.Division.{floor-divides, divides-one}
-use Rattle.base.proofs.Said.{One, Split, one-result, one-plain, one-answer}
+use Rattle.base.proofs.Said.{Split, one-result, one-plain, one-answer}
 use Rattle.integer_math.specs.Answers.{saysI32}
 use Rattle.integer_math.proofs.Theorems.{i32-one}
 use Rattle.math.specs.Answers.{saysU32, saysDivision}

@@ -8,7 +8,7 @@ use lib.ListN.{length, getD, drop, length-drop}
 use lib.Dec.{ltb, eqb}
 use borrow.Author.Tests.{ltb-true}
 use Rattle.base.specs.Said.{pick}
-use Rattle.numerals.specs.Scan.{grownBy, countedBy, runOf, runAt, afterSign, afterDot, markAt}
+use Rattle.numerals.specs.Scan.{grownBy, countedBy, digitRunOf, runAt, afterSign, afterDot, markAt}
 use Rattle.numerals.specs.declared.Run.{Run}
 use Rattle.numerals.proofs.Runs.{grown-small, counted-le}
 use Rattle.integers.specs.Digits.{isDigit}
@@ -22,13 +22,13 @@ pub record Bounded (at length : ℕ) (r : Run) : Type 0 where
   pub counts : r .significant ≤ r .at
   pub small : r .n < 10 ^ 18
 
-run-bounds : (n count at : ℕ) (s : List ℕ) → n < 10 ^ 18 → count ≤ at → Bounded at (at + length s) (runOf n count at s)
-unfolding runOf
+run-bounds : (n count at : ℕ) (s : List ℕ) → n < 10 ^ 18 → count ≤ at → Bounded at (at + length s) (digitRunOf n count at s)
+unfolding digitRunOf
 run-bounds n count at [] h g = record { starts = omega arith; ends = omega arith; counts = g; small = h }
 run-bounds n count at (b ∷ s) h g = go (isDigit b) refl (run-bounds (grownBy n (b - 48)) (countedBy n (b - 48) count) (at + 1) s)
   where
-    go : (t : Bool) → isDigit b ≡ t → (grownBy n (b - 48) < 10 ^ 18 → countedBy n (b - 48) count ≤ at + 1 → Bounded (at + 1) (at + 1 + length s) (runOf (grownBy n (b - 48)) (countedBy n (b - 48) count) (at + 1) s))
-        → Bounded at (at + suc (length s)) (pick t (runOf (grownBy n (b - 48)) (countedBy n (b - 48) count) (at + 1) s) (record { n = n; significant = count; at = at }))
+    go : (t : Bool) → isDigit b ≡ t → (grownBy n (b - 48) < 10 ^ 18 → countedBy n (b - 48) count ≤ at + 1 → Bounded (at + 1) (at + 1 + length s) (digitRunOf (grownBy n (b - 48)) (countedBy n (b - 48) count) (at + 1) s))
+        → Bounded at (at + suc (length s)) (pick t (digitRunOf (grownBy n (b - 48)) (countedBy n (b - 48) count) (at + 1) s) (record { n = n; significant = count; at = at }))
     go true e ih =
         let i = ih (grown-small n (b - 48) h (omega (arith, digit-is b e))) (omega (arith, counted-le n (b - 48) count)) in
         record { starts = omega (arith, i .starts); ends = omega (arith, i .ends); counts = i .counts; small = i .small }

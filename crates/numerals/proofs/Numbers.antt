@@ -11,7 +11,7 @@ use borrow.Author.Tests.{lt-ltb, le-ltb, ltb-true, eq-eqb, ne-eqb, eqb-true, eqb
 use Rattle.base.specs.Said.{pick}
 use Rattle.numerals.specs.FloatText.{DottedDigits, Exponent}
 use Rattle.integers.specs.Digits.{AllDigits}
-use Rattle.numerals.specs.Scan.{runOf, runAt, afterSign, afterDot, markAt, digitsToEnd, exponentAt, scaled as withExponent, endedAt, numberAt}
+use Rattle.numerals.specs.Scan.{digitRunOf, runAt, afterSign, afterDot, markAt, digitsToEnd, exponentAt, scaled as withExponent, endedAt, numberAt}
 use Rattle.numerals.specs.declared.Run.{Run}
 use Rattle.numerals.specs.declared.Numeral.{Numeral}
 use Rattle.numerals.specs.declared.Scanned.the-variants as scanned
@@ -24,7 +24,7 @@ use Rattle.integers.specs.Digits.{isDigit}
 -- where a run over digits ends
 run-there : {s : List ℕ} {at : ℕ} (n count : ℕ) (ds r : List ℕ) → At s at (ds ++ r) → AllDigits ds → Stops r →
     runAt s n count at ≡ record { n = grownAll n ds; significant = countedAll n count ds; at = at + length ds }
-run-there {s} {at} n count ds r h d e = ap (runOf n count at) (h .rest) ∙ run-over n count at ds r d e
+run-there {s} {at} n count ds r h d e = ap (digitRunOf n count at) (h .rest) ∙ run-over n count at ds r d e
 
 digits-sign : (s : List ℕ) → AllDigits s → NoSign s
 digits-sign [] d = tt

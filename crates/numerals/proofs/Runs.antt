@@ -11,7 +11,7 @@ use lib.Seq.{drop-cons}
 use lib.Dec.{ltb, eqb}
 use borrow.Author.Tests.{lt-ltb, le-ltb, ltb-true, eq-eqb, ne-eqb}
 use Rattle.base.specs.Said.{pick}
-use Rattle.numerals.specs.Scan.{grownBy, countedBy, runOf, runAt, lowered, spelled, afterSign, afterDot, markAt, exponentAt, afterPart, numberAt}
+use Rattle.numerals.specs.Scan.{grownBy, countedBy, digitRunOf, runAt, lowered, spelled, afterSign, afterDot, markAt, exponentAt, afterPart, numberAt}
 use Rattle.numerals.specs.declared.Run.{Run}
 use Rattle.integers.specs.Digits.{isDigit}
 
@@ -33,16 +33,16 @@ counted-le n d count = go (eqb (n + d) 0)
 
 module _ (n count : ℕ) (s : List ℕ) (i : ℕ) where
   pub run-step : i < length s → isDigit (getD s i 0) ≡ true →
-      runOf n count i (drop i s) ≡ runOf (grownBy n (getD s i 0 - 48)) (countedBy n (getD s i 0 - 48) count) (i + 1) (drop (i + 1) s)
-  unfolding runOf
+      digitRunOf n count i (drop i s) ≡ digitRunOf (grownBy n (getD s i 0 - 48)) (countedBy n (getD s i 0 - 48) count) (i + 1) (drop (i + 1) s)
+  unfolding digitRunOf
   run-step h d = rw (drop-cons s i 0 h, d, add-one i)
 
-  pub run-stop : i < length s → isDigit (getD s i 0) ≡ false → runOf n count i (drop i s) ≡ record { n = n; significant = count; at = i }
-  unfolding runOf
+  pub run-stop : i < length s → isDigit (getD s i 0) ≡ false → digitRunOf n count i (drop i s) ≡ record { n = n; significant = count; at = i }
+  unfolding digitRunOf
   run-stop h d = rw (drop-cons s i 0 h, d)
 
-  pub run-end : length s ≤ i → runOf n count i (drop i s) ≡ record { n = n; significant = count; at = i }
-  unfolding runOf
+  pub run-end : length s ≤ i → digitRunOf n count i (drop i s) ≡ record { n = n; significant = count; at = i }
+  unfolding digitRunOf
   run-end h = rw (drop-of-length-le s h)
 
 -- a text of another length is not the word

@@ -11,7 +11,7 @@ use borrow.Author.Tests.{lt-ltb, ne-eqb, eqb-true, eqb-false}
 use Rattle.base.specs.Said.{pick}
 use Rattle.numerals.specs.FloatText.{fromNonzero}
 use Rattle.integers.specs.Digits.{AllDigits, decimal}
-use Rattle.numerals.specs.Scan.{grownBy, countedBy, runOf}
+use Rattle.numerals.specs.Scan.{grownBy, countedBy, digitRunOf}
 use Rattle.integers.proofs.Tens.{ten-le}
 use Rattle.integers.specs.Digits.{isDigit}
 use Rattle.integers.proofs.Digits.{digit-yes, digit-is}
@@ -40,8 +40,8 @@ Stops (b ∷ s) = isDigit b ≡ false
 
 -- a run over digits, up to what is none
 pub run-over : (n count at : ℕ) (ds r : List ℕ) → AllDigits ds → Stops r →
-    runOf n count at (ds ++ r) ≡ record { n = grownAll n ds; significant = countedAll n count ds; at = at + length ds }
-unfolding runOf
+    digitRunOf n count at (ds ++ r) ≡ record { n = grownAll n ds; significant = countedAll n count ds; at = at + length ds }
+unfolding digitRunOf
 run-over n count at [] [] d h = let z : at ≡ at + 0 = omega arith in ap (λ (i : ℕ). record { n = n; significant = count; at = i }) z
 run-over n count at [] (b ∷ r) d h = let z : at ≡ at + 0 = omega arith in rw h (ap (λ (i : ℕ). record { n = n; significant = count; at = i }) z)
 run-over n count at (b ∷ ds) r d h =

@@ -21,14 +21,14 @@ abbrev pub countedBy : ℕ → ℕ → ℕ → ℕ
 countedBy n d count = pick (eqb (n + d) 0) count (count + 1)
 
 -- the digits at the start of a text that stands at `at`, after the number n of `count` digits
-unfoldable pub runOf : ℕ → ℕ → ℕ → List ℕ → Run
-runOf n count at [] = record { n = n; significant = count; at = at }
-runOf n count at (b ∷ s) =
-    pick (isDigit b) (runOf (grownBy n (b - 48)) (countedBy n (b - 48) count) (at + 1) s) (record { n = n; significant = count; at = at })
+unfoldable pub digitRunOf : ℕ → ℕ → ℕ → List ℕ → Run
+digitRunOf n count at [] = record { n = n; significant = count; at = at }
+digitRunOf n count at (b ∷ s) =
+    pick (isDigit b) (digitRunOf (grownBy n (b - 48)) (countedBy n (b - 48) count) (at + 1) s) (record { n = n; significant = count; at = at })
 
 -- the digits from `at` on
 abbrev pub runAt : List ℕ → ℕ → ℕ → ℕ → Run
-runAt s n count at = runOf n count at (drop at s)
+runAt s n count at = digitRunOf n count at (drop at s)
 
 -- a letter in lower case; any other byte as it is
 abbrev pub lowered : ℕ → ℕ

@@ -3,8 +3,8 @@ use mathlib.Core.Path.{refl}
 use mathlib.Core.Logic.{inl, inr}
 use mathlib.Core.Bool.{Bool}
 use lib.Ieee.{Float}
-use Rattle.base.specs.Said.{Said}
-use Rattle.base.proofs.Said.{One, Split, one-result, one-plain, one-answer}
+use Rattle.base.specs.Said.{Said, One}
+use Rattle.base.proofs.Said.{Split, one-result, one-plain, one-answer}
 use Rattle.floats.specs.Answers.{saysFloat}
 use Rattle.floats.specs.Floats.{oneF}
 use Rattle.floats.proofs.Theorems.{float-one}

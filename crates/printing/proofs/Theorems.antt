@@ -5,7 +5,8 @@ use mathlib.Core.List.{List}
 use Prim.Native.Nat.{ℕ}
 use lib.IntN.{ℤ, pos}
 use lib.Ieee.{Float}
-use Rattle.base.proofs.Said.{One, one-result}
+use Rattle.base.specs.Said.{One}
+use Rattle.base.proofs.Said.{one-result}
 use Rattle.printing.specs.PrintText.{placed, written, textOf, wholeText}
 
 -- the writers: of the place reached, and of the bytes left behind

@@ -10,12 +10,12 @@ use Rattle.floats.specs.Floats.{abs}
 use Rattle.floats.proofs.Ranges.{and-true}
 use Rattle.floats.proofs.Compare.{le-pos}
 use Rattle.printing.specs.PrintText.{limited}
-use Rattle.probes.specs.Probes.{printable}
+use Rattle.probes.specs.Probes.{printableTo}
 
 abbrev most : Float
 most = ofBits binary64 0x4340_0000_0000_0000
 
-both : (x : Float) (d : ℕ) → printable x d ≡ true → T (le (abs x) most) × T (leb d 4)
+both : (x : Float) (d : ℕ) → printableTo x d ≡ true → T (le (abs x) most) × T (leb d 4)
 both x d h = and-true (le (abs x) most) (leb d 4) h
 
 size-limited : (x : Float) → T (le (abs x) most) → T (limited x)
@@ -25,8 +25,8 @@ size-limited (inf s) t = absurd t
 size-limited (fin s m e) t =
     le→leb (m * up e) (2 ^ 53 * down e) (le-trans (le-of-eq (sym (mul-one (m * up e)))) (le-pos m 1 e (pos 53) t))
 
-pub is-limited : (x : Float) (d : ℕ) → printable x d ≡ true → T (limited x)
+pub is-limited : (x : Float) (d : ℕ) → printableTo x d ≡ true → T (limited x)
 is-limited x d h = size-limited x (both x d h .0)
 
-pub few : (x : Float) (d : ℕ) → printable x d ≡ true → d ≤ 4
+pub few : (x : Float) (d : ℕ) → printableTo x d ≡ true → d ≤ 4
 few x d h = leb→le d 4 (both x d h .1)

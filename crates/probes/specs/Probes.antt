@@ -57,10 +57,10 @@ decimalValue Unsupported old = old
 decimalValue (Is v) old = v
 
 -- the next place, or 2^64 - 1, which none is
-abbrev pub placeOf : Placed → ℕ
-placeOf (At next) = next
-placeOf Full = 2 ^ 64 - 1
+abbrev pub nextOf : Placed → ℕ
+nextOf (At next) = next
+nextOf Full = 2 ^ 64 - 1
 
 -- |x| is at most 2^53, and there are at most four decimals
-abbrev pub printable : Float → ℕ → Bool
-printable x d = le (abs x) (ofBits binary64 0x4340_0000_0000_0000) && leb d 4
+abbrev pub printableTo : Float → ℕ → Bool
+printableTo x d = le (abs x) (ofBits binary64 0x4340_0000_0000_0000) && leb d 4

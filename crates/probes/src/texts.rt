@@ -18,7 +18,7 @@ ghost use Rattle.decimals.specs.DecimalScan.{readDecimal};
 ghost use Rattle.printing.specs.PrintText.{textOf, wholeText, placed, written};
 ghost use Rattle.text.specs.Cut.{cut};
 ghost use Rattle.text.specs.ReadLine.{lineOf, strictly};
-ghost use Rattle.probes.specs.Probes.{integerOf, lineKind, lineStart, lineEnd, lineToken, decimalKind, decimalValue, placeOf, printable};
+ghost use Rattle.probes.specs.Probes.{integerOf, lineKind, lineStart, lineEnd, lineToken, decimalKind, decimalValue, nextOf, printableTo};
 
 // What no integer of 32 bits is, and what no place is.
 const NONE: i64 = 4294967296;
@@ -168,7 +168,7 @@ pub extern "C" fn probe_read_decimal(s: &[u8], value: &mut f64) -> u32
 
 // The next place, or one that is none.
 fn place(answer: Placed) -> usize
-    ensures { λ r. ⌜ r ≡ placeOf answer ⌝ }
+    ensures { λ r. ⌜ r ≡ nextOf answer ⌝ }
 {
     match answer {
         Placed::At(next) => next,
@@ -178,7 +178,7 @@ fn place(answer: Placed) -> usize
 
 // Whether a number of at most 2^53 is to be written with at most four decimals.
 pub fn is_printable(x: f64, decimals: u64) -> bool
-    ensures { λ r. ⌜ r ≡ printable x decimals ⌝ }
+    ensures { λ r. ⌜ r ≡ printableTo x decimals ⌝ }
 {
     if floats::abs_of(x) <= 9007199254740992.0 {
         return decimals <= 4;
@@ -195,8 +195,8 @@ pub extern "C" fn probe_write_fixed(
     out: &mut [u8],
     at: usize,
 ) -> usize
-    ensures { λ r. ⌜ r ≡ placeOf (pick (printable x decimals) (placed (now (out .entry)) at (textOf decimals plus x)) Full) ⌝ }
-    ensures { λ r. ⌜ now (out .exit) ≡ pick (printable x decimals) (written (now (out .entry)) at (textOf decimals plus x)) (now (out .entry)) ⌝ }
+    ensures { λ r. ⌜ r ≡ nextOf (pick (printableTo x decimals) (placed (now (out .entry)) at (textOf decimals plus x)) Full) ⌝ }
+    ensures { λ r. ⌜ now (out .exit) ≡ pick (printableTo x decimals) (written (now (out .entry)) at (textOf decimals plus x)) (now (out .entry)) ⌝ }
 {
     if is_printable(x, decimals) {
         return place(printing::write_fixed(x, decimals, plus, out, at));
@@ -206,7 +206,7 @@ pub extern "C" fn probe_write_fixed(
 
 #[no_mangle]
 pub extern "C" fn probe_write_i32(z: i32, out: &mut [u8], at: usize) -> usize
-    ensures { λ r. ⌜ r ≡ placeOf (placed (now (out .entry)) at (wholeText z)) ⌝ }
+    ensures { λ r. ⌜ r ≡ nextOf (placed (now (out .entry)) at (wholeText z)) ⌝ }
     ensures { λ r. ⌜ now (out .exit) ≡ written (now (out .entry)) at (wholeText z) ⌝ }
 {
     place(printing::write_i32(z, out, at))
@@ -214,7 +214,7 @@ pub extern "C" fn probe_write_i32(z: i32, out: &mut [u8], at: usize) -> usize
 
 #[no_mangle]
 pub extern "C" fn probe_write_u32(n: u32, out: &mut [u8], at: usize) -> usize
-    ensures { λ r. ⌜ r ≡ placeOf (placed (now (out .entry)) at (wholeText (pos n))) ⌝ }
+    ensures { λ r. ⌜ r ≡ nextOf (placed (now (out .entry)) at (wholeText (pos n))) ⌝ }
     ensures { λ r. ⌜ now (out .exit) ≡ written (now (out .entry)) at (wholeText (pos n)) ⌝ }
 {
     place(printing::write_u32(n, out, at))

@@ -25,12 +25,12 @@ use Rattle.scl_tables.specs.Room.{roomOf}
 use Rattle.scl_tables.proofs.Theorems.{list-leaves}
 use Rattle.scl_build.specs.Builder.{Built, beside, state, afterNew, built, counted}
 use Rattle.scl_build.specs.declared.SclBuilder.{SclBuilder}
-use Rattle.generate.specs.Generated.{runOf, listOf, madeOf, countedOf, itemsLeft, listLeft}
+use Rattle.generate.specs.Generated.{allPushed, listOf, madeOf, countedOf, itemsLeft, listLeft}
 use Rattle.generate.proofs.Made.{implicit-held, all-usable, some-list, made-no-room, made-beyond, made-given, all-given}
 use Rattle.generate.proofs.Theorems.{listed, count-is}
 use Rattle.rank2.specs.Asked.{SomeCents}
 use Rattle.rank2.specs.Notes.{pitchAt, highestFrom, ascending}
-use Rattle.rank2.specs.Rank2.{noteCount, isTemperament, ascendingOf, pushedAs, itemsOf, temperamentOf, madeRank2}
+use Rattle.rank2.specs.Rank2.{noteCount, isTemperament, ascendingRatios, pushedAs, ascendingItems, temperamentOf, madeRank2}
 use Rattle.rank2.specs.Steps.{beyondOf, afterRatios, ranOf, Behind}
 use Rattle.rank2.proofs.Ascends.{lastAfter}
 use Rattle.rank2.proofs.Given.{log-said, reach}
@@ -45,7 +45,7 @@ module _ (f : ℕ → Said Float) (n : ℕ) (v : Values f 0 n) where
   pub pushed-of : Pushed (ascending (v .values))
   pushed-of = all-items (ascending (v .values)) (sort-ranged (v .values) (v .ranged))
 
-  pub items-said : itemsOf f n ≡ gives (pushed-of .items)
+  pub items-said : ascendingItems f n ≡ gives (pushed-of .items)
   items-said = ap (λ (s : Said (List Float)). andThen s pushedAs) (ascending-said f n v) ∙ pushed-of .are
 
   pub items-count : length (pushed-of .items) ≡ n
@@ -79,7 +79,7 @@ module _ (f : ℕ → Said Float) (n : ℕ) (v : Values f 0 n) where
       fit = omega (arith, items-count, room)
 
       abbrev made : Said (List Item)
-      made = madeOf t l n (itemsOf f n)
+      made = madeOf t l n (ascendingItems f n)
 
       made-by : made ≡ madeOf t l (length is) (gives is)
       made-by = ap (madeOf t l n) items-said ∙ ap (λ (k : ℕ). madeOf t l k (gives is)) (sym items-count)
@@ -107,8 +107,8 @@ module _ (f : ℕ → Said Float) (n : ℕ) (v : Values f 0 n) where
         entries-count = list-leaves (implicit ∷ is) (omega arith) (implicit-held, pushed-of .held) (all-usable t l is few fit (pushed-of .usable) (pushed-of .held)) entries (some-list t l is few fit (pushed-of .usable) (pushed-of .held) .1) .size
 
         -- the notes stand in the list's first places, the rest is as it was: the run over them is the definition's
-        module _ {l′ : ListTable} (b : Behind n l l′) (notes : gives (take n (l′ .ratios)) ≡ ascendingOf f n) where
-          ran-is : ranOf t l′ n ≡ runOf t l is
+        module _ {l′ : ListTable} (b : Behind n l l′) (notes : gives (take n (l′ .ratios)) ≡ ascendingRatios f n) where
+          ran-is : ranOf t l′ n ≡ allPushed t l is
           ran-is =
               let q : take n (l′ .ratios) ≡ ascending (v .values) = same-value (take n (l′ .ratios)) (ascending (v .values)) (notes ∙ ascending-said f n v) in
               ap (λ (k : ℕ). afterRatios (beside (state k 0) (afterNew t l′)) (take n (l′ .ratios))) (same-room b t)
@@ -117,7 +117,7 @@ module _ (f : ℕ → Said Float) (n : ℕ) (v : Values f 0 n) where
               ∙ ratios-run (ascending (v .values)) (beside (state (roomOf t l) 0) (afterNew t l)) (pushed-of .are)
 
           built-is : built (ranOf t l′ n .builder) (ranOf t l′ n .table) l′ ≡ gives entries
-          built-is = ap (λ (z : Built). built (z .builder) (z .table) l′) ran-is ∙ same-built b (runOf t l is .builder) (runOf t l is .table) ∙ listed-is
+          built-is = ap (λ (z : Built). built (z .builder) (z .table) l′) ran-is ∙ same-built b (allPushed t l is .builder) (allPushed t l is .table) ∙ listed-is
 
           pub make-all : {x : Said ℕ} {t″ : ItemTable} {l″ : ListTable}
               → x ≡ counted (ranOf t l′ n .builder) (built (ranOf t l′ n .builder) (ranOf t l′ n .table) l′)
@@ -201,7 +201,7 @@ module _ (t : ItemTable) (l : ListTable) (generator : Float) (positive negative 
       unfolding madeRank2
       no-place r = rw (le-leb n 65535 few, h) (made-no-room t l n (temperamentOf generator positive negative period) r)
 
-      pub call-is : {g p : Float} → gives g ≡ asCents generator → gives p ≡ asCents period → madeOf t l n (itemsOf (pitchAt period g p positive) n) ≡ call
+      pub call-is : {g p : Float} → gives g ≡ asCents generator → gives p ≡ asCents period → madeOf t l n (ascendingItems (pitchAt period g p positive) n) ≡ call
       unfolding madeRank2
       call-is eg ep = rw (le-leb n 65535 few, h, ← eg, ← ep)
 

@@ -9,6 +9,7 @@ use lib.Ieee.{Float, binary64, fits, mul, neg, ofInt, ofBits}
 use borrow.Author.Tests.{le-leb, lt-leb, eq-eqb, ne-eqb}
 use Rattle.base.specs.Said.{Said, gives, refuses, pick}
 use Rattle.base.proofs.Said.{same-value, no-refusal}
+use Rattle.floats.specs.Floats.{float}
 use Rattle.floats.specs.Ranges.{inReach, inGenerator}
 use Rattle.floats.proofs.Between.{within-more, within-reach, within-generator}
 use Rattle.floats.proofs.Ranges.{generator-says}
@@ -19,7 +20,7 @@ use Rattle.pitch.specs.Ratios.{twelveF, hundredF, asCents, fromCents}
 use Rattle.scl.specs.Items.{isUsableCents}
 use Rattle.scl.proofs.Items.{cents-ratio}
 use Rattle.rank2.specs.Asked.{SomeCents}
-use Rattle.rank2.specs.Notes.{float, generationAt, boundedAt, noteAt, pitchAt}
+use Rattle.rank2.specs.Notes.{generationAt, boundedAt, noteAt, pitchAt}
 use Rattle.rank2.proofs.Sizes.{mul-sized, usable-sized, sized-usable, bounded-sized}
 
 -- ---- cents

@@ -2,8 +2,8 @@
 use mathlib.Core.Path.{_≡_, sym, _∙_}
 use Prim.Native.Nat.{ℕ}
 use lib.Ieee.{Float}
-use Rattle.base.specs.Said.{Said, gives}
-use Rattle.base.proofs.Said.{One, same-value}
+use Rattle.base.specs.Said.{Said, gives, One}
+use Rattle.base.proofs.Said.{same-value}
 use Rattle.pitch.specs.Ratios.{asCents}
 use Rattle.rank2.specs.Notes.{noteAt, pitchAt, ratiosFrom, highestFrom}
 

@@ -13,7 +13,7 @@ use Rattle.scl.specs.Table.{ItemTable}
 use Rattle.generate.specs.Generated.{countedOf}
 use Rattle.generate.proofs.Numbers.{made-numbered, counted-numbered}
 use Rattle.rank2.specs.Notes.{boundedAt, pitchAt, ratiosFrom, ascending}
-use Rattle.rank2.specs.Rank2.{noteCount, isTemperament, ascendingOf, pushedAs, madeRank2}
+use Rattle.rank2.specs.Rank2.{noteCount, isTemperament, ascendingRatios, pushedAs, madeRank2}
 
 pitch-numbered : (ratio generator period : Float) (positive i : ℕ) → Numbered (pitchAt ratio generator period positive i)
 pitch-numbered ratio generator period positive i = numbered-pick (eqb i 0) (Numbered.value ratio) (from-octaves-numbered (div binary64 (boundedAt generator period positive i) centsF))
@@ -23,8 +23,8 @@ unfolding ratiosFrom
 ratios-numbered f h zero k = Numbered.value []
 ratios-numbered f h (suc n) k = numbered-then (h k) (λ r. numbered-then (ratios-numbered f h n (suc k)) (λ rs. Numbered.value (r ∷ rs)))
 
-ascending-numbered : (f : ℕ → Said Float) → ((i : ℕ) → Numbered (f i)) → (n : ℕ) → Numbered (ascendingOf f n)
-unfolding ascendingOf
+ascending-numbered : (f : ℕ → Said Float) → ((i : ℕ) → Numbered (f i)) → (n : ℕ) → Numbered (ascendingRatios f n)
+unfolding ascendingRatios
 ascending-numbered f h n = numbered-then (ratios-numbered f h n 0) (λ rs. Numbered.value (ascending rs))
 
 pushed-numbered : (rs : List Float) → Numbered (pushedAs rs)

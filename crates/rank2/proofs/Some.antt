@@ -14,7 +14,7 @@ use lib.Ieee.Positive.{positive, above, above-of-le}
 use borrow.Author.Tests.{ne-eqb}
 use Rattle.base.specs.Said.{gives}
 use Rattle.base.proofs.Said.{same-value}
-use Rattle.explog.specs.Rules.{L, logOf, logAt, ratioOf}
+use Rattle.explog.specs.Rules.{L, logOf, logAt, octavesOf}
 use Rattle.explog.specs.Log.{bOf}
 use Rattle.explog.proofs.Reach.{log-sized}
 use Rattle.pitch.specs.Ratios.{twelveF, hundredF, asCents}
@@ -62,8 +62,8 @@ some-product i d x q f (sized true m e l) h =
     subst (λ (y : Float). eq y Zero ≡ false) (round-neg binary64 false (m * up e * (i * 2 ^ d)) (down e * 1))
     (above-some (round binary64 false (m * up e * (i * 2 ^ d)) (down e * 1)) (product-above m i d e p q (lib.Ieee.Fits.neg-fits binary64 (fin true m e) (subst T (sym f) tt))) .1)
 
-rounded : (z : ℤ) → fits binary64 (ratioOf z) ≡ true
-unfolding ratioOf
+rounded : (z : ℤ) → fits binary64 (octavesOf z) ≡ true
+unfolding octavesOf
 rounded (pos n) = is-true (fits binary64 (round binary64 false n (2 ^ 52))) (round-fits binary64 false n (2 ^ 52))
 rounded (negsuc n) = is-true (fits binary64 (round binary64 true (suc n) (2 ^ 52))) (round-fits binary64 true (suc n) (2 ^ 52))
 
@@ -74,10 +74,10 @@ log-fits nan f h = refl
 log-fits (inf s) f h = refl
 log-fits (fin s m e) f h = go ((e -ℤ pos (53 - size m)) +ℤ pos 52) (bOf (m * 2 ^ (53 - size m) * 2 ^ 10) 52)
   where
-    by : (z : ℤ) → fits binary64 (ratioOf z) ≡ true
+    by : (z : ℤ) → fits binary64 (octavesOf z) ≡ true
     by z = rounded z
 
-    go : (z : ℤ) (b : ℕ) → fits binary64 (ratioOf (z *ℤ pos (2 ^ 52) +ℤ pos b)) ≡ true
+    go : (z : ℤ) (b : ℕ) → fits binary64 (octavesOf (z *ℤ pos (2 ^ 52) +ℤ pos b)) ≡ true
     go z b = by (z *ℤ pos (2 ^ 52) +ℤ pos b)
 
 -- THE PERIOD'S CENTS

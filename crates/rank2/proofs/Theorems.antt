@@ -10,8 +10,8 @@ use lib.Ieee.{Float, binary64, fits}
 use lib.ListN.{length}
 use borrow.Author.Tests.{le-leb, leb-true, leb-false, ltb-true, ltb-false}
 use Rattle.base.specs.Numbers.{unusable, no-room, too-large, beyond-reach}
-use Rattle.base.specs.Said.{Said, gives, refuses, andThen}
-use Rattle.base.proofs.Said.{One, one-result, no-value, no-refusal, same-value, same-refuses}
+use Rattle.base.specs.Said.{Said, gives, refuses, andThen, One}
+use Rattle.base.proofs.Said.{one-result, no-value, no-refusal, same-value, same-refuses}
 use Rattle.pitch.specs.Ratios.{asCents}
 use Rattle.sorted.specs.Lent.{ListTable}
 use Rattle.scl.specs.Answers.{saysScl}
@@ -24,7 +24,7 @@ use Rattle.scl_tables.specs.Room.{roomOf}
 use Rattle.generate.specs.Generated.{madeOf, countedOf, itemsLeft, listLeft, Leaves}
 use Rattle.generate.proofs.Theorems.{beyond-when, accepted-or, made-leaves}
 use Rattle.rank2.specs.Notes.{pitchAt}
-use Rattle.rank2.specs.Rank2.{noteCount, isTemperament, itemsOf, temperamentOf, madeRank2, Tested, PeriodOne}
+use Rattle.rank2.specs.Rank2.{noteCount, isTemperament, ascendingItems, temperamentOf, madeRank2, Tested, PeriodOne}
 use Rattle.rank2.proofs.Calls.{temperament-says, period-cents, too-many, not-usable, no-place, pushed-of, items-said, items-count}
 use Rattle.rank2.proofs.Pushes.{cented}
 use Rattle.rank2.proofs.Values.{values-of}
@@ -55,8 +55,8 @@ module _ (generator : Float) (positive negative : ℕ) (period : Float) (by-held
       let v = values-of period (g .cents) (p .cents) (record { within = k .within; held = held }) (g .usable) (period-cents period held (k .within) (k .some) (sym (p .is))) positive n few in
       record {
         items = pushed-of f n v .items;
-        are = ap (λ (s : Said Float). andThen s (λ x. andThen (asCents period) (λ y. itemsOf (pitchAt period x y positive) n))) (g .is)
-            ∙ ap (λ (s : Said Float). andThen s (λ y. itemsOf (pitchAt period (g .cents) y positive) n)) (p .is) ∙ items-said f n v;
+        are = ap (λ (s : Said Float). andThen s (λ x. andThen (asCents period) (λ y. ascendingItems (pitchAt period x y positive) n))) (g .is)
+            ∙ ap (λ (s : Said Float). andThen s (λ y. ascendingItems (pitchAt period (g .cents) y positive) n)) (p .is) ∙ items-said f n v;
         size = items-count f n v;
         usable = pushed-of f n v .usable;
         held = pushed-of f n v .held;

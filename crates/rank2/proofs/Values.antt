@@ -26,7 +26,7 @@ use Rattle.scl.specs.Items.{isUsableCents}
 use Rattle.scl.proofs.Items.{cents-ratio}
 use Rattle.rank2.specs.Asked.{SomeCents}
 use Rattle.rank2.specs.Notes.{boundedAt, pitchAt, ratiosFrom, highestFrom, ascending}
-use Rattle.rank2.specs.Rank2.{ascendingOf}
+use Rattle.rank2.specs.Rank2.{ascendingRatios}
 use Rattle.rank2.proofs.Given.{reach, bounded-usable, pitch-first, pitch-later}
 use Rattle.rank2.proofs.Ascends.{Positives, lastAfter, sorted-ratios, highest-last}
 use Rattle.rank2.proofs.Heights.{highest-is}
@@ -114,8 +114,8 @@ sort-length (r ∷ rs) = insert-length r (ascending rs) ∙ ap suc (sort-length 
 
 -- the sort of the entries is that of their ratios
 pub sorted-column : (f : ℕ → Said Float) (n : ℕ) (rs : List Float) (ws : List ℤ) {ps ps′ : List ℕ} {rs′ : List Float} {ws′ : List ℤ} {k : ℕ} → ps ≡ from 0 k → length rs ≡ k → length ws ≡ k → gives rs ≡ ratiosFrom f 0 n
-    → Columns (sortBy lower (zip ps rs ws)) ps′ rs′ ws′ → gives rs′ ≡ ascendingOf f n
-unfolding ascendingOf
+    → Columns (sortBy lower (zip ps rs ws)) ps′ rs′ ws′ → gives rs′ ≡ ascendingRatios f n
+unfolding ascendingRatios
 sorted-column f n rs ws {ps} {rs′ = rs′} {k = k} p h w e c =
     let l : length ps ≡ k = ap length p ∙ length-from 0 k in
     let q : rs′ ≡ ascending rs = c .ratios ∙ sorted-ratios (zip ps rs ws) ∙ ap ascending (sym (columns-zip ps rs ws (h ∙ sym l) (w ∙ sym l) .ratios)) in
@@ -128,8 +128,8 @@ last-ranged d (x ∷ []) h a = a .0
 last-ranged d (x ∷ y ∷ ys) h a = last-ranged x (y ∷ ys) (omega arith) (a .1)
 
 module _ (f : ℕ → Said Float) (n : ℕ) (v : Values f 0 n) where
-  pub ascending-said : ascendingOf f n ≡ gives (ascending (v .values))
-  unfolding ascendingOf
+  pub ascending-said : ascendingRatios f n ≡ gives (ascending (v .values))
+  unfolding ascendingRatios
   ascending-said = rw (v .are)
 
   pub top-said : highestFrom f 0 n ≡ gives (lastAfter zeroF (ascending (v .values)))

@@ -3,17 +3,12 @@
 use mathlib.Core.List.{List, [], _∷_}
 use Prim.Native.Nat.{ℕ, zero, suc, _-_}
 use lib.Dec.{leb, eqb}
-use lib.IntN.{pos}
-use lib.Ieee.{Float, binary64, mul, neg, lt, ofInt}
+use lib.Ieee.{Float, binary64, mul, neg, lt}
 use Rattle.base.specs.Said.{Said, gives, pick, andThen}
-use Rattle.floats.specs.Floats.{zeroF}
+use Rattle.floats.specs.Floats.{float, zeroF}
 use Rattle.pitch.specs.Ratios.{fromCents}
 use Rattle.sorting.specs.Order.{sortBy}
 use Rattle.remainder.specs.Euclid.{remEuclid}
-
--- `f64::from` of a whole number
-abbrev pub float : ℕ → Float
-float n = ofInt binary64 (pos n)
 
 -- `pos_range.chain(neg_range)`: 1, 2, .. up to the positive generations, then -1, -2, ..
 abbrev pub generationAt : ℕ → ℕ → Float

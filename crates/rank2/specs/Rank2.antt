@@ -32,8 +32,8 @@ abbrev pub isTemperament : Float → Float → Bool
 isTemperament generator period = inGenerator generator && (inGenerator period && not (isNone (L period)))
 
 -- `sort_by(total_cmp)` of the first n pitch values
-unfoldable pub ascendingOf : (ℕ → Said Float) → ℕ → Said (List Float)
-ascendingOf f n = andThen (ratiosFrom f 0 n) (λ rs. gives (ascending rs))
+unfoldable pub ascendingRatios : (ℕ → Said Float) → ℕ → Said (List Float)
+ascendingRatios f n = andThen (ratiosFrom f 0 n) (λ rs. gives (ascending rs))
 
 -- what `push_ratio` pushes for each: its cents
 unfoldable pub pushedAs : List Float → Said (List Item)
@@ -41,13 +41,13 @@ pushedAs [] = gives []
 pushedAs (r ∷ rs) = andThen (asCents r) (λ cents. andThen (pushedAs rs) (λ is. gives (Cents cents ∷ is)))
 
 -- THE ITEMS of n pitch values: in ascending order, each as its cents
-abbrev pub itemsOf : (ℕ → Said Float) → ℕ → Said (List Item)
-itemsOf f n = andThen (ascendingOf f n) pushedAs
+abbrev pub ascendingItems : (ℕ → Said Float) → ℕ → Said (List Item)
+ascendingItems f n = andThen (ascendingRatios f n) pushedAs
 
 -- those of a generator and a period
 abbrev pub temperamentOf : Float → ℕ → ℕ → Float → Said (List Item)
 temperamentOf generator positive negative period =
-    andThen (asCents generator) (λ g. andThen (asCents period) (λ p. itemsOf (pitchAt period g p positive) (noteCount positive negative)))
+    andThen (asCents generator) (λ g. andThen (asCents period) (λ p. ascendingItems (pitchAt period g p positive) (noteCount positive negative)))
 
 -- the items of an accepted call: 13, then 10, then 12, then 18
 unfoldable pub madeRank2 : ItemTable → ListTable → Float → ℕ → ℕ → Float → Said (List Item)

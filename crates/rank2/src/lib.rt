@@ -28,7 +28,7 @@ ghost use Rattle.scl_build.specs.Builder.{beside, built, counted};
 ghost use Rattle.generate.specs.Generated.{madeOf, countedOf, itemsLeft, listLeft};
 ghost use Rattle.rank2.specs.Notes.{pitchAt};
 ghost use Rattle.rank2.specs.Asked.{SomeCents};
-ghost use Rattle.rank2.specs.Rank2.{isTemperament, ascendingOf, itemsOf, madeRank2};
+ghost use Rattle.rank2.specs.Rank2.{isTemperament, ascendingRatios, ascendingItems, madeRank2};
 ghost use Rattle.rank2.specs.Steps.{beyondOf, afterOneRatio, afterRatios, ranOf, Behind};
 
 // Whether a period has octaves at all: L is not 0.
@@ -78,7 +78,7 @@ fn sort_notes(
 )
     requires { ⌜ (length (now ratio) ≤ 65535) × (length (now place) ≡ length (now ratio)) × (length (now wraps) ≡ length (now ratio))
         × (inGenerator period ≡ true) × (isUsableCents «generator_cents» ≡ true) × SomeCents «period_cents» ⌝ }
-    ensures { λ _. ⌜ gives (now (ratio .exit)) ≡ ascendingOf (pitchAt period «generator_cents» «period_cents» positive) (length (now (ratio .entry))) ⌝ }
+    ensures { λ _. ⌜ gives (now (ratio .exit)) ≡ ascendingRatios (pitchAt period «generator_cents» «period_cents» positive) (length (now (ratio .entry))) ⌝ }
 {
     notes::fill(ratio, period, generator_cents, period_cents, positive);
     sorted::number(place);
@@ -98,7 +98,7 @@ fn place_notes(
 )
     requires { ⌜ (n ≤ 65535) × (n ≤ length (now place)) × (n ≤ length (now ratio)) × (n ≤ length (now wraps))
         × (inGenerator period ≡ true) × (isUsableCents «generator_cents» ≡ true) × SomeCents «period_cents» ⌝ }
-    ensures { λ _. ⌜ (gives (take n (now (ratio .exit))) ≡ ascendingOf (pitchAt period «generator_cents» «period_cents» positive) n)
+    ensures { λ _. ⌜ (gives (take n (now (ratio .exit))) ≡ ascendingRatios (pitchAt period «generator_cents» «period_cents» positive) n)
         × Behind n (listTable (now (place .entry)) (now (ratio .entry)) (now (wraps .entry))) (listTable (now (place .exit)) (now (ratio .exit)) (now (wraps .exit))) ⌝ }
 {
     sort_notes(
@@ -196,12 +196,12 @@ fn make(
 ) -> SclAnswer
     requires { ⌜ (0 < n) × (n < roomOf (itemTable (now kind) (now cents) (now numer) (now denom)) (listTable (now place) (now ratio) (now wraps)))
         × (inGenerator period ≡ true) × (isUsableCents «generator_cents» ≡ true) × SomeCents «period_cents» ⌝ }
-    ensures { λ r. ⌜ saysScl r ≡ countedOf (madeOf (itemTable (now (kind .entry)) (now (cents .entry)) (now (numer .entry)) (now (denom .entry))) (listTable (now (place .entry)) (now (ratio .entry)) (now (wraps .entry))) n (itemsOf (pitchAt period «generator_cents» «period_cents» positive) n)) ⌝ }
+    ensures { λ r. ⌜ saysScl r ≡ countedOf (madeOf (itemTable (now (kind .entry)) (now (cents .entry)) (now (numer .entry)) (now (denom .entry))) (listTable (now (place .entry)) (now (ratio .entry)) (now (wraps .entry))) n (ascendingItems (pitchAt period «generator_cents» «period_cents» positive) n)) ⌝ }
     ensures { λ _. ⌜ itemTable (now (kind .exit)) (now (cents .exit)) (now (numer .exit)) (now (denom .exit))
-        ≡ itemsLeft (madeOf (itemTable (now (kind .entry)) (now (cents .entry)) (now (numer .entry)) (now (denom .entry))) (listTable (now (place .entry)) (now (ratio .entry)) (now (wraps .entry))) n (itemsOf (pitchAt period «generator_cents» «period_cents» positive) n))
+        ≡ itemsLeft (madeOf (itemTable (now (kind .entry)) (now (cents .entry)) (now (numer .entry)) (now (denom .entry))) (listTable (now (place .entry)) (now (ratio .entry)) (now (wraps .entry))) n (ascendingItems (pitchAt period «generator_cents» «period_cents» positive) n))
         (itemTable (now (kind .entry)) (now (cents .entry)) (now (numer .entry)) (now (denom .entry))) (listTable (now (place .entry)) (now (ratio .entry)) (now (wraps .entry))) ⌝ }
     ensures { λ _. ⌜ listTable (now (place .exit)) (now (ratio .exit)) (now (wraps .exit))
-        ≡ listLeft (madeOf (itemTable (now (kind .entry)) (now (cents .entry)) (now (numer .entry)) (now (denom .entry))) (listTable (now (place .entry)) (now (ratio .entry)) (now (wraps .entry))) n (itemsOf (pitchAt period «generator_cents» «period_cents» positive) n))
+        ≡ listLeft (madeOf (itemTable (now (kind .entry)) (now (cents .entry)) (now (numer .entry)) (now (denom .entry))) (listTable (now (place .entry)) (now (ratio .entry)) (now (wraps .entry))) n (ascendingItems (pitchAt period «generator_cents» «period_cents» positive) n))
         (itemTable (now (kind .entry)) (now (cents .entry)) (now (numer .entry)) (now (denom .entry))) (listTable (now (place .entry)) (now (ratio .entry)) (now (wraps .entry))) ⌝ }
 {
     if is_beyond(period, generator_cents, period_cents, positive, n) {

@@ -13,8 +13,8 @@ use borrow.Author.Tests.{eqb-true, eqb-false, lt-ltb, le-leb}
 use mathlib.Core.Logic.{_⊎_, inl, inr}
 use lib.Signed.{mag}
 use Rattle.base.specs.Numbers.{unusable, overflow}
-use Rattle.base.specs.Said.{Said, gives, refuses, andThen}
-use Rattle.base.proofs.Said.{One, one-result, same-value, no-value, same-refuses}
+use Rattle.base.specs.Said.{Said, gives, refuses, andThen, One}
+use Rattle.base.proofs.Said.{one-result, same-value, no-value, same-refuses}
 use Rattle.floats.specs.Ranges.{inReach}
 use Rattle.pitch.specs.Answers.{saysRatio, saysPitch}
 use Rattle.pitch.proofs.Theorems.{ratio-one, pitch-one}

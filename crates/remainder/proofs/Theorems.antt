@@ -1,6 +1,7 @@
 -- "a public function's contract leaves one possible result" (document 01): a line for each public call. Assumes nothing.
 use lib.Ieee.{Float, binary64, rem}
-use Rattle.base.proofs.Said.{One, one-result}
+use Rattle.base.specs.Said.{One}
+use Rattle.base.proofs.Said.{one-result}
 use Rattle.remainder.specs.Euclid.{remEuclid, divEuclid}
 
 pub rem-of-one : (a b : Float) → One (λ r. r) (rem binary64 a b)

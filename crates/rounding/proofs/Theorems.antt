@@ -2,7 +2,8 @@
 use mathlib.Core.Bool.{false}
 use Prim.Native.Nat.{ℕ, _*_, _^_}
 use lib.Ieee.{binary64, round}
-use Rattle.base.proofs.Said.{One, one-result}
+use Rattle.base.specs.Said.{One}
+use Rattle.base.proofs.Said.{one-result}
 use Rattle.rounding.specs.Nearest.{roundedHalf}
 
 pub pow10-one : (k : ℕ) → One (λ r. r) (10 ^ k)

@@ -5,8 +5,8 @@ use mathlib.Core.Bool.{true}
 use Prim.Native.Nat.{ℕ}
 use lib.Ieee.{Float, nan}
 use lib.ListN.{getD}
-use Rattle.base.specs.Said.{Said}
-use Rattle.base.proofs.Said.{One, Split, one-result, one-answer}
+use Rattle.base.specs.Said.{Said, One}
+use Rattle.base.proofs.Said.{Split, one-result, one-answer}
 use Rattle.pitch.specs.Answers.{saysRatio}
 use Rattle.pitch.proofs.Theorems.{ratio-one}
 use Rattle.scl.specs.Answers.{saysScl}

@@ -9,8 +9,8 @@ use lib.Dec.{leb}
 use lib.Ieee.{Float, le, lt, eq, neg, ofBits}
 use borrow.Author.Tests.{lt-ltb, leb-true, le-leb}
 use Rattle.base.specs.Numbers.{too-large, unusable, beyond-reach}
-use Rattle.base.specs.Said.{Said, gives, refuses, pick}
-use Rattle.base.proofs.Said.{One, Split, one-result, one-plain}
+use Rattle.base.specs.Said.{Said, gives, refuses, pick, One}
+use Rattle.base.proofs.Said.{Split, one-result, one-plain}
 use Rattle.scl_tables.proofs.Answered.{never}
 use Rattle.floats.specs.Floats.{oneF}
 use Rattle.sorting.specs.Entries.{Entry}

@@ -14,14 +14,14 @@ use Rattle.listing.proofs.Ample.{not-no-room, says-few, fault-drawn, fault-stay
 use Rattle.scl.specs.declared.Item.{Item}
 use Rattle.scl_read.specs.ItemText.{NoItem}
 use Rattle.sorting.specs.Entries.{Entry}
-use Rattle.scl_read.specs.Language.{Required, Line, scale, Values, Wrong, ScaleText, IsScale, WrongEnd, FaultText}
-use Rattle.scl_read.specs.Reader.{givenIn, scaleRead, readOf}
+use Rattle.scl_read.specs.Language.{Required, ContentLine, scale, Values, Wrong, ScaleText, IsScale, WrongEnd, FaultText}
+use Rattle.scl_read.specs.Reader.{givenIn, scaleRead, readOf, ReaderFinds}
 use Rattle.scl_read.specs.declared.SclRead.{SclRead}
-use Rattle.scl_read.proofs.Language.{Reading, accepts, accepted, refuses-fault}
+use Rattle.scl_read.proofs.Language.{accepts, accepted, refuses-fault}
 
 -- ---- the numbers of a line, and of the end
 module _ (n : ℕ) where
-  wrong-drawn : (f : Required) (l : Line) → Wrong f l n → Drawn n
+  wrong-drawn : (f : Required) (l : ContentLine) → Wrong f l n → Drawn n
   wrong-drawn Required.description l w = absurd w
   wrong-drawn Required.count l w = inl (omega (arith, w .0), omega (arith, w .0))
 
@@ -60,7 +60,7 @@ module _ (room : ℕ) (s : List ℕ) (a : Ample room s) where
 
   -- a text is accepted exactly when it is in the language, with this one reading
   pub accepts-ample : (d : List ℕ) (items : List Item) (list : List Entry) →
-      ((readOf room s ≡ gives (scaleRead (length items) s)) × Reading s d items list) ↔ ScaleText s d items list
+      ((readOf room s ≡ gives (scaleRead (length items) s)) × ReaderFinds s d items list) ↔ ScaleText s d items list
   accepts-ample d items list = (λ r. accepts room s d items list .0 r .0, λ t. accepts room s d items list .1 (t, fits t))
 
   -- it is in the language, or has a fault of such a number

@@ -24,7 +24,7 @@ use Rattle.scl_tables.proofs.Theorems.{list-given}
 use Rattle.scl_tables.specs.Build.{countOf, lastOf, sortedOf, scaleOf, isBeyond}
 use Rattle.sorting.specs.Entries.{Entry}
 use Rattle.text.specs.Reading.{Meaning}
-use Rattle.scl_read.specs.Language.{Line, required, scale, Values, declaredOf, WrongEnd}
+use Rattle.scl_read.specs.Language.{ContentLine, required, scale, Values, declaredCountOf, WrongEnd}
 use Rattle.scl_read.specs.Reader.{listed, givenFrom}
 use Rattle.scl_read.proofs.Stands.{Head, lastIn, finishOn}
 use Rattle.scl_read.proofs.Usable.{item-usable, item-held, implicit-usable, implicit-held}
@@ -34,14 +34,14 @@ pub given-is : {ms : List Meaning} {vs : Values} {es : List Item} → listing.Be
 given-is b = given-entries scale (λ m t. listed (itemIn t)) (λ m t e x. ap listed (item-is t e x)) b
 
 -- they can be used, and are what the machine holds
-entries-usable : (ws : List Line) (es : List Item) → Entries scale ws es → areUsable es ≡ true
+entries-usable : (ws : List ContentLine) (es : List Item) → Entries scale ws es → areUsable es ≡ true
 unfolding areUsable
 entries-usable [] [] x = refl
 entries-usable [] (e ∷ es) x = absurd x
 entries-usable (w ∷ ws) [] x = absurd x
 entries-usable (w ∷ ws) (e ∷ es) x = rw (item-usable (x .0)) (entries-usable ws es (x .1))
 
-entries-held : (ws : List Line) (es : List Item) → Entries scale ws es → AllHeld es
+entries-held : (ws : List ContentLine) (es : List Item) → Entries scale ws es → AllHeld es
 entries-held [] [] x = tt
 entries-held [] (e ∷ es) x = absurd x
 entries-held (w ∷ ws) [] x = absurd x
@@ -106,7 +106,7 @@ module _ (h : Head) (es : List Item) where
   gives-end a b list e = rw (le-ltb 65535 (length es) a, eq-eqb (length es) (h .declared) b, not-beyond list e)
 
 -- the same of lines of the language, which say so much
-module _ {ms : List Meaning} {vs : Values} {es : List Item} (b : listing.Begins scale ms required vs es) (h : Head) (d : h .declared ≡ declaredOf vs) where
+module _ {ms : List Meaning} {vs : Values} {es : List Item} (b : listing.Begins scale ms required vs es) (h : Head) (d : h .declared ≡ declaredCountOf vs) where
   is-beyond : scaleOf (implicit ∷ es) ≡ refuses beyond-reach 0 → isBeyond (length es) (lastIn es) ≡ true
   is-beyond e = go (isBeyond (length es) (lastIn es)) (sym (looks es) ∙ e)
     where

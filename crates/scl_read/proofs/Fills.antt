@@ -17,15 +17,15 @@ use Rattle.scl_read.specs.Tokens.{itemIn}
 use Rattle.scl_read.specs.declared.item.ItemRead.{ItemRead}
 use Rattle.scl_read.specs.declared.item.ItemRead.the-variants as item
 use Rattle.text.specs.Reading.{Meaning, invalid, blank, comment, content}
-use Rattle.scl_read.specs.Reader.{foundItem, foundIn, listed, givenFrom, written}
+use Rattle.scl_read.specs.Reader.{foundItem, foundIn, listed, givenFrom, writtenFrom}
 use Rattle.scl_read.specs.declared.line.Found.{Found}
 use Rattle.scl_read.specs.declared.line.Found.the-variants as found
 
 -- ONE ITEM MORE, after those that are written
-pub written-snoc : (t : ItemTable) (k : ℕ) (xs : List Item) (y : Item) → written t k (xs ++ y ∷ []) ≡ writtenAt (written t k xs) (k + length xs) y
-unfolding written
+pub written-snoc : (t : ItemTable) (k : ℕ) (xs : List Item) (y : Item) → writtenFrom t k (xs ++ y ∷ []) ≡ writtenAt (writtenFrom t k xs) (k + length xs) y
+unfolding writtenFrom
 written-snoc t k [] y = let z : k + 0 ≡ k = omega arith in rw z
-written-snoc t k (x ∷ xs) y = let z : k + 1 + length xs ≡ k + suc (length xs) = omega arith in written-snoc (writtenAt t k x) (k + 1) xs y ∙ ap (λ n. writtenAt (written (writtenAt t k x) (k + 1) xs) n y) z
+written-snoc t k (x ∷ xs) y = let z : k + 1 + length xs ≡ k + suc (length xs) = omega arith in written-snoc (writtenAt t k x) (k + 1) xs y ∙ ap (λ n. writtenAt (writtenFrom (writtenAt t k x) (k + 1) xs) n y) z
 
 -- writing changes no length
 pub record SameLengths (t u : ItemTable) : Type 0 where
@@ -54,13 +54,13 @@ pub lengths-same : (t : ItemTable) → SameLengths t t
 lengths-same t = record { kinds = refl; cents = refl; numers = refl; denoms = refl }
 
 -- place 0, and what is written after it
-pub written-start : (t : ItemTable) {u : ItemTable} (xs : List Item) → u ≡ writtenAt t 0 implicit → written u 1 xs ≡ written t 0 (implicit ∷ xs)
-unfolding written
+pub written-start : (t : ItemTable) {u : ItemTable} (xs : List Item) → u ≡ writtenAt t 0 implicit → writtenFrom u 1 xs ≡ writtenFrom t 0 (implicit ∷ xs)
+unfolding writtenFrom
 written-start t xs e = rw e
 
 -- WHAT IS WRITTEN IS READ BACK
-written-first : (t : ItemTable) (k : ℕ) (xs : List Item) → Roomy (k + length xs) t → first (k + length xs) (written t k xs) ≡ first k t ++ xs
-unfolding written
+written-first : (t : ItemTable) (k : ℕ) (xs : List Item) → Roomy (k + length xs) t → first (k + length xs) (writtenFrom t k xs) ≡ first k t ++ xs
+unfolding writtenFrom
 written-first t k [] r = let z : k + 0 ≡ k = omega arith in rw (z, append-nil (first k t))
 written-first t k (x ∷ xs) r =
     let z : k + suc (length xs) ≡ k + 1 + length xs = omega arith in
@@ -71,12 +71,12 @@ written-first t k (x ∷ xs) r =
     rw (sym one) (first-written k t x (record { kinds = omega (arith, r .kinds); cents = omega (arith, r .cents); numers = omega (arith, r .numers); denoms = omega (arith, r .denoms) })) in
     rw z (m ∙ ap (λ (l : List Item). l ++ xs) f ∙ append-assoc (first k t) (x ∷ []) xs)
 
-pub written-items : (t : ItemTable) (xs : List Item) → Roomy (length xs) t → first (length xs) (written t 0 xs) ≡ xs
+pub written-items : (t : ItemTable) (xs : List Item) → Roomy (length xs) t → first (length xs) (writtenFrom t 0 xs) ≡ xs
 unfolding itemsOf
 written-items t xs r = let z : 0 + length xs ≡ length xs = omega arith in rw z at (written-first t 0 xs (rw z r))
 
-pub written-lengths : (t : ItemTable) (k : ℕ) (xs : List Item) → SameLengths (written t k xs) t
-unfolding written
+pub written-lengths : (t : ItemTable) (k : ℕ) (xs : List Item) → SameLengths (writtenFrom t k xs) t
+unfolding writtenFrom
 written-lengths t k [] = lengths-same t
 written-lengths t k (x ∷ xs) =
     let s = written-lengths (writtenAt t k x) (k + 1) xs in
@@ -119,15 +119,15 @@ pub record Filled (ms : List Meaning) (old : ItemTable) (left : ℕ) (rest : Lis
   pub done : List Item
   pub whole : givenFrom 2 ms ≡ done ++ givenFrom left rest
   pub count : n ≡ 1 + length done
-  pub table : t ≡ written old 1 done
+  pub table : t ≡ writtenFrom old 1 done
 
 module _ (ms : List Meaning) (old : ItemTable) where
   pub filled-none : Filled ms old 2 ms old 1
-  unfolding written
+  unfolding writtenFrom
   filled-none = record { done = []; whole = refl; count = refl; table = refl }
 
   module _ {left : ℕ} {rest : List Meaning} {t : ItemTable} {n : ℕ} (f : Filled ms old left rest t n) where
-    pub filled-end : rest ≡ [] → t ≡ written old 1 (givenFrom 2 ms)
+    pub filled-end : rest ≡ [] → t ≡ writtenFrom old 1 (givenFrom 2 ms)
     unfolding givenAfter
     filled-end q =
         let e : givenFrom 2 ms ≡ f .done = f .whole ∙ rw q (append-nil (f .done)) in

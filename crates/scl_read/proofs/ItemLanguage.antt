@@ -29,8 +29,8 @@ use Rattle.scl.specs.declared.Denom.{Denom}
 use Rattle.scl.specs.declared.Denom.the-variants.{Given, Lacking}
 use Rattle.scl.specs.declared.Item.{Item}
 use Rattle.scl.specs.declared.Item.the-variants.{Cents, Fraction}
-use Rattle.scl_read.specs.ItemText.{Has, Free, U32Text, Split, ItemText, NoItem}
-use Rattle.scl_read.specs.Tokens.{placeOf, usableItem, centsIn, overDenom, fractionIn, wholeIn, slashedIn, itemIn}
+use Rattle.scl_read.specs.ItemText.{Contains, Free, U32Text, Split, ItemText, NoItem}
+use Rattle.scl_read.specs.Tokens.{positionOf, usableItem, centsIn, overDenom, fractionIn, wholeIn, slashedIn, itemIn}
 use Rattle.scl_read.specs.declared.item.ItemRead.{ItemRead}
 use Rattle.scl_read.specs.declared.item.ItemRead.the-variants.{Is, IsNot}
 use Rattle.scl_read.proofs.Finds.{place-parts, place-free, free-place, parts-place, has-place}
@@ -46,7 +46,7 @@ u32-read : (t : List ℕ) (z : ℤ) → readInt false (2 ^ 32) t ≡ value z →
 u32-read t z e = let i = sound false (2 ^ 32) (lit< tt) z t (sym e) in rw (unsigned (2 ^ 32) t z i) i
 
 module _ (t : List ℕ) where
-  cents-holds : Has 46 t → (x : DecimalAnswer) → readDecimal t ≡ x → Holds t (centsIn x)
+  cents-holds : Contains 46 t → (x : DecimalAnswer) → readDecimal t ≡ x → Holds t (centsIn x)
   cents-holds h (decimal.Is v) e = go (isUsableCents v) refl
     where
       go : (b : Bool) → isUsableCents v ≡ b → Holds t (pick b (Is (Cents v)) (IsNot unusable))
@@ -77,37 +77,37 @@ module _ (t : List ℕ) where
     fraction-holds none j e f = NoItem.no-numer a b s (refl, refused false (2 ^ 32) (lit< tt) a .0 (sym e))
     fraction-holds (value z) j e f = denom-holds (natAbs z) (u32-read a z e) j f
 
-  slashed-holds : Free 46 t → (x : Bool) → ltb (placeOf 47 t) (length t) ≡ x →
-      Holds t (pick x (fractionIn (readInt false (2 ^ 32) (take (placeOf 47 t) t)) (readInt false (2 ^ 32) (drop (placeOf 47 t + 1) t))) (wholeIn (readInt false (2 ^ 32) t)))
+  slashed-holds : Free 46 t → (x : Bool) → ltb (positionOf 47 t) (length t) ≡ x →
+      Holds t (pick x (fractionIn (readInt false (2 ^ 32) (take (positionOf 47 t) t)) (readInt false (2 ^ 32) (drop (positionOf 47 t + 1) t))) (wholeIn (readInt false (2 ^ 32) t)))
   slashed-holds f true e =
-      let p = place-parts 47 t (ltb-true (placeOf 47 t) (length t) e) in
-      fraction-holds (take (placeOf 47 t) t) (drop (placeOf 47 t + 1) t) (record { no-dot = f; whole = p .0; first = p .1 }) _ _ refl refl
-  slashed-holds f false e = whole-holds f (place-free 47 t (ltb-false (placeOf 47 t) (length t) e)) _ refl
+      let p = place-parts 47 t (ltb-true (positionOf 47 t) (length t) e) in
+      fraction-holds (take (positionOf 47 t) t) (drop (positionOf 47 t + 1) t) (record { no-dot = f; whole = p .0; first = p .1 }) _ _ refl refl
+  slashed-holds f false e = whole-holds f (place-free 47 t (ltb-false (positionOf 47 t) (length t) e)) _ refl
 
   pub item-holds : Holds t (itemIn t)
   unfolding itemIn
-  item-holds = go (ltb (placeOf 46 t) (length t)) refl
+  item-holds = go (ltb (positionOf 46 t) (length t)) refl
     where
-      go : (x : Bool) → ltb (placeOf 46 t) (length t) ≡ x → Holds t (pick x (centsIn (readDecimal t)) (slashedIn t (placeOf 47 t)))
-      go true e = let p = place-parts 46 t (ltb-true (placeOf 46 t) (length t) e) in cents-holds (take (placeOf 46 t) t, drop (placeOf 46 t + 1) t, p .0) (readDecimal t) refl
-      go false e = slashed-holds (place-free 46 t (ltb-false (placeOf 46 t) (length t) e)) (ltb (placeOf 47 t) (length t)) refl
+      go : (x : Bool) → ltb (positionOf 46 t) (length t) ≡ x → Holds t (pick x (centsIn (readDecimal t)) (slashedIn t (positionOf 47 t)))
+      go true e = let p = place-parts 46 t (ltb-true (positionOf 46 t) (length t) e) in cents-holds (take (positionOf 46 t) t, drop (positionOf 46 t + 1) t, p .0) (readDecimal t) refl
+      go false e = slashed-holds (place-free 46 t (ltb-false (positionOf 46 t) (length t) e)) (ltb (positionOf 47 t) (length t)) refl
 
 -- ---- what holds is read
 -- a token with a dot is read as cents; one without goes by its slash
-with-dot : (t : List ℕ) → Has 46 t → itemIn t ≡ centsIn (readDecimal t)
+with-dot : (t : List ℕ) → Contains 46 t → itemIn t ≡ centsIn (readDecimal t)
 unfolding itemIn
-with-dot t h = rw (lt-ltb (placeOf 46 t) (length t) (has-place 46 t h))
+with-dot t h = rw (lt-ltb (positionOf 46 t) (length t) (has-place 46 t h))
 
-no-dot : (t : List ℕ) → Free 46 t → itemIn t ≡ slashedIn t (placeOf 47 t)
+no-dot : (t : List ℕ) → Free 46 t → itemIn t ≡ slashedIn t (positionOf 47 t)
 unfolding itemIn
-no-dot t f = rw (le-ltb (placeOf 46 t) (length t) (omega (arith, free-place 46 t f)))
+no-dot t f = rw (le-ltb (positionOf 46 t) (length t) (omega (arith, free-place 46 t f)))
 
 no-slash : (t : List ℕ) → Free 46 t → Free 47 t → itemIn t ≡ wholeIn (readInt false (2 ^ 32) t)
-no-slash t f g = no-dot t f ∙ rw (le-ltb (placeOf 47 t) (length t) (omega (arith, free-place 47 t g)))
+no-slash t f g = no-dot t f ∙ rw (le-ltb (positionOf 47 t) (length t) (omega (arith, free-place 47 t g)))
 
 with-slash : (t a b : List ℕ) → Split t a b → itemIn t ≡ fractionIn (readInt false (2 ^ 32) a) (readInt false (2 ^ 32) b)
 with-slash t a b s =
-    let k : placeOf 47 t ≡ length a = rw (s .whole) (parts-place 47 a b (s .first)) in
+    let k : positionOf 47 t ≡ length a = rw (s .whole) (parts-place 47 a b (s .first)) in
     let l : length a < length t = omega (arith, ap length (s .whole), length-append a (47 ∷ b)) in
     let before : take (length a) t ≡ a = rw (s .whole) (take-at a (47 ∷ b) (length a) refl) in
     let behind : drop (length a + 1) t ≡ b = rw (s .whole) (drop-append-add a (47 ∷ b) 1) in

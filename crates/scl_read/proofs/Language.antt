@@ -25,14 +25,14 @@ use Rattle.text.specs.ReadLine.{saidIn, shown}
 use Rattle.text.specs.Reading.{Meaning, invalid, blank, comment, content}
 use Rattle.text.specs.declared.line.LineSays.{LineSays}
 use Rattle.text.specs.declared.line.LineSays.the-variants.{NotUtf8, Blank, Comment, Content}
-use Rattle.scl_read.specs.Language.{Required, required, Line, scale, Values, descriptionOf, declaredOf, ScaleText, WrongEnd, FaultText}
-use Rattle.scl_read.specs.Reader.{checkOf, givenFrom, givenIn, firstContent, descriptionIn, scaleRead, readOf}
+use Rattle.scl_read.specs.Language.{Required, required, ContentLine, scale, Values, descriptionOf, declaredCountOf, ScaleText, WrongEnd, FaultText}
+use Rattle.scl_read.specs.Reader.{checkOf, givenFrom, givenIn, firstContent, descriptionIn, scaleRead, readOf, ReaderFinds}
 use Rattle.scl_read.specs.declared.SclRead.{SclRead}
 use Rattle.scl_read.proofs.Ends.{given-is, lines-sorted, end-gives, sorted-too, gives-end, end-wrong, wrong-end}
 use Rattle.scl_read.proofs.Stands.{reads, blankHead, finishOn, same-walk}
 
 -- ---- the description is the first line with content
-first-line : (text : List ℕ) (xs : List LineSays) (first rest : List Line) (vs : Values) → Words scale (shownAll text xs) (first ++ rest) → GiveAll scale required first vs →
+first-line : (text : List ℕ) (xs : List LineSays) (first rest : List ContentLine) (vs : Values) → Words scale (shownAll text xs) (first ++ rest) → GiveAll scale required first vs →
     part text (firstContent xs .start) (firstContent xs .end) ≡ descriptionOf vs
 first-line text xs [] rest vs w g = absurd g
 first-line text [] (l ∷ first) rest vs w g = absurd w
@@ -116,21 +116,15 @@ described {s} t =
     first-line s (placedIn s) (t .lines .first) (t .lines .rest) (t .values) (rw ms (t .lines .words)) (t .lines .values) ∙ sym (t .described)
 
 -- ---- the call
--- what an accepted read of the text comes to: its description, its items, and the sorted list that is written
-pub record Reading (s d : List ℕ) (items : List Item) (list : List Entry) : Type 0 where
-  pub description : part s (descriptionIn s .start) (descriptionIn s .end) ≡ d
-  pub given : givenIn s ≡ items
-  pub sorted : sortedOf (implicit ∷ items) ≡ gives list
-
-pub text-reading : {s d : List ℕ} {items : List Item} {list : List Entry} → ScaleText s d items list → Reading s d items list
-text-reading {items = items} {list = list} t = record { description = described t; given = given-in t; sorted = sorted-too blankHead items list (t .sorted) }
+pub text-reading : {s d : List ℕ} {items : List Item} {list : List Entry} → ScaleText s d items list → ReaderFinds s d items list
+text-reading {items = items} {list = list} t = record { described = described t; given = given-in t; sorted = sorted-too blankHead items list (t .sorted) }
 
 -- a text of the language in the reading's terms
-same-text : {s d c : List ℕ} {is js : List Item} {es fs : List Entry} → ScaleText s c is es → Reading s d js fs → ScaleText s d js fs
+same-text : {s d c : List ℕ} {is js : List Item} {es fs : List Entry} → ScaleText s c is es → ReaderFinds s d js fs → ScaleText s d js fs
 same-text {s} {d} {c} {is} {js} {es} {fs} t r =
     let q = text-reading t in
     let items : is ≡ js = sym (q .given) ∙ r .given in
-    let words : c ≡ d = sym (q .description) ∙ r .description in
+    let words : c ≡ d = sym (q .described) ∙ r .described in
     let list : es ≡ fs = same-value es fs (sym (q .sorted) ∙ ap (λ l. sortedOf (implicit ∷ l)) items ∙ r .sorted) in
     rw (words, items, list) at t
 
@@ -145,14 +139,14 @@ module _ (room : ℕ) (s : List ℕ) where
 
   -- ACCEPTED EXACTLY WHEN IN THE LANGUAGE, given room for place 0 and for each item, with this one reading
   pub accepts : (d : List ℕ) (items : List Item) (list : List Entry) →
-      ((readOf room s ≡ gives (scaleRead (length items) s)) × Reading s d items list) ↔ (ScaleText s d items list × (length items < room))
+      ((readOf room s ≡ gives (scaleRead (length items) s)) × ReaderFinds s d items list) ↔ (ScaleText s d items list × (length items < room))
   accepts d items list = (forth room, back room)
     where
-      forth : (k : ℕ) → (readOf k s ≡ gives (scaleRead (length items) s)) × Reading s d items list → ScaleText s d items list × (length items < k)
+      forth : (k : ℕ) → (readOf k s ≡ gives (scaleRead (length items) s)) × ReaderFinds s d items list → ScaleText s d items list × (length items < k)
       forth zero u = no-value (u .0)
       forth (suc places) u = let i = answered places (scaleRead (length items) s) (checkOf places s) refl (u .0) .0 in (same-text (i .text) (u .1), omega (arith, i .fits))
 
-      back : (k : ℕ) → ScaleText s d items list × (length items < k) → (readOf k s ≡ gives (scaleRead (length items) s)) × Reading s d items list
+      back : (k : ℕ) → ScaleText s d items list × (length items < k) → (readOf k s ≡ gives (scaleRead (length items) s)) × ReaderFinds s d items list
       back zero u = absurd (omega (arith, u .1))
       back (suc places) u = (rw (checks places s (u .0) (omega (arith, u .1))), text-reading (u .0))
 

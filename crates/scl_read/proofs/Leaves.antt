@@ -23,7 +23,7 @@ use Rattle.sorted.specs.Lent.{ListTable, isList}
 use Rattle.sorting.specs.Entries.{Entry}
 use Rattle.text.specs.ReadLine.{saidIn}
 use Rattle.scl_read.specs.Language.{ScaleText}
-use Rattle.scl_read.specs.Reader.{checkOf, givenIn, itemsRead, descriptionIn, scaleRead, readOf, written, afterItems, afterSorted}
+use Rattle.scl_read.specs.Reader.{checkOf, givenIn, itemsRead, descriptionIn, scaleRead, readOf, writtenFrom, afterItems, afterSorted}
 use Rattle.scl_read.specs.declared.Description.{Description}
 use Rattle.scl_read.specs.declared.SclRead.{SclRead}
 use Rattle.scl_read.proofs.Ends.{lines-usable, lines-held, sorted-too}
@@ -55,13 +55,13 @@ read-usable text = rw implicit-usable (given-usable 2 (saidIn text))
 
 -- what is written passes the test of a lent table, and is the items
 module _ (t : ItemTable) (items : List Item) (n : ℕ) (c : length items ≡ n + 1) (r : Roomy (length items) t) where
-  pub written-in : itemsIn n (written t 0 items) ≡ items
+  pub written-in : itemsIn n (writtenFrom t 0 items) ≡ items
   written-in = rw (sym c) (written-items t items r)
 
-  pub written-good : areUsable items ≡ true → isItems n (written t 0 items) ≡ true
+  pub written-good : areUsable items ≡ true → isItems n (writtenFrom t 0 items) ≡ true
   written-good u =
       let o = lengths-roomy (written-lengths t 0 items) r in
-      sym (items-test n (written t 0 items) (omega (arith, o .kinds)) (omega (arith, o .cents)) (omega (arith, o .numers)) (omega (arith, o .denoms)) (sym (ap areUsable written-in ∙ u)))
+      sym (items-test n (writtenFrom t 0 items) (omega (arith, o .kinds)) (omega (arith, o .cents)) (omega (arith, o .numers)) (omega (arith, o .denoms)) (sym (ap areUsable written-in ∙ u)))
 
 -- THE CALL: r is the room, x what the first pass answered
 module _ (text : List ℕ) (t : ItemTable) (l : ListTable) {r : ℕ} (e : r ≡ roomOf t l) where
@@ -95,7 +95,7 @@ module _ (text : List ℕ) (t : ItemTable) (l : ListTable) {r : ℕ} (e : r ≡ 
       counts = omega (arith, in-language .count)
 
       -- what is asked of the build
-      pub read-builds : {u : ItemTable} → u ≡ written t 0 (itemsRead text) →
+      pub read-builds : {u : ItemTable} → u ≡ writtenFrom t 0 (itemsRead text) →
           (isItems (k .count) u ≡ true) × (k .count ≤ 65535) × (k .count < length (l .places)) × (k .count < length (l .ratios)) × (k .count < length (l .wraps))
       read-builds w =
           let o = read-room in (
@@ -107,7 +107,7 @@ module _ (text : List ℕ) (t : ItemTable) (l : ListTable) {r : ℕ} (e : r ≡ 
           )
 
       -- what is answered and left
-      pub read-leaves : {u : ItemTable} {m : ListTable} {d : Description} → u ≡ written t 0 (itemsRead text) → m ≡ afterList (sortedOf (itemsIn (k .count) u)) l → d ≡ descriptionIn text →
+      pub read-leaves : {u : ItemTable} {m : ListTable} {d : Description} → u ≡ writtenFrom t 0 (itemsRead text) → m ≡ afterList (sortedOf (itemsIn (k .count) u)) l → d ≡ descriptionIn text →
           Left (gives (record { scl = k; description = d })) u m
       read-leaves {u} {m} {d} w v y =
           let s : readOf (roomOf t l) text ≡ gives (scaleRead (k .count) text) = is-read ∙ rw p in

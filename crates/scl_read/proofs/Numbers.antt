@@ -19,7 +19,7 @@ use Rattle.scl.specs.Items.{isUsable}
 use Rattle.scl.specs.declared.Denom.the-variants.{Given, Lacking}
 use Rattle.scl.specs.declared.Item.{Item}
 use Rattle.scl.specs.declared.Item.the-variants.{Cents, Fraction}
-use Rattle.scl_read.specs.Tokens.{placeOf, usableItem, centsIn, overDenom, fractionIn, wholeIn, slashedIn, itemIn}
+use Rattle.scl_read.specs.Tokens.{positionOf, usableItem, centsIn, overDenom, fractionIn, wholeIn, slashedIn, itemIn}
 use Rattle.scl_read.specs.declared.item.ItemRead.{ItemRead}
 use Rattle.scl_read.specs.declared.item.ItemRead.the-variants.{Is, IsNot}
 use Rattle.scl_tables.specs.Build.{isBeyond}
@@ -69,7 +69,7 @@ slashed-known t k =
 item-known : (t : List ℕ) → Known (itemIn t)
 unfolding itemIn
 item-known t =
-    pick-known (ltb (placeOf 46 t) (length t)) (centsIn (readDecimal t)) (slashedIn t (placeOf 47 t)) (cents-known (readDecimal t)) (slashed-known t (placeOf 47 t))
+    pick-known (ltb (positionOf 46 t) (length t)) (centsIn (readDecimal t)) (slashedIn t (positionOf 47 t)) (cents-known (readDecimal t)) (slashed-known t (positionOf 47 t))
 
 -- ---- a line
 int-numbered : (k : ℕ) (i : Int) → Numbered (intAt int-value k i)

@@ -8,14 +8,14 @@ use Rattle.base.specs.Said.{gives, refuses}
 use Rattle.floats.specs.Units.{negative}
 use Rattle.explog.specs.Exp.{pOf}
 use Rattle.explog.specs.Log.{bOf, yOf}
-use Rattle.explog.specs.Rules.{E, L, floorOf, timesPower, powerOf, logOf, logAt, ratioOf}
+use Rattle.explog.specs.Rules.{E, L, floorOf, timesPower, powerOf, logOf, logAt, octavesOf}
 use Rattle.decimals.specs.DecimalScan.{readDecimal}
 use Rattle.integers.specs.Integer.{scan, magnitudeOf, readSigned}
 use Rattle.listing.specs.Reader.{walkLines, givenAfter}
-use Rattle.numerals.specs.Scan.{runOf, spelled, scanOf}
+use Rattle.numerals.specs.Scan.{digitRunOf, spelled, scanOf}
 use Rattle.scl.specs.declared.Denom.the-variants.{Given}
 use Rattle.scl.specs.declared.Item.the-variants.{Cents, Fraction}
-use Rattle.scl_read.specs.Tokens.{placeOf, itemIn}
+use Rattle.scl_read.specs.Tokens.{positionOf, itemIn}
 use Rattle.scl_tables.specs.Build.{isBeyond}
 use Rattle.text.specs.Cut.{lines}
 use Rattle.text.specs.Placed.{startsFrom, placedBy}
@@ -71,7 +71,7 @@ pub record Samples : Type 0 where
   pub no-count : readOf 8 (120 ∷ 10 ∷ 33 ∷ 10 ∷ []) ≡ refuses 2 2
 
 pub samples : Samples
-unfolding lines meaningBy meanings lineBy startsFrom placedBy tokenLength widthBy run leadOf utf8Step utf8From scan magnitudeOf readSigned runOf spelled scanOf readDecimal placeOf itemIn takeToken finished walkLines givenAfter descriptionIn isBeyond E L floorOf timesPower powerOf logOf logAt ratioOf pOf bOf yOf le div round ofInt ofBits neg negative
+unfolding lines meaningBy meanings lineBy startsFrom placedBy tokenLength widthBy run leadOf utf8Step utf8From scan magnitudeOf readSigned digitRunOf spelled scanOf readDecimal positionOf itemIn takeToken finished walkLines givenAfter descriptionIn isBeyond E L floorOf timesPower powerOf logOf logAt octavesOf pOf bOf yOf le div round ofInt ofBits neg negative
 samples =
     record {
       scale = refl;

@@ -24,12 +24,12 @@ use Rattle.scl.specs.Table.{noItem, implicit}
 use Rattle.scl.specs.declared.Item.{Item}
 use Rattle.scl_read.proofs.ItemLanguage.{is-item, item-is, is-no-item, no-item-is}
 use Rattle.scl_read.specs.ItemText.{ItemText, NoItem}
-use Rattle.scl_read.specs.Tokens.{itemIn, itemAt}
+use Rattle.scl_read.specs.Tokens.{itemIn, itemSaid}
 use Rattle.scl_read.specs.declared.item.ItemRead.{ItemRead}
 use Rattle.scl_read.specs.declared.item.ItemRead.the-variants as item
 use Rattle.scl_tables.specs.Build.{lastOf, isBeyond}
 use Rattle.text.specs.Reading.{Meaning, invalid, blank, comment, content}
-use Rattle.scl_read.specs.Language.{Required, required, Line, Value, Gives, Wrong, scale}
+use Rattle.scl_read.specs.Language.{Required, required, ContentLine, Value, Gives, Wrong, scale}
 use Rattle.scl_read.specs.Reader.{itemPlaced, takeCount, takeDue, takeToken, takeMeaning, whichOf, finished, unread, walk}
 use Rattle.scl_read.specs.declared.line.Due.{Due}
 use Rattle.scl_read.specs.declared.line.Due.the-variants as due
@@ -48,35 +48,35 @@ withField Required.description h d = record { description = d; declared = h .dec
 withField Required.count h n = record { description = h .description; declared = n }
 
 -- what a line is read as, as a required one
-abbrev pub readAs : (f : Required) → ℕ → Line → Said (Value f)
+abbrev pub readAs : (f : Required) → ℕ → ContentLine → Said (Value f)
 readAs Required.description k l = gives (l .whole)
 readAs Required.count k l = andThen (intAt int-value k (readInt false (2 ^ 16) (l .token))) (λ z. gives (natAbs z))
 
-pub read-gives : (f : Required) (k : ℕ) (l : Line) (v : Value f) → readAs f k l ≡ gives v → Gives f l v
+pub read-gives : (f : Required) (k : ℕ) (l : ContentLine) (v : Value f) → readAs f k l ≡ gives v → Gives f l v
 read-gives Required.description k l v e = sym (same-value (l .whole) v e)
 read-gives Required.count k l v e =
     let r = int-gives int-value false (2 ^ 16) (lit< tt) k (l .token) (λ z. gives (natAbs z)) e in
     let n : natAbs (r .0) ≡ v = same-value (natAbs (r .0)) v (r .2) in
     rw (sym (ap pos n) ∙ unsigned (2 ^ 16) (l .token) (r .0) (r .1)) (r .1)
 
-pub gives-read : (f : Required) (k : ℕ) (l : Line) (v : Value f) → Gives f l v → readAs f k l ≡ gives v
+pub gives-read : (f : Required) (k : ℕ) (l : ContentLine) (v : Value f) → Gives f l v → readAs f k l ≡ gives v
 gives-read Required.description k l v g = ap gives (sym g)
 gives-read Required.count k l v g = gives-int int-value false (2 ^ 16) (lit< tt) k (l .token) (λ z. gives (natAbs z)) g
 
-pub read-wrong : (f : Required) (k : ℕ) (l : Line) (n d : ℕ) → readAs f k l ≡ refuses n d → (d ≡ k) × Wrong f l n
+pub read-wrong : (f : Required) (k : ℕ) (l : ContentLine) (n d : ℕ) → readAs f k l ≡ refuses n d → (d ≡ k) × Wrong f l n
 read-wrong Required.description k l n d e = no-refusal e
 read-wrong Required.count k l n d e = int-wrong int-value false (2 ^ 16) (lit< tt) k (l .token) natAbs e
 
-pub wrong-read : (f : Required) (k : ℕ) (l : Line) (n : ℕ) → Wrong f l n → readAs f k l ≡ refuses n k
+pub wrong-read : (f : Required) (k : ℕ) (l : ContentLine) (n : ℕ) → Wrong f l n → readAs f k l ≡ refuses n k
 wrong-read Required.description k l n w = absurd w
 wrong-read Required.count k l n w = refuses-int int-value false (2 ^ 16) (lit< tt) k (l .token) (λ z. gives (natAbs z)) w
 
 -- an item at line k
-pub at-is : (k : ℕ) (r : ItemRead) (i : Item) → itemAt k r ≡ gives i → r ≡ item.Is i
+pub at-is : (k : ℕ) (r : ItemRead) (i : Item) → itemSaid k r ≡ gives i → r ≡ item.Is i
 at-is k (item.Is x) i e = ap item.Is (same-value x i e)
 at-is k (item.IsNot n) i e = no-value e
 
-pub at-not : (k : ℕ) (r : ItemRead) (n d : ℕ) → itemAt k r ≡ refuses n d → (d ≡ k) × (r ≡ item.IsNot n)
+pub at-not : (k : ℕ) (r : ItemRead) (n d : ℕ) → itemSaid k r ≡ refuses n d → (d ≡ k) × (r ≡ item.IsNot n)
 at-not k (item.Is x) n d e = no-refusal e
 at-not k (item.IsNot m) n d e = let q = same-refuses e in (sym (q .1), ap item.IsNot (q .0))
 
@@ -86,15 +86,15 @@ reads = record {
   Head = Head;
   put = withField;
   readAs = readAs;
-  entryAs = λ k l. itemAt k (itemIn (l .token));
+  entryAs = λ k l. itemSaid k (itemIn (l .token));
   read-gives = read-gives;
   gives-read = gives-read;
   read-wrong = read-wrong;
   wrong-read = wrong-read;
   entry-is = λ k l i q. is-item (l .token) i (at-is k (itemIn (l .token)) i q);
-  is-entry = λ k l i x. ap (itemAt k) (item-is (l .token) i x);
+  is-entry = λ k l i x. ap (itemSaid k) (item-is (l .token) i x);
   entry-bad = λ k l n d q. let r = at-not k (itemIn (l .token)) n d q in (r .0, is-no-item (l .token) n (r .1));
-  bad-entry = λ k l n w. ap (itemAt k) (no-item-is (l .token) n w);
+  bad-entry = λ k l n w. ap (itemSaid k) (no-item-is (l .token) n w);
 }
 
 -- the last item so far, the implicit one before the first
@@ -131,7 +131,7 @@ module _ (places k : ℕ) (m t : List ℕ) (s : State) (p : Place scale reads) (
   count-alike (value z) = Alike.values _ _ (record { fields = refl; declared = refl; count = x .count; last = x .last })
   count-alike none = Alike.refusals _ _
 
-  item-alike : (r : ItemRead) → Alike Stands (itemPlaced places k s r) (andThen (itemAt k r) (placed scale reads places k (p .head) (p .es)))
+  item-alike : (r : ItemRead) → Alike Stands (itemPlaced places k s r) (andThen (itemSaid k r) (placed scale reads places k (p .head) (p .es)))
   item-alike (item.Is i) = rw (sym (x .count)) (go (leb places (s .count)))
     where
       go : (b : Bool) →

@@ -4,7 +4,8 @@ use mathlib.Core.Path.{refl}
 use mathlib.Core.List.{List}
 use mathlib.Core.Logic.{inl, inr}
 use Prim.Native.Nat.{ℕ}
-use Rattle.base.proofs.Said.{One, Split, one-result, one-plain}
+use Rattle.base.specs.Said.{One}
+use Rattle.base.proofs.Said.{Split, one-result, one-plain}
 use Rattle.scl.specs.Table.{ItemTable}
 use Rattle.scl_tables.specs.Room.{roomOf}
 use Rattle.sorted.specs.Lent.{ListTable}

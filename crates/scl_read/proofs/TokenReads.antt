@@ -15,7 +15,7 @@ use Rattle.integers.specs.declared.U32.{U32}
 use Rattle.integers.specs.declared.U32.the-variants as u32
 use Rattle.scl.specs.Items.{isUsable}
 use Rattle.scl.specs.declared.Item.{Item}
-use Rattle.scl_read.specs.Tokens.{placeOf, usableItem, centsIn, overDenom, fractionIn, wholeIn, itemIn}
+use Rattle.scl_read.specs.Tokens.{positionOf, usableItem, centsIn, overDenom, fractionIn, wholeIn, itemIn}
 use Rattle.scl_read.specs.declared.item.ItemRead.{ItemRead}
 use Rattle.scl_read.specs.declared.item.ItemRead.the-variants.{Is, IsNot}
 
@@ -28,12 +28,12 @@ module _ (item : Item) {r : Bool} (e : r ≡ isUsable item) where
   usable-not f = rw (← e, f)
 
 -- A TOKEN goes by its first dot, and then by its first slash
-module _ (t : List ℕ) {dot : ℕ} (e : dot ≡ placeOf 46 t) where
+module _ (t : List ℕ) {dot : ℕ} (e : dot ≡ positionOf 46 t) where
   pub takes-cents : dot < length t → centsIn (readDecimal t) ≡ itemIn t
   unfolding itemIn
   takes-cents h = rw (← e, lt-ltb dot (length t) h)
 
-  module _ (h : length t ≤ dot) {slash : ℕ} (f : slash ≡ placeOf 47 t) where
+  module _ (h : length t ≤ dot) {slash : ℕ} (f : slash ≡ positionOf 47 t) where
     pub takes-fraction : slash < length t → fractionIn (readInt false (2 ^ 32) (take slash t)) (readInt false (2 ^ 32) (drop (slash + 1) t)) ≡ itemIn t
     unfolding itemIn
     takes-fraction g = rw (← e, le-ltb dot (length t) h, ← f, lt-ltb slash (length t) g)

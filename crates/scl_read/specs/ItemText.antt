@@ -18,8 +18,8 @@ use Rattle.scl.specs.declared.Item.the-variants.{Cents, Fraction}
 use Rattle.utf8.specs.Characters.{Each}
 
 -- a byte stands in t, or does not
-abbrev pub Has : ℕ → List ℕ → Type 0
-Has b t = (u v : List ℕ) × (t ≡ u ++ b ∷ v)
+abbrev pub Contains : ℕ → List ℕ → Type 0
+Contains b t = (u v : List ℕ) × (t ≡ u ++ b ∷ v)
 
 abbrev pub Free : ℕ → List ℕ → Type 0
 Free b t = Each (λ c. c ≡ b → ⊥) t
@@ -36,15 +36,15 @@ pub record Split (t numer denom : List ℕ) : Type 0 where
 
 -- THE ITEM that the token t is
 pub data ItemText (t : List ℕ) : Item → Type 0 where
-  cents : Has 46 t → (v : Float) → DecimalText t v → isUsableCents v ≡ true → ItemText t (Cents v)
+  cents : Contains 46 t → (v : Float) → DecimalText t v → isUsableCents v ≡ true → ItemText t (Cents v)
   fraction : (a b : List ℕ) → Split t a b → (n d : ℕ) → U32Text a n → U32Text b d → 0 < n → 0 < d → ItemText t (Fraction n (Given d))
   whole : Free 46 t → Free 47 t → (n : ℕ) → U32Text t n → 0 < n → ItemText t (Fraction n Lacking)
 
 -- n is the first number of 01's order that the token t draws where it is none: syntax (4, 5, 6, 3), 9, 10
 pub data NoItem (t : List ℕ) (n : ℕ) : Type 0 where
-  no-cents : Has 46 t → n ≡ cents-value → ((f : Form) → FloatText t f → ⊥) → NoItem t n
-  unsupported : Has 46 t → n ≡ unsupported-numeral → UnsupportedText t → NoItem t n
-  far : Has 46 t → n ≡ unusable → (v : Float) → DecimalText t v → isUsableCents v ≡ false → NoItem t n
+  no-cents : Contains 46 t → n ≡ cents-value → ((f : Form) → FloatText t f → ⊥) → NoItem t n
+  unsupported : Contains 46 t → n ≡ unsupported-numeral → UnsupportedText t → NoItem t n
+  far : Contains 46 t → n ≡ unusable → (v : Float) → DecimalText t v → isUsableCents v ≡ false → NoItem t n
   no-numer : (a b : List ℕ) → Split t a b → NoInteger numer-value false (2 ^ 32) a n → NoItem t n
   no-denom : (a b : List ℕ) → Split t a b → (p : ℕ) → U32Text a p → NoInteger denom-value false (2 ^ 32) b n → NoItem t n
   zero-part : (a b : List ℕ) → Split t a b → (p q : ℕ) → U32Text a p → U32Text b q → (p ≡ 0) ⊎ (q ≡ 0) → n ≡ unusable → NoItem t n

@@ -28,7 +28,7 @@ abbrev pub required : List Required
 required = Required.description ∷ Required.count ∷ []
 
 -- a line with content: the whole of it, trimmed, and its token
-pub record Line : Type 0 where
+pub record ContentLine : Type 0 where
   pub whole : List ℕ
   pub token : List ℕ
 
@@ -37,19 +37,19 @@ abbrev pub Value : Required → Type 0
 Value Required.description = List ℕ
 Value Required.count = ℕ
 
-abbrev pub Gives : (f : Required) → Line → Value f → Type 0
+abbrev pub Gives : (f : Required) → ContentLine → Value f → Type 0
 Gives Required.description l d = d ≡ l .whole
 Gives Required.count l n = IntText false (2 ^ 16) (l .token) (pos n)
 
 -- n is the first number of 01's order that the line draws there: any line with content is a description
-abbrev pub Wrong : Required → Line → ℕ → Type 0
+abbrev pub Wrong : Required → ContentLine → ℕ → Type 0
 Wrong Required.description l n = ⊥
 Wrong Required.count l n = NoInteger int-value false (2 ^ 16) (l .token) n
 
 -- THE FORMAT: two required lines and then items, each by its token
 abbrev pub scale : Format
 scale = record {
-  Word = Line;
+  Word = ContentLine;
   word = λ m t. record { whole = m; token = t };
   Required = Required;
   required = required;
@@ -67,8 +67,8 @@ Values = listing.Values scale required
 abbrev pub descriptionOf : Values → List ℕ
 descriptionOf vs = vs .0
 
-abbrev pub declaredOf : Values → ℕ
-declaredOf vs = vs .1 .0
+abbrev pub declaredCountOf : Values → ℕ
+declaredCountOf vs = vs .1 .0
 
 -- THE LANGUAGE: the text s is a scale file with this description, these items after the implicit one, and this sorted list
 pub record ScaleText (s description : List ℕ) (items : List Item) (list : List Entry) : Type 0 where
@@ -77,7 +77,7 @@ pub record ScaleText (s description : List ℕ) (items : List Item) (list : List
   pub values : Values
   pub lines : listing.Begins scale says required values items
   pub not-large : length items ≤ 65535
-  pub consistent : length items ≡ declaredOf values
+  pub consistent : length items ≡ declaredCountOf values
   pub described : description ≡ descriptionOf values
   pub sorted : scaleOf (implicit ∷ items) ≡ gives list
 
@@ -89,8 +89,8 @@ IsScale s = (description : List ℕ) × (items : List Item) × (list : List Entr
 abbrev pub WrongEnd : Values → List Item → ℕ → Type 0
 WrongEnd vs items n =
     ((n ≡ too-large) × (65535 < length items)) ⊎
-    (((n ≡ inconsistent-count) × (length items ≤ 65535) × (length items ≡ declaredOf vs → ⊥)) ⊎
-    ((n ≡ beyond-reach) × (length items ≤ 65535) × (length items ≡ declaredOf vs) × (scaleOf (implicit ∷ items) ≡ refuses beyond-reach 0)))
+    (((n ≡ inconsistent-count) × (length items ≤ 65535) × (length items ≡ declaredCountOf vs → ⊥)) ⊎
+    ((n ≡ beyond-reach) × (length items ≤ 65535) × (length items ≡ declaredCountOf vs) × (scaleOf (implicit ∷ items) ≡ refuses beyond-reach 0)))
 
 -- THE EARLIEST FAULT of a text, where the tables have so many places, the first for the implicit item: "A table with no place gives 12,
 -- detail 0, before reading"

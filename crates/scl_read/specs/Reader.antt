@@ -1,5 +1,6 @@
 -- Document 01, "Scale": what the reader computes, by what the lines of the text say. `Language` says what a scale file is,
 -- `proofs/Language` that the two agree. Assumes nothing.
+use mathlib.Core.Path.{_≡_}
 use mathlib.Core.List.{List, [], _∷_}
 use Prim.Native.Nat.{ℕ, zero, suc, _+_}
 use lib.Dec.{ltb, eqb}
@@ -14,8 +15,9 @@ use Rattle.scl_read.specs.declared.item.ItemRead.the-variants as item
 use Rattle.scl_tables.specs.Build.{sortedOf, isBeyond, afterList}
 use Rattle.scl_tables.specs.Room.{roomOf}
 use Rattle.sorted.specs.Lent.{ListTable}
+use Rattle.sorting.specs.Entries.{Entry}
 use Rattle.text.specs.Placed.{placedIn}
-use Rattle.text.specs.ReadLine.{saidIn}
+use Rattle.text.specs.ReadLine.{saidIn, part}
 use Rattle.text.specs.Reading.{Meaning, content}
 use Rattle.text.specs.declared.line.LineSays.{LineSays}
 use Rattle.text.specs.declared.line.LineSays.the-variants.{NotUtf8, Blank, Comment, Content}
@@ -97,14 +99,20 @@ abbrev pub readOf : ℕ → List ℕ → Said SclRead
 readOf zero text = refuses no-room 0
 readOf (suc places) text = andThen (checkOf places text) (λ n. gives (scaleRead n text))
 
+-- what the reader finds in an accepted text: its description, its items, and the sorted list that is written
+pub record ReaderFinds (s description : List ℕ) (items : List Item) (list : List Entry) : Type 0 where
+  pub described : part s (descriptionIn s .start) (descriptionIn s .end) ≡ description
+  pub given : givenIn s ≡ items
+  pub sorted : sortedOf (implicit ∷ items) ≡ gives list
+
 -- items written at places k, k + 1, ..
-unfoldable pub written : ItemTable → ℕ → List Item → ItemTable
-written t k [] = t
-written t k (i ∷ is) = written (writtenAt t k i) (k + 1) is
+unfoldable pub writtenFrom : ItemTable → ℕ → List Item → ItemTable
+writtenFrom t k [] = t
+writtenFrom t k (i ∷ is) = writtenFrom (writtenAt t k i) (k + 1) is
 
 -- THE TABLES after a read: an accepted text's items, and their sorted list; a refusal leaves them as they were
 abbrev pub itemsAfter : Said SclRead → List ℕ → ItemTable → ItemTable
-itemsAfter (gives r) text t = written t 0 (itemsRead text)
+itemsAfter (gives r) text t = writtenFrom t 0 (itemsRead text)
 itemsAfter (refuses n d) text t = t
 
 abbrev pub sortedAfter : Said SclRead → List ℕ → ListTable → ListTable

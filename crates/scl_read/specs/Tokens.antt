@@ -20,9 +20,9 @@ use Rattle.scl_read.specs.declared.item.ItemRead.{ItemRead}
 use Rattle.scl_read.specs.declared.item.ItemRead.the-variants.{Is, IsNot}
 
 -- where a byte first stands; the length where it does not
-unfoldable pub placeOf : ℕ → List ℕ → ℕ
-placeOf b [] = 0
-placeOf b (c ∷ s) = pick (eqb c b) 0 (suc (placeOf b s))
+unfoldable pub positionOf : ℕ → List ℕ → ℕ
+positionOf b [] = 0
+positionOf b (c ∷ s) = pick (eqb c b) 0 (suc (positionOf b s))
 
 -- the item, where it can be used; else 10
 abbrev pub usableItem : Item → ItemRead
@@ -53,9 +53,9 @@ slashedIn t k =
 
 -- THE ITEM that a token is, or its number
 unfoldable pub itemIn : List ℕ → ItemRead
-itemIn t = pick (ltb (placeOf 46 t) (length t)) (centsIn (readDecimal t)) (slashedIn t (placeOf 47 t))
+itemIn t = pick (ltb (positionOf 46 t) (length t)) (centsIn (readDecimal t)) (slashedIn t (positionOf 47 t))
 
 -- what is said of it at line k
-abbrev pub itemAt : ℕ → ItemRead → Said Item
-itemAt k (Is item) = gives item
-itemAt k (IsNot n) = refuses n k
+abbrev pub itemSaid : ℕ → ItemRead → Said Item
+itemSaid k (Is item) = gives item
+itemSaid k (IsNot n) = refuses n k

@@ -12,7 +12,7 @@ ghost use Prim.Native.Nat.{_+_, _^_, _<_};
 ghost use lib.ListN.{length, take, drop};
 ghost use Rattle.decimals.specs.DecimalScan.{readDecimal};
 ghost use Rattle.integers.specs.Integer.{readInt};
-ghost use Rattle.scl_read.specs.Tokens.{placeOf, usableItem, centsIn, fractionIn, wholeIn, itemIn};
+ghost use Rattle.scl_read.specs.Tokens.{positionOf, usableItem, centsIn, fractionIn, wholeIn, itemIn};
 
 // The item that a token is, or the number that it draws.
 pub enum ItemRead {
@@ -22,7 +22,7 @@ pub enum ItemRead {
 
 // Where a byte first stands; the length where it does not.
 fn find(s: &[u8], byte: u8) -> usize
-    ensures { λ r. ⌜ r ≡ placeOf byte (now (s .entry)) ⌝ }
+    ensures { λ r. ⌜ r ≡ positionOf byte (now (s .entry)) ⌝ }
 {
     let mut i = 0;
     while i < s.len() {

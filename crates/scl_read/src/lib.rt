@@ -28,7 +28,7 @@ ghost use Rattle.scl.specs.Items.{isUsable};
 ghost use Rattle.scl.specs.Table.{itemTable};
 ghost use Rattle.scl_tables.specs.Room.{roomOf};
 ghost use Rattle.sorted.specs.Lent.{listTable};
-ghost use Rattle.scl_read.specs.Reader.{saysRead, unread, whichOf, finished, checkOf, itemsRead, written, descriptionIn, readOf, afterItems, afterSorted};
+ghost use Rattle.scl_read.specs.Reader.{saysRead, unread, whichOf, finished, checkOf, itemsRead, writtenFrom, descriptionIn, readOf, afterItems, afterSorted};
 
 // The description: where its part of the text starts and ends.
 pub struct Description {
@@ -142,7 +142,7 @@ fn fill(text: &[u8], kind: &mut [u8], cents: &mut [f64], numer: &mut [u32], deno
     requires { ⌜ (length (itemsRead (now text)) ≤ length (now kind)) × (length (itemsRead (now text)) ≤ length (now cents))
         × (length (itemsRead (now text)) ≤ length (now numer)) × (length (itemsRead (now text)) ≤ length (now denom)) ⌝ }
     ensures { λ _. ⌜ itemTable (now (kind .exit)) (now (cents .exit)) (now (numer .exit)) (now (denom .exit))
-        ≡ written (itemTable (now (kind .entry)) (now (cents .entry)) (now (numer .entry)) (now (denom .entry))) 0 (itemsRead (now (text .entry))) ⌝ }
+        ≡ writtenFrom (itemTable (now (kind .entry)) (now (cents .entry)) (now (numer .entry)) (now (denom .entry))) 0 (itemsRead (now (text .entry))) ⌝ }
 {
     scl_tables::write_item(kind, cents, numer, denom, 0, Item::Cents(0.0));
     let mut at = 0;

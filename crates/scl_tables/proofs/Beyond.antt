@@ -13,7 +13,7 @@ use borrow.Author.Tests.{leb-true, le-leb, lt-leb}
 use lib.IntN.{pos}
 use lib.Ieee.{Float, binary64, fits, eq, le, div, ofInt}
 use Rattle.base.specs.Numbers.{beyond-reach}
-use Rattle.base.specs.Said.{Said, gives, refuses, pick, andThen}
+use Rattle.base.specs.Said.{Said, gives, refuses, pick, andThen, Accepted}
 use Rattle.base.proofs.Said.{same-value}
 use Rattle.floats.specs.Floats.{zeroF, oneF}
 use Rattle.floats.specs.Ranges.{inReach}
@@ -30,7 +30,7 @@ use Rattle.sorted.proofs.Usable.{InReach, arranged-usable}
 use Rattle.scl.specs.Items.{isUsable, denomOf, ratioOf, Held, AllHeld}
 use Rattle.scl.specs.Table.{areUsable, noItem}
 use Rattle.scl_tables.specs.Reduce.{reducedBy}
-use Rattle.scl_tables.specs.Build.{entry, entryOf, entriesFrom, overridden, lastOf, countOf, sortedOf, scaleOf, isNone, isBeyond}
+use Rattle.scl_tables.specs.Build.{entry, reducedEntry, entriesFrom, overridden, lastOf, countOf, sortedOf, scaleOf, isNone, isBeyond}
 use Rattle.scl.specs.declared.Item.{Item}
 use Rattle.scl.specs.declared.Item.the-variants.{Cents, Fraction}
 use Rattle.scl_tables.specs.declared.reduction.Reduced.{Reduced}
@@ -41,16 +41,11 @@ use Rattle.scl_tables.proofs.Override.{turned}
 use Rattle.floats.proofs.Between.{inverse-within, within-more, within-reach}
 use Rattle.scl_tables.proofs.Reaches.{log-gives, period-one, Reaches, reduced-reaches}
 
--- a value is given
-pub record Given {A : Type 0} (s : Said A) : Type 0 where
-  pub value : A
-  pub is : s ≡ gives value
-
--- a step that goes on from it
-abbrev on : {A B : Type 0} {s : Said A} (f : A → Said B) (g : Given s) → Given (f (g .value)) → Given (andThen s f)
+-- a step that goes on from what is accepted
+abbrev on : {A B : Type 0} {s : Said A} (f : A → Said B) (g : Accepted s) → Accepted (f (g .value)) → Accepted (andThen s f)
 on f g k = record { value = k .value; is = ap (λ t. andThen t f) (g .is) ∙ k .is }
 
-abbrev at : {A : Type 0} (a : A) → Given (gives a)
+abbrev at : {A : Type 0} (a : A) → Accepted (gives a)
 at a = record { value = a; is = refl }
 
 held-at : (items : List Item) (i : ℕ) → AllHeld items → i < length items → Held (getD items i noItem)
@@ -65,7 +60,7 @@ Fine n e = Within 32 32 (e .ratio) × (e .place < n)
 
 -- m such entries are given
 pub record Listed (n m : ℕ) (s : Said (List Entry)) : Type 0 where
-  pub given : Given s
+  pub given : Accepted s
   pub size : length (given .value) ≡ m
   pub fine : All (Fine n) (given .value)
 
@@ -89,7 +84,7 @@ module _ (period : Float) (fp : fits binary64 period ≡ true) (p : Within 32 32
     abbrev it : Entry
     it = entry k (reduced-given .value .ratio) (reduced-given .value .wraps)
 
-    entry-is : entryOf period k i ≡ gives it
+    entry-is : reducedEntry period k i ≡ gives it
     entry-is =
         ap (λ s. andThen s (λ ratio. andThen (reducedBy period ratio) (λ y. gives (entry k (y .ratio) (y .wraps))))) (ratio-given .is)
         ∙ ap (λ s. andThen s (λ (y : Reduced). gives (entry k (y .ratio) (y .wraps)))) (reduced-given .is)

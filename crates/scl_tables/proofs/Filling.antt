@@ -19,12 +19,12 @@ use Rattle.sorted.proofs.Numbering.{length-from, from-snoc}
 use Rattle.scl.specs.Items.{ratioOf}
 use Rattle.scl.specs.Table.{noItem}
 use Rattle.scl_tables.specs.Reduce.{reducedBy}
-use Rattle.scl_tables.specs.Build.{entry, entryOf, entriesFrom}
+use Rattle.scl_tables.specs.Build.{entry, reducedEntry, entriesFrom}
 use Rattle.scl.specs.declared.Item.{Item}
 use Rattle.scl_tables.specs.declared.reduction.Reduced.{Reduced}
 
 -- ---- one entry
-pub entry-told : (period : Float) (i : ℕ) (item : Item) {r : Float} {x : Reduced} → gives r ≡ ratioOf item → gives x ≡ reducedBy period r → gives (entry i (x .ratio) (x .wraps)) ≡ entryOf period i item
+pub entry-told : (period : Float) (i : ℕ) (item : Item) {r : Float} {x : Reduced} → gives r ≡ ratioOf item → gives x ≡ reducedBy period r → gives (entry i (x .ratio) (x .wraps)) ≡ reducedEntry period i item
 entry-told period i item h k = rw (← h, ← k)
 
 -- ---- what is said of a list, one element after the other
@@ -45,7 +45,7 @@ ahead-one done e s =
     andThen-after s (λ (es : List Entry). e ∷ es) (λ es. gives (done ++ es))
     ∙ andThen-same s (λ es. gives (done ++ (e ∷ es))) (λ es. gives ((done ++ (e ∷ [])) ++ es)) (λ es. ap gives (sym (append-snoc done e es)))
 
-one-more : (period : Float) (i : ℕ) (items : List Item) (e : Entry) → i < length items → gives e ≡ entryOf period i (getD items i noItem)
+one-more : (period : Float) (i : ℕ) (items : List Item) (e : Entry) → i < length items → gives e ≡ reducedEntry period i (getD items i noItem)
     → entriesFrom period i (drop i items) ≡ andThen (entriesFrom period (suc i) (drop (suc i) items)) (λ es. gives (e ∷ es))
 one-more period i items e l h = rw (drop-cons items i noItem l, ← h)
 
@@ -75,7 +75,7 @@ pub fill-starts : (period : Float) (items : List Item) (rs : List Float) (ws : L
 fill-starts period items rs ws a b = record { end = omega arith; ratios = a; wraps = b; done = whole (entriesFrom period 0 items); reach = λ j l. absurd (not-suc-le-zero l) }
 
 module _ {period : Float} {items : List Item} {i : ℕ} {rs : List Float} {ws : List ℤ} (v : Filled period items i rs ws) where
-  module _ (r : Float) (w : ℤ) (l : i < length items) (h : gives (entry i r w) ≡ entryOf period i (getD items i noItem)) (q : inReach r ≡ true) where
+  module _ (r : Float) (w : ℤ) (l : i < length items) (h : gives (entry i r w) ≡ reducedEntry period i (getD items i noItem)) (q : inReach r ≡ true) where
     in-rs : i < length rs
     in-rs = omega (arith, v .ratios)
 

@@ -14,7 +14,7 @@ use Rattle.scl.specs.declared.Item.{Item}
 use Rattle.pitch.proofs.Numbers.{log-numbered, from-octaves-numbered, inverse-numbered}
 use Rattle.scl.proofs.Numbers.{as-ratio-numbered}
 use Rattle.scl_tables.specs.Reduce.{reducedBy}
-use Rattle.scl_tables.specs.Build.{entryOf, entriesFrom, lastOf, countOf, sortedOf, scaleOf, sizedOf}
+use Rattle.scl_tables.specs.Build.{reducedEntry, entriesFrom, lastOf, countOf, sortedOf, scaleOf, sizedOf}
 
 count-numbered : (q : Float) → Numbered (count q)
 count-numbered q = numbered-pick (le leastI32 q && lt q pastI32) (Numbered.value _) (Numbered.number (omega arith) (omega arith))
@@ -24,7 +24,7 @@ reduced-numbered period ratio =
     numbered-pick (negligible period) (Numbered.value _)
     (numbered-then (log-numbered period) (λ size. numbered-then (log-numbered ratio) (λ octaves. numbered-then (from-octaves-numbered (remEuclid octaves size)) (λ r. numbered-then (count-numbered (divEuclid octaves size)) (λ w. Numbered.value _)))))
 
-entry-numbered : (period : Float) (place : ℕ) (i : Item) → Numbered (entryOf period place i)
+entry-numbered : (period : Float) (place : ℕ) (i : Item) → Numbered (reducedEntry period place i)
 entry-numbered period place i = numbered-then (as-ratio-numbered i) (λ r. numbered-then (reduced-numbered period r) (λ x. Numbered.value _))
 
 entries-numbered : (period : Float) (k : ℕ) (is : List Item) → Numbered (entriesFrom period k is)

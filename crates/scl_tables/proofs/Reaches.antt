@@ -18,7 +18,7 @@ use Rattle.remainder.specs.Euclid.{remEuclid, divEuclid}
 use Rattle.floats.specs.Ranges.{inReach, negligible}
 use Rattle.floats.proofs.Compare.{le-pos}
 use Rattle.floats.proofs.Ranges.{Within, reach-says}
-use Rattle.explog.specs.Rules.{L, inPowers, logOf, logAt, ratioOf}
+use Rattle.explog.specs.Rules.{L, inPowers, logOf, logAt, octavesOf}
 use Rattle.explog.proofs.Theorems.{log-far, log-zero, log-one}
 use Rattle.pitch.specs.Ratios.{fromOctaves}
 use Rattle.scl_tables.specs.Reduce.{reducedTo, isCount, reducedOctaves, reducedBy}
@@ -71,8 +71,8 @@ octaves-reach a size octaves l f o s p =
     record { value = reducedTo (r .value) (toSigned 31 (divEuclid octaves size)); is = rw (r .is, c); between = r .between }
 
 -- ---- of any ratio by any period in the range
-ratio-fits : (z : ℤ) → fits binary64 (ratioOf z) ≡ true
-unfolding ratioOf
+ratio-fits : (z : ℤ) → fits binary64 (octavesOf z) ≡ true
+unfolding octavesOf
 ratio-fits (pos n) = is-true (fits binary64 (round binary64 false n (2 ^ 52))) (round-fits binary64 false n (2 ^ 52))
 ratio-fits (negsuc n) = is-true (fits binary64 (round binary64 true (suc n) (2 ^ 52))) (round-fits binary64 true (suc n) (2 ^ 52))
 

@@ -10,9 +10,9 @@ use lib.ListN.{length, take, drop, length-append}
 use lib.Ieee.{Float, binary64, fits}
 use lib.Dec.{lit≤}
 use Rattle.base.specs.Numbers.{beyond-reach}
-use Rattle.base.specs.Said.{gives, refuses, Said}
+use Rattle.base.specs.Said.{gives, refuses, Said, One}
 use Rattle.base.specs.Tables.{over}
-use Rattle.base.proofs.Said.{One, one-result, same-value}
+use Rattle.base.proofs.Said.{one-result, same-value}
 use Rattle.floats.specs.Floats.{oneF}
 use Rattle.sorting.specs.Entries.{Entry}
 use Rattle.sorting.proofs.Columns.{zip-columns}

@@ -25,13 +25,13 @@ abbrev pub entry : ℕ → Float → ℤ → Entry
 entry place ratio wraps = record { place = place; ratio = ratio; wraps = wraps }
 
 -- the item of a place, reduced by the period
-abbrev pub entryOf : Float → ℕ → Item → Said Entry
-entryOf period place item = andThen (ratioOf item) (λ ratio. andThen (reducedBy period ratio) (λ x. gives (entry place (x .ratio) (x .wraps))))
+abbrev pub reducedEntry : Float → ℕ → Item → Said Entry
+reducedEntry period place item = andThen (ratioOf item) (λ ratio. andThen (reducedBy period ratio) (λ x. gives (entry place (x .ratio) (x .wraps))))
 
 -- `iter().enumerate().map(..)`, from place k on
 abbrev pub entriesFrom : Float → ℕ → List Item → Said (List Entry)
 entriesFrom period k [] = gives []
-entriesFrom period k (i ∷ is) = andThen (entryOf period k i) (λ e. andThen (entriesFrom period (suc k) is) (λ es. gives (e ∷ es)))
+entriesFrom period k (i ∷ is) = andThen (reducedEntry period k i) (λ e. andThen (entriesFrom period (suc k) is) (λ es. gives (e ∷ es)))
 
 -- "override of the period's entry": the last one is the period itself; for a period below 1 place 0 is the period turned over
 abbrev pub overridden : Float → List Entry → Said (List Entry)

@@ -22,7 +22,7 @@ ghost use Rattle.sorted.specs.Lent.{AllInReach, from, listTable};
 ghost use Rattle.scl.specs.Items.{isUsable, ratioOf};
 ghost use Rattle.scl.specs.Table.{itemOf, itemsOf, itemsIn, itemTable, areUsable, isItems, writtenAt};
 ghost use Rattle.scl_tables.specs.Reduce.{IsPeriod};
-ghost use Rattle.scl_tables.specs.Build.{entry, entryOf, entriesFrom, lastOf, sortedOf, isBeyond, isGiven, afterList};
+ghost use Rattle.scl_tables.specs.Build.{entry, reducedEntry, entriesFrom, lastOf, sortedOf, isBeyond, isGiven, afterList};
 ghost use Rattle.scl_tables.specs.Room.{roomOf};
 ghost use Rattle.scl_tables.specs.Writing.{storedOf};
 
@@ -124,7 +124,7 @@ fn reduced_at(
 ) -> Reduced
     requires { ⌜ (i < length (now kind)) × (length (now cents) ≡ length (now kind)) × (length (now numer) ≡ length (now kind)) × (length (now denom) ≡ length (now kind))
         × (isUsable (itemOf (getD (now kind) i 0) (getD (now cents) i nan) (getD (now numer) i 0) (getD (now denom) i 0)) ≡ true) × IsPeriod period ⌝ }
-    ensures { λ r. ⌜ (gives (entry i (r .ratio) (r .wraps)) ≡ entryOf (period .ratio) i (itemOf (getD (now (kind .entry)) i 0) (getD (now (cents .entry)) i nan) (getD (now (numer .entry)) i 0) (getD (now (denom .entry)) i 0)))
+    ensures { λ r. ⌜ (gives (entry i (r .ratio) (r .wraps)) ≡ reducedEntry (period .ratio) i (itemOf (getD (now (kind .entry)) i 0) (getD (now (cents .entry)) i nan) (getD (now (numer .entry)) i 0) (getD (now (denom .entry)) i 0)))
         × (inReach (r .ratio) ≡ true) ⌝ }
 {
     let item = scl::item_at(kind, cents, numer, denom, i);

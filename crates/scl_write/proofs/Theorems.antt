@@ -8,9 +8,9 @@ use Prim.Native.Nat.{ℕ, _≤_, _<_}
 use native.Mathlib.Omega.{arith}
 use lib.ListN.{length, drop}
 use Rattle.base.specs.Numbers.{unusable, no-room}
-use Rattle.base.specs.Said.{gives, refuses, pick, Numbered}
+use Rattle.base.specs.Said.{gives, refuses, pick, Numbered, One}
 use Rattle.base.specs.Tables.{after}
-use Rattle.base.proofs.Said.{One, one-result, no-value, numbered-pick}
+use Rattle.base.proofs.Said.{one-result, no-value, numbered-pick}
 use Rattle.utf8.specs.Utf8Machine.{utf8From, fresh}
 use Rattle.utf8.proofs.Utf8Language.{accepts}
 use Rattle.writing.specs.Answers.{saysSize}

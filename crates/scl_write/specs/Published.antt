@@ -12,7 +12,7 @@ use Rattle.integers.specs.Digits.{AllDigits, decimal}
 use Rattle.integers.specs.IntegerText.{Digits}
 use Rattle.printing.specs.PrintText.{scaledOf}
 use Rattle.text.specs.Lines.{NoLF, EndsCR, Lines}
-use Rattle.writing.specs.PublishedLines.{Comment, Kept, Stands, Number}
+use Rattle.writing.specs.PublishedLines.{PublishedComment, Kept, Stands, Number}
 use Rattle.scl.specs.Items.{denomOf}
 use Rattle.scl.specs.declared.Item.{Item}
 use Rattle.scl.specs.declared.Item.the-variants.{Cents, Fraction}
@@ -68,7 +68,7 @@ pub record PublishedText (s : List ℕ) (m : Scale) : Type 0 where
 pub record OneLine (description : List ℕ) : Type 0 where
   pub no-lf : NoLF description
   pub no-cr : EndsCR description → ⊥
-  pub no-comment : Comment description → ⊥
+  pub no-comment : PublishedComment description → ⊥
 
 -- the pitch value of an item of the library: cents to three decimals, ratios exactly, an integer over 1
 abbrev pub pitchOf : Item → Pitch

@@ -11,7 +11,7 @@ use lib.ListN.{length, getD}
 use lib.Ieee.{Float, binary64, fits, le, lt, eq, mul, div, ofBits}
 use borrow.Author.Tests.{eqb-true, eqb-false, ltb-false}
 use Rattle.base.specs.Numbers.{beyond-reach}
-use Rattle.base.specs.Said.{Said, gives, refuses, pick, andThen}
+use Rattle.base.specs.Said.{Said, gives, refuses, pick, andThen, Accepted}
 use Rattle.floats.specs.Floats.{zeroF, oneF}
 use Rattle.floats.specs.Ranges.{inReach, inSearch}
 use Rattle.floats.proofs.Between.{within-more, within-reach, inverse-within, over-within}
@@ -28,14 +28,14 @@ use Rattle.scl.proofs.Items.{ratio-reach}
 use Rattle.scl_tables.specs.Reduce.{reducedBy}
 use Rattle.scl_tables.specs.declared.reduction.Reduced.{Reduced}
 use Rattle.scl_tables.proofs.Reaches.{log-gives, period-one, reduced-reaches}
-use Rattle.scl_tables.proofs.Beyond.{Given, Fine, Leaves, period-ratio}
+use Rattle.scl_tables.proofs.Beyond.{Fine, Leaves, period-ratio}
 use Rattle.relative.specs.Scales.{noEntry}
 use Rattle.searching.specs.Search.{tolerance, choice, chosenOf, clamped, upperOf, indexOf, foundAt, nearestOf, searchOf}
 use Rattle.searching.proofs.Opened.{lastly, chosen-is, pickedAt, search-none, search-some}
 use Rattle.searching.proofs.Within.{mul-within}
 
 -- a step that goes on from a value
-on : {A B : Type 0} (s : Said A) (f : A → Said B) → Given s → ((a : A) → Given (f a)) → Given (andThen s f)
+on : {A B : Type 0} (s : Said A) (f : A → Said B) → Accepted s → ((a : A) → Accepted (f a)) → Accepted (andThen s f)
 on s f g k = record { value = k (g .value) .value; is = ap (λ t. andThen t f) (g .is) ∙ k (g .value) .is }
 
 near-one : Within 1 0 tolerance
@@ -62,14 +62,14 @@ module _ (lower upper target : Float) (l : Within 32 32 lower) (u : Within 32 32
   turned-is : inverse (div binary64 upper target) ≡ gives (div binary64 oneF (div binary64 upper target))
   turned-is = rw (up-reach, turned-reach)
 
-  last : (b : Bool) → Given (pick b (gives (choice false (div binary64 target lower))) (andThen (inverse (div binary64 upper target)) (λ turned. gives (choice true turned))))
+  last : (b : Bool) → Accepted (pick b (gives (choice false (div binary64 target lower))) (andThen (inverse (div binary64 upper target)) (λ turned. gives (choice true turned))))
   last true = record { value = choice false (div binary64 target lower); is = refl }
   last false = on (inverse (div binary64 upper target)) (λ turned. gives (choice true turned)) (record { value = div binary64 oneF (div binary64 upper target); is = turned-is }) (λ turned. record { value = choice true turned; is = refl })
 
   all-reach : ((inReach (div binary64 upper target) && inReach (div binary64 target lower)) && inReach (mul binary64 (div binary64 target lower) tolerance)) ≡ true
   all-reach = rw (up-reach, within-reach (within-more (lit≤ tt) (lit≤ tt) down-within), within-reach (within-more (lit≤ tt) (lit≤ tt) bound-within)) refl
 
-  pub chosen-given : Given (chosenOf lower upper target)
+  pub chosen-given : Accepted (chosenOf lower upper target)
   chosen-given =
       let x = last (lt (mul binary64 (div binary64 target lower) tolerance) (div binary64 upper target)) in
       record {
@@ -93,7 +93,7 @@ clamped-in last n h = go (eqb n 0) (ltb last n) refl refl
     go false true e k = (h, omega arith)
     go false false e k = let z = eqb-false n 0 e in (omega (arith, z), ltb-false last n k)
 
-pub nearest-given : (n : ℕ) (es : List Entry) (periods : ℤ) (target : Float) → 1 < length es → All (Fine n) es → Within 64 64 target → Given (nearestOf es periods target)
+pub nearest-given : (n : ℕ) (es : List Entry) (periods : ℤ) (target : Float) → 1 < length es → All (Fine n) es → Within 64 64 target → Accepted (nearestOf es periods target)
 unfolding nearestOf
 nearest-given n es periods target two a t =
     let at = upperOf es target in
@@ -116,21 +116,21 @@ module _ (items : List Item) (some : 0 < length items) (h : AllHeld items) (u : 
   two : (length items - 1 ≡ 0 → ⊥) → 1 < length es
   two n = omega (arith, n, leaves .size)
 
-  rest : (length items - 1 ≡ 0 → ⊥) → Given (andThen (reducedBy period x) (λ y. nearestOf es (y .wraps) (y .ratio)))
+  rest : (length items - 1 ≡ 0 → ⊥) → Accepted (andThen (reducedBy period x) (λ y. nearestOf es (y .wraps) (y .ratio)))
   rest n =
       let r = reduced-reaches 64 period x (lit≤ tt) (period-ratio items some h u .held) fx (within-more (lit≤ tt) (lit≤ tt) (period-ratio items some h u .between)) (search-says x sx) in
       let g = nearest-given (length items) es (r .value .wraps) (r .value .ratio) (two n) (leaves .entries) (r .between) in
       record { value = g .value; is = ap (λ (s : Said Reduced). andThen s (λ y. nearestOf es (y .wraps) (y .ratio))) (r .is) ∙ g .is }
 
-  pub search-given : (length items ≡ 2 → period ≡ oneF → ⊥) → Given (searchOf items es x)
+  pub search-given : (length items ≡ 2 → period ≡ oneF → ⊥) → Accepted (searchOf items es x)
   search-given except = go (eqb (length items - 1) 0) refl
     where
-      tested : (n : length items - 1 ≡ 0 → ⊥) (b c : Bool) → eqb (length items - 1) 1 ≡ b → eq (logOf period) zeroF ≡ c → Given (pick (b && c) (refuses beyond-reach 0) (andThen (reducedBy period x) (λ y. nearestOf es (y .wraps) (y .ratio))))
+      tested : (n : length items - 1 ≡ 0 → ⊥) (b c : Bool) → eqb (length items - 1) 1 ≡ b → eq (logOf period) zeroF ≡ c → Accepted (pick (b && c) (refuses beyond-reach 0) (andThen (reducedBy period x) (λ y. nearestOf es (y .wraps) (y .ratio))))
       tested n true true e k = absurd (except (let z = eqb-true (length items - 1) 1 e in omega (arith, z)) (one k))
       tested n true false e k = rest n
       tested n false c e k = rest n
 
-      go : (b : Bool) → eqb (length items - 1) 0 ≡ b → Given (searchOf items es x)
+      go : (b : Bool) → eqb (length items - 1) 0 ≡ b → Accepted (searchOf items es x)
       go true e = record { value = foundAt (getD es 0 noEntry) 0 (pos 0) x; is = sym (search-none items es (length items - 1) x refl (eqb-true (length items - 1) 0 e)) }
       go false e =
           let n = eqb-false (length items - 1) 0 e in

@@ -12,8 +12,8 @@ use lib.ListN.{length, getD, length-map}
 use lib.Ieee.{Float, binary64, fits, lt, eq, mul, div}
 use borrow.Author.Tests.{ne-eqb}
 use Rattle.base.specs.Numbers.{unusable, beyond-reach}
-use Rattle.base.specs.Said.{Said, gives, refuses, pick, andThen}
-use Rattle.base.proofs.Said.{One, Split, one-plain, same-value}
+use Rattle.base.specs.Said.{Said, gives, refuses, pick, andThen, One}
+use Rattle.base.proofs.Said.{Split, one-plain, same-value}
 use Rattle.floats.specs.Floats.{zeroF, oneF}
 use Rattle.floats.specs.Ranges.{inReach}
 use Rattle.explog.specs.Rules.{L}

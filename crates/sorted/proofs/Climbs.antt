@@ -13,7 +13,7 @@ use Rattle.floats.specs.Floats.{twoTo}
 use Rattle.floats.specs.Ranges.{inReach}
 use Rattle.floats.proofs.Ranges.{and-true}
 use Rattle.sorting.proofs.Order.{lt-cross}
-use Rattle.sorted.specs.Lent.{goesOn, usableAfter, usable}
+use Rattle.sorted.specs.Lent.{mayFollow, usableAfter, usable}
 use Rattle.sorted.proofs.Usable.{reach-positive, next, usable-in-reach, usable-rises, passes, usable-is}
 
 -- the ends of the range
@@ -83,7 +83,7 @@ ends p (r ∷ rs) q h = let s = step p r rs q h in le-trans-positive p r highest
 
 -- ---- so it is usable, and what is usable goes up so
 climbs-passes : (p : Float) (rs : List Float) → T (positive p) → T (le lowest p) → climbs p rs ≡ true → usableAfter p rs ≡ true
-unfolding usableAfter goesOn
+unfolding usableAfter mayFollow
 climbs-passes p [] q l h = refl
 climbs-passes p (r ∷ rs) q l h =
     let s = step p r rs q h in

@@ -7,8 +7,8 @@ use native.Mathlib.Nat.{le-of-suc-le-suc, not-suc-le-zero}
 use lib.ListN.{length, getD}
 use lib.IntN.{ℤ}
 use lib.Ieee.{Float, nan, lt}
-use Rattle.base.specs.Said.{pick}
-use Rattle.base.proofs.Said.{One, one-result}
+use Rattle.base.specs.Said.{pick, One}
+use Rattle.base.proofs.Said.{one-result}
 use Rattle.sorting.specs.Entries.{zip, Columns}
 use Rattle.sorting.proofs.Columns.{columns-one}
 use Rattle.sorted.specs.Lent.{ListTable, isList, firstNotBelow, from}

@@ -20,7 +20,7 @@ use Rattle.sorting.specs.Order.{lower, sortBy}
 use Rattle.sorted.specs.Repeats.{keep}
 use Rattle.sorting.specs.Asked.{AllPositive}
 use Rattle.sorting.specs.Stable.{NeverFalls}
-use Rattle.sorted.specs.Lent.{AllInReach, goesOn, usableAfter, usable}
+use Rattle.sorted.specs.Lent.{AllInReach, mayFollow, usableAfter, usable}
 use Rattle.base.proofs.Integers.{bool-cases}
 use Rattle.sorting.proofs.Order.{clash, float-lel, float-asym}
 use Rattle.sorting.proofs.Work.{All}
@@ -60,7 +60,7 @@ pub record Next (p r : Float) (rs : List Float) : Type 0 where
   pub more : usableAfter r rs ≡ true
 
 pub next : (p r : Float) (rs : List Float) → usableAfter p (r ∷ rs) ≡ true → Next p r rs
-unfolding goesOn usableAfter
+unfolding mayFollow usableAfter
 next p r rs h =
     let here = both (inReach r && not (lt r p)) (usableAfter r rs) h in
     let parts = both (inReach r) (not (lt r p)) (here .0) in
@@ -96,7 +96,7 @@ usable-rises p (r ∷ rs) h (suc i) (suc j) l k = usable-rises r rs (next p r rs
 
 -- ---- and what a search asks for passes
 pub passes : (p : Float) (rs : List Float) → AllInReach rs → NeverFalls rs → (0 < length rs → lt (getD rs 0 nan) p ≡ false) → usableAfter p rs ≡ true
-unfolding goesOn usableAfter
+unfolding mayFollow usableAfter
 passes p [] a f h = refl
 passes p (r ∷ rs) a f h =
     let more = passes r rs (λ i k. a (suc i) (suc-le-suc k)) (λ i j l k. f (suc i) (suc j) (suc-le-suc l) (suc-le-suc k)) (λ k. f 0 1 (omega arith) (suc-le-suc k)) in

@@ -57,13 +57,13 @@ pub record Listed (count : ℕ) (t : ListTable) : Type 0 where
 
 -- ---- the same as tests
 -- after the ratio p, r lies in the range and is not below p
-unfoldable pub goesOn : Float → Float → Bool
-goesOn p r = inReach r && not (lt r p)
+unfoldable pub mayFollow : Float → Float → Bool
+mayFollow p r = inReach r && not (lt r p)
 
 -- so does each ratio after the one before it
 unfoldable pub usableAfter : Float → List Float → Bool
 usableAfter p [] = true
-usableAfter p (r ∷ rs) = goesOn p r && usableAfter r rs
+usableAfter p (r ∷ rs) = mayFollow p r && usableAfter r rs
 
 abbrev pub usable : List Float → Bool
 usable rs = usableAfter zeroF rs

@@ -5,7 +5,8 @@ use Prim.Native.Nat.{ℕ}
 use lib.IntN.{ℤ}
 use lib.Ieee.{Float}
 use Rattle.base.specs.declared.Refusal.{Refusal}
-use Rattle.base.proofs.Said.{One, one-result}
+use Rattle.base.specs.Said.{One}
+use Rattle.base.proofs.Said.{one-result}
 use Rattle.floats.specs.Answers.{saysFloat}
 use Rattle.integer_math.specs.Answers.{saysI32}
 use Rattle.kbm.specs.Answers.{saysDegree}

@@ -22,7 +22,7 @@ use Rattle.kbm.specs.declared.Entry.{Entry}
 use Rattle.kbm.specs.declared.Entry.the-variants.{Mapped, Unmapped}
 use Rattle.kbm.specs.declared.Kbm.{Kbm}
 use Rattle.writing.specs.Fitted.{fitted, textLength}
-use Rattle.kbm_write.specs.Export.{lastOf, middleOf, exportText, exportOf}
+use Rattle.kbm_write.specs.Export.{lastKeyOf, middleKeyOf, exportText, exportOf}
 use Rattle.kbm_build.specs.Builder.{fitsTable, pushed, isReady, kbmWith, kbmOf, built, withOneMore}
 use Rattle.kbm_build.specs.declared.KbmBuilder.{KbmBuilder}
 use Rattle.kbm_build.specs.declared.Octave.{Octave}
@@ -57,7 +57,7 @@ unfolding exportOf fitted
 export-kbm-numbered kbm map room =
     numbered-then
     (numbered-pick (isTable (kbm .count) map && inPitch (kbm .root .pitch .0))
-    (numbered-then (held-numbered (lastOf kbm)) (λ last. numbered-then (held-numbered (middleOf kbm)) (λ middle. numbered-pick (leb (length (exportText kbm (tableOf (kbm .count) map))) room) (Numbered.value _) (Numbered.number (omega arith) (omega arith)))))
+    (numbered-then (held-numbered (lastKeyOf kbm)) (λ last. numbered-then (held-numbered (middleKeyOf kbm)) (λ middle. numbered-pick (leb (length (exportText kbm (tableOf (kbm .count) map))) room) (Numbered.value _) (Numbered.number (omega arith) (omega arith)))))
     (Numbered.number (omega arith) (omega arith)))
     (λ t. Numbered.value (length t))
 

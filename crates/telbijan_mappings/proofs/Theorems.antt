@@ -6,7 +6,8 @@ use Prim.Native.Nat.{ℕ}
 use lib.IntN.{ℤ}
 use lib.ListN.{length}
 use lib.Ieee.{Float}
-use Rattle.base.proofs.Said.{One, one-result}
+use Rattle.base.specs.Said.{One}
+use Rattle.base.proofs.Said.{one-result}
 use Rattle.base.specs.Tables.{after}
 use Rattle.key.specs.Keys.{key}
 use Rattle.kbm.specs.Degree.{scaleDegreeOf}

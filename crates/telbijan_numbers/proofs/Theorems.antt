@@ -4,7 +4,8 @@ use Prim.Native.Nat.{ℕ}
 use lib.IntN.{ℤ}
 use lib.Ieee.{Float}
 use mathlib.Core.Bool.{Bool}
-use Rattle.base.proofs.Said.{One, one-result}
+use Rattle.base.specs.Said.{One}
+use Rattle.base.proofs.Said.{one-result}
 use Rattle.math.specs.Division.{quotientOf, remainderOf, divisionOf}
 use Rattle.math.specs.OddPart.{oddPart}
 use Rattle.telbijan_answers.specs.Interface.{result, kept, fieldOf}

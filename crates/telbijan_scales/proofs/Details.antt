@@ -23,7 +23,7 @@ use Rattle.harmonics.specs.declared.segment.Steps as segment
 use Rattle.harmonics.specs.declared.segment.Steps.the-variants.{Whole, Equal}
 use Rattle.harmonics.specs.Harmonics.{itemAt, madeHarmonics}
 use Rattle.rank2.specs.Notes.{ratiosFrom}
-use Rattle.rank2.specs.Rank2.{ascendingOf, pushedAs, madeRank2}
+use Rattle.rank2.specs.Rank2.{ascendingRatios, pushedAs, madeRank2}
 use Rattle.telbijan_scales.specs.Generators.{segmentWith, divisionsWith}
 use Rattle.telbijan_answers.specs.Details.{Undetailed}
 use Rattle.telbijan_answers.proofs.Details.{steps, exp-undetailed, log-undetailed, as-cents-undetailed, as-ratio-undetailed}
@@ -103,5 +103,5 @@ pushed-undetailed [] = search steps
 pushed-undetailed (r ∷ rs) = let rest = pushed-undetailed rs in search (steps, as-cents-undetailed, rest)
 
 pub create-rank2-temperament-scale-undetailed : (generator : Float) (positive negative : ℕ) (period : Float) (t : ItemTable) (l : ListTable) → Undetailed (countedOf (madeRank2 t l generator positive negative period))
-unfolding madeRank2 ascendingOf
+unfolding madeRank2 ascendingRatios
 create-rank2-temperament-scale-undetailed generator positive negative period t l = search (floats, made-undetailed, ratios-undetailed, pushed-undetailed) depth 14

@@ -5,7 +5,8 @@ use Prim.Native.Nat.{ℕ}
 use lib.Ieee.{Float}
 use lib.ListN.{length}
 use mathlib.Core.Bool.{Bool}
-use Rattle.base.proofs.Said.{One, one-result}
+use Rattle.base.specs.Said.{One}
+use Rattle.base.proofs.Said.{one-result}
 use Rattle.base.specs.Tables.{after}
 use Rattle.scl.specs.Items.{ratioOf}
 use Rattle.scl.specs.Table.{ItemTable, itemOf}

@@ -5,7 +5,7 @@ use Prim.Native.Nat.{ℕ}
 use lib.IntN.{ℤ}
 use lib.Ieee.{Float}
 use lib.ListN.{length}
-use Rattle.base.proofs.Said.{One, one-result}
+use Rattle.base.proofs.Said.{one-result}
 use Rattle.key.specs.declared.PianoKey.{PianoKey}
 use Rattle.sorted.specs.Lent.{ListTable}
 use Rattle.scl.specs.Table.{ItemTable, itemsIn}
@@ -13,7 +13,7 @@ use Rattle.kbm.specs.declared.Kbm.{Kbm}
 use Rattle.kbm.specs.declared.KbmRoot.{KbmRoot}
 use Rattle.tuning.specs.Run.{keyPitches, runOf, afterHz, afterNumbers}
 use Rattle.telbijan_answers.specs.Interface.{result, kept, fieldOf}
-use Rattle.base.specs.Said.{Said}
+use Rattle.base.specs.Said.{Said, One}
 use Rattle.searching.specs.declared.approximation.Approximation.{Approximation}
 use Rattle.telbijan_tuning.specs.Tunings.{periodSaid, relativeSaid, sortedRelativeSaid, pitchSaid, keyPitchSaid, sortedPitchSaid, maybePitchSaid, maybeDegreePitchSaid}
 use Rattle.telbijan_tuning.specs.Searches.{findSaid, findSortedSaid, findPitchSaid, findPitchSortedSaid, findKeySaid}

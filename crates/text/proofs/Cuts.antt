@@ -12,7 +12,7 @@ use lib.Dec.{eqb}
 use borrow.Author.Tests.{eq-eqb, ne-eqb}
 use Rattle.base.specs.Said.{pick}
 use Rattle.base.proofs.Pick.{pick-both, pick-never}
-use Rattle.text.specs.Cut.{lines, cut, isCR, push, len, skip}
+use Rattle.text.specs.Cut.{lines, cut, isCR, push, len, skip, NextLine}
 use Rattle.utf8.specs.Eights.{Passed}
 use Rattle.text.specs.declared.lines.Ends.{Ends}
 use Rattle.utf8.proofs.Passes.{pass-over}
@@ -110,19 +110,12 @@ skip-pos b s = go (eqb b 10) (isCR b s)
     go false true = omega arith
     go false false = omega arith
 
--- THE LAW OF A READER'S TURN: what `next_line` answers is the first of the lines left, and where the others start
-pub record Turn (s : List ℕ) (at : ℕ) (l : Ends) : Type 0 where
-  pub first : lines (drop at s) ≡ take (l .end - at) (drop at s) ∷ lines (drop (l .next) s)
-  pub starts : at ≤ l .end
-  pub ends : l .end ≤ length s
-  pub moves : at < l .next
-  pub stays : l .next ≤ length s
-
 lines-some : (s : List ℕ) → 0 < length s → (lines s ≡ take (len s) s ∷ lines (drop (skip s) s)) × (0 < skip s)
 lines-some [] h = absurd (omega arith)
 lines-some (b ∷ s) h = (lines-first b s, skip-pos b s)
 
-pub turn : (s : List ℕ) (at : ℕ) → at < length s → {l : Ends} → l ≡ cut at (drop at s) → Turn s at l
+-- THE LAW OF A READER'S TURN
+pub turn : (s : List ℕ) (at : ℕ) → at < length s → {l : Ends} → l ≡ cut at (drop at s) → NextLine s at l
 turn s at h {l} e =
     let d = drop at s in
     let n : length d ≡ length s - at = length-drop at s in

@@ -14,8 +14,8 @@ use lib.ListN.{length, getD}
 use lib.Seq.{getD-set-same, getD-set-other}
 use Rattle.base.specs.Integers.{inI32, held}
 use Rattle.base.specs.Numbers.{overflow}
-use Rattle.base.specs.Said.{Said, gives, refuses, pick, andThen}
-use Rattle.base.proofs.Said.{One, Split, one-result, one-plain}
+use Rattle.base.specs.Said.{Said, gives, refuses, pick, andThen, One}
+use Rattle.base.proofs.Said.{Split, one-result, one-plain}
 use Rattle.key.specs.Keys.{key, stepsBetween}
 use Rattle.key.specs.declared.PianoKey.{PianoKey}
 use Rattle.pitch.specs.Answers.{saysPitch}

@@ -2,7 +2,8 @@
 use mathlib.Core.List.{List, reverse}
 use Prim.Native.Nat.{ℕ, _-_}
 use lib.ListN.{length}
-use Rattle.base.proofs.Said.{One, one-result}
+use Rattle.base.specs.Said.{One}
+use Rattle.base.proofs.Said.{one-result}
 use Rattle.white.specs.Trim.{front, back, run}
 
 module _ (s : List ℕ) where

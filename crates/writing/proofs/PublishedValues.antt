@@ -14,7 +14,7 @@ use Rattle.writing.proofs.Plain.{Word, Words}
 use Rattle.writing.proofs.Printed.{integer-form, digits-of}
 
 -- no word is a comment
-no-comment : (t : List ℕ) → Word t → P.Comment t → ⊥
+no-comment : (t : List ℕ) → Word t → P.PublishedComment t → ⊥
 no-comment [] w c = c
 no-comment (b ∷ t) w c = omega (arith, c, w .each .0)
 

@@ -9,8 +9,8 @@ use lib.Ieee.{Float}
 use lib.IntN.{ℤ}
 use lib.ListN.{length}
 use lib.Seq.{sets}
-use Rattle.base.specs.Said.{Said}
-use Rattle.base.proofs.Said.{One, Split, one-plain, one-result}
+use Rattle.base.specs.Said.{Said, One}
+use Rattle.base.proofs.Said.{Split, one-plain, one-result}
 use Rattle.printing.specs.PrintText.{textOf, wholeText}
 use Rattle.writing.specs.Answers.{saysSize}
 use Rattle.writing.specs.Lines.{line, numberText}

@@ -9,15 +9,15 @@ use Rattle.utf8.specs.Characters.{Each}
 use Rattle.integers.specs.IntegerText.{Digits}
 
 -- "A line whose first character (first position) is `!` is a comment"
-abbrev pub Comment : List ℕ → Type 0
-Comment [] = ⊥
-Comment (b ∷ l) = b ≡ 33
+abbrev pub PublishedComment : List ℕ → Type 0
+PublishedComment [] = ⊥
+PublishedComment (b ∷ l) = b ≡ 33
 
 -- the lines that are no comments
 pub data Kept : List (List ℕ) → List (List ℕ) → Type 0 where
   none : Kept [] []
-  comment : {l : List ℕ} {ls ks : List (List ℕ)} → Comment l → Kept ls ks → Kept (l ∷ ls) ks
-  kept : {l : List ℕ} {ls ks : List (List ℕ)} → (Comment l → ⊥) → Kept ls ks → Kept (l ∷ ls) (l ∷ ks)
+  comment : {l : List ℕ} {ls ks : List (List ℕ)} → PublishedComment l → Kept ls ks → Kept (l ∷ ls) ks
+  kept : {l : List ℕ} {ls ks : List (List ℕ)} → (PublishedComment l → ⊥) → Kept ls ks → Kept (l ∷ ls) (l ∷ ks)
 
 -- space or tab
 abbrev pub Blank : ℕ → Type 0

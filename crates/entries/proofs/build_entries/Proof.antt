@@ -57,7 +57,7 @@ use Rattle.scl_tables.specs.Build.{afterList}
 use Rattle.scl_build.specs.Builder.{counted}
 use Rattle.scl_build.specs.declared.SclBuilder.{SclBuilder}
 use Rattle.entries.specs.declared.SortedEntry.{SortedEntry}
-use Rattle.entries.specs.Entries.{entriesIn, firstOf}
+use Rattle.entries.specs.Entries.{asEntries, firstOf}
 use Rattle.entries.specs.Builds.{builtIn, storedOf, Holds}
 use Rattle.entries.proofs.Again.{ref}
 use Rattle.entries.proofs.Columns.{Names, lengths, Rooms, Long, Rows, Outs, Muts, Toks, Openeds, rows-out, rows-home, rows-open, rows-shut}
@@ -292,7 +292,7 @@ module _ {M : Type 1} (𝓤 : URA M) (H : Heap 𝓤) (A : Atoms 𝓤) (W : Given
       qed W (Ended z es) ∵
       suffices ! _ (ends-at 𝓤 H A f.ended stayed (f.clauses 𝓤 H A mem run) W (((κ, (κ₁, (κ₂, (κ₃, (κ₄, tt))))), (q, (q₁, (q₂, (q₃, (q₄, tt))))), tt, args, vals), tt) u a
       (tt, (tt, (tt, (tt, (tt, (z .places, (z .ratios, (z .wraps, (es, tt))))))))) (tt, (tt, (tt, (tt, (tt, (f′ .1 .p, (f′ .1 .r, (f′ .1 .w, (m, tt)))))))))) $
-      says ! (f′ .2 .0, f′ .2 .1, s ∙ ap (λ (i : ℕ). over (entriesIn (now x)) (firstOf i z)) e ∙ f′ .2 .2 .stored (entriesIn (now x))) $
+      says ! (f′ .2 .0, f′ .2 .1, s ∙ ap (λ (i : ℕ). over (asEntries (now x)) (firstOf i z)) e ∙ f′ .2 .2 .stored (asEntries (now x))) $
       move ! (4 ∷ []) $ fsplit3 ! $ nothing ! $ move ! (5 ∷ 0 ∷ []) $ join ! $ move ! (3 ∷ 0 ∷ []) $ join ! $ move ! (2 ∷ 0 ∷ []) $ join ! $ move ! (1 ∷ 0 ∷ []) $ join ! $ move ! (1 ∷ 0 ∷ []) $ join ! $ frame ! $
       move ! (1 ∷ []) $ fsplit3 ! $ nothing ! $ move ! (4 ∷ 0 ∷ []) $ fjoin ! $ move ! (3 ∷ 0 ∷ []) $ fjoin ! $ move ! (2 ∷ 0 ∷ []) $ fjoin ! $ move ! (1 ∷ 0 ∷ []) $ fjoin ! $ nothing ! $ fjoin ! $ nothing ! $ fjoin ! $ nothing ! $ fjoin ! $ nothing ! $ fjoin ! $ nothing ! $ fjoin ! $ frame ! $ owned ! E.the-row (Is E.the-row) (EL.makes E.the-type E′.the-plain 𝓤 H A) a _ (f′ .0) $ done !
 

@@ -53,7 +53,7 @@ use Rattle.scl_read.specs.Reader.{saysRead, itemsAfter, sortedAfter}
 use Rattle.scl_read.specs.declared.SclRead.{SclRead}
 use Rattle.scl_read.specs.declared.SclReadAnswer.{SclReadAnswer}
 use Rattle.entries.specs.declared.SortedEntry.{SortedEntry}
-use Rattle.entries.specs.Entries.{entriesIn, firstOf}
+use Rattle.entries.specs.Entries.{asEntries, firstOf}
 use Rattle.entries.specs.Builds.{storedOf, Holds}
 use Rattle.entries.specs.Readings.{readIn, countRead, sortedRead}
 use Rattle.entries.proofs.Again.{ref}
@@ -308,7 +308,7 @@ module _ {M : Type 1} (𝓤 : URA M) (H : Heap 𝓤) (A : Atoms 𝓤) (W : Given
       qed W (Ended y z es) ∵
       suffices ! _ (ends-at 𝓤 H A f.ended stayed (f.clauses 𝓤 H A mem run) W (((κ, (κ₁, (κ₂, (κ₃, (κ₄, (κ₅, tt)))))), (q, (q₁, (q₂, (q₃, (q₄, (q₅, tt)))))), tt, args, vals), tt) u a
       (tt, (y .kinds, (y .cents, (y .numers, (y .denoms, (z .places, (z .ratios, (z .wraps, (es, tt))))))))) (tt, (f′ .2 .k, (f′ .2 .c, (f′ .2 .n, (f′ .2 .d, (f′ .1 .p, (f′ .1 .r, (f′ .1 .w, (m, tt)))))))))) $
-      says ! (f′ .3 .0, f′ .3 .1, f′ .3 .2, s ∙ ap (λ (i : ℕ). over (entriesIn (now x)) (firstOf i z)) e ∙ f′ .3 .3 .stored (entriesIn (now x))) $
+      says ! (f′ .3 .0, f′ .3 .1, f′ .3 .2, s ∙ ap (λ (i : ℕ). over (asEntries (now x)) (firstOf i z)) e ∙ f′ .3 .3 .stored (asEntries (now x))) $
       move ! (4 ∷ []) $ fsplit3 ! $ move ! (3 ∷ []) $ fsplit ! $ nothing ! $ move ! (6 ∷ 0 ∷ []) $ join ! $ move ! (5 ∷ 0 ∷ []) $ join ! $ move ! (4 ∷ 0 ∷ []) $ join ! $ move ! (3 ∷ 0 ∷ []) $ join ! $ move ! (2 ∷ 0 ∷ []) $ join ! $ move ! (1 ∷ 0 ∷ []) $ join ! $ frame ! $
       move ! (1 ∷ []) $ fsplit3 ! $ move ! (4 ∷ []) $ fsplit3 ! $ move ! (2 ∷ []) $ fsplit ! $ nothing ! $ move ! (8 ∷ 0 ∷ []) $ fjoin ! $ move ! (7 ∷ 0 ∷ []) $ fjoin ! $ move ! (6 ∷ 0 ∷ []) $ fjoin ! $ move ! (5 ∷ 0 ∷ []) $ fjoin ! $ move ! (2 ∷ 0 ∷ []) $ fjoin ! $ move ! (1 ∷ 0 ∷ []) $ fjoin ! $ move ! (2 ∷ 0 ∷ []) $ fjoin ! $ move ! (1 ∷ 0 ∷ []) $ fjoin ! $ nothing ! $ fjoin ! $ frame ! $ owned ! E.the-row (Is E.the-row) (EL.makes E.the-type E′.the-plain 𝓤 H A) a _ (f′ .0) $ done !
 

@@ -54,7 +54,7 @@ use denote.Triple.Table.{entered, cited}
 use denote.Triple.Walked.{says, needs, Stays, stay-slice, stay-none-slice, stay-none, walkOf, goes-slice, goes-none-slice, goes-none, Walks, ends-at, walked, walk-meets}
 use denote.Exit.{yes}
 use Rattle.entries.specs.declared.SortedEntry.{SortedEntry}
-use Rattle.entries.specs.Entries.{noEntry, entryOf, filled}
+use Rattle.entries.specs.Entries.{noEntry, sortedEntryAt, filled}
 use Rattle.entries.proofs.Stored.{length-filled, filled-is}
 use Rattle.entries.proofs.SortedEntry as T
 use Rattle.entries.proofs.SortedEntry.Laws as T′
@@ -82,7 +82,7 @@ module _ {M : Type 1} (𝓤 : URA M) (H : Heap 𝓤) (A : Atoms 𝓤) (W : Given
     (κ κ₁ : Lft) (q q₁ : Share) (b o : ℕ) (γ : GName) (ys : List SortedEntry) (ps : RefT (List ℕ)) (rs : RefT (List Float)) (ws : RefT (List ℤ)) (n : ℕ) (gn : n < 2 ^ 64)
     (room : Room T.the-row (length ys)) (within : (n ≤ length ys) × (n ≤ length (now ps)) × (n ≤ length (now rs)) × (n ≤ length (now ws))) where
   abbrev at : ℕ → SortedEntry
-  at = entryOf (now ps) (now rs) (now ws)
+  at = sortedEntryAt (now ps) (now rs) (now ws)
 
   abbrev args : List SortedEntry → Args
   args l = (record { ptr = (b, o); name = γ; now = l }, (ps, (rs, (ws, (n, tt)))))

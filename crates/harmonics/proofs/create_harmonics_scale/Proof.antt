@@ -8,7 +8,7 @@ use Rattle.scl.specs.Table.{itemTable}
 use Rattle.sorted.specs.Lent.{listTable}
 use Rattle.scl_tables.specs.Build.{afterList}
 use Rattle.scl_build.specs.Builder.{counted}
-use Rattle.generate.specs.Generated.{runOf, listOf}
+use Rattle.generate.specs.Generated.{allPushed, listOf}
 use Rattle.generate.proofs.Made.{all-refused}
 use borrow.Author.Needs.{needs}
 use Rattle.harmonics.specs.Answers.{saysSteps}
@@ -132,8 +132,8 @@ returns-4 c = let a = c .before .before .before .before .before .before .before 
     let w = c .before .before .before .before .before .before .before .before .before .before .before .before .before .write .ensures in
     let f = itemAt (a .segment-type) (a .segment-start) (a .segment-size) (c .before .before .before .before .before .before .before .before .before .before .before .before .before .before .before .before .before .before .before .before .before .before .steps .given .0 .0) in
     let x = plan-given t l (a .segment-type) (a .segment-start) (a .segment-size) (a .neji-divisions) (omega (arith, c .before .before .before .before .before .before .before .before .before .before .before .before .before .before .before .before .before .before .before .before .before .before .before .before .before .before .before .before .before .before .before .before .before .before .before .if1 .left)) (omega (arith, c .before .before .before .before .before .before .before .before .before .before .before .before .before .before .before .before .before .before .before .before .before .before .before .before .before .before .before .before .before .before .before .before .before .before .before .before .before .before .before .before .before .before .good)) (omega (arith, c .before .before .before .before .before .before .before .before .before .before .before .before .before .before .before .before .before .before .before .before .before .before .before .before .before .before .before .before .before .before .before .before .before .before .before .before .before .before .before .before .before .before .good)) (omega (arith, n .ensures, n .ok)) (omega (arith, c .before .before .before .before .before .before .before .before .before .before .before .before .before .before .before .before .before .before .before .before .before .before .before .before .before .before .room-of .ensures, n .ensures, c .before .before .before .before .before .before .before .before .before .before .before .before .before .before .before .before .before .before .before .before .before .before .before .before .before .if2 .left)) (told saysSteps (c .before .before .before .before .before .before .before .before .before .before .before .before .before .before .before .before .before .before .before .before .before .before .before .before .plan .ensures) (c .before .before .before .before .before .before .before .before .before .before .before .before .before .before .before .before .before .before .before .before .before .before .steps .given .1))
-    (w .0 ∙ ap (λ (k : ℕ). counted (runOf t l (saidFrom f 1 k) .builder) (listOf t l (saidFrom f 1 k))) (n .ensures))
-    (w .1 .0 ∙ ap (λ (k : ℕ). runOf t l (saidFrom f 1 k) .table) (n .ensures))
+    (w .0 ∙ ap (λ (k : ℕ). counted (allPushed t l (saidFrom f 1 k) .builder) (listOf t l (saidFrom f 1 k))) (n .ensures))
+    (w .1 .0 ∙ ap (λ (k : ℕ). allPushed t l (saidFrom f 1 k) .table) (n .ensures))
     (w .1 .1 ∙ ap (λ (k : ℕ). afterList (listOf t l (saidFrom f 1 k)) l) (n .ensures)) in
     (x .0, (x .1, x .2))
 

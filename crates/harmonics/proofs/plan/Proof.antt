@@ -8,7 +8,7 @@ use Rattle.scl_tables.proofs.Answered.{told}
 use borrow.Author.Needs.{needs}
 use Rattle.harmonics.specs.Answers.{saysSteps}
 use Rattle.harmonics.specs.Segment.{segmentCount}
-use Rattle.harmonics.specs.Steps.{Reaches, looked}
+use Rattle.harmonics.specs.Steps.{StepsReach, looked}
 use Rattle.harmonics.proofs.Plans.{steps-reach}
 use Rattle.harmonics.proofs.plan.Statement.{statement}
 use Rattle.harmonics.proofs.plan.Tie as tie
@@ -27,7 +27,7 @@ count-of-requires c κs = search needs
 
 look-requires : tie.Need-look-requires
 look-requires c κs = let a = c .before .before .before .before .before .args in
-    (c .before .before .before .before .before .pre, subst (λ (n : ℕ). Reaches (a .size) n (c .before .before .steps .given .0 .0)) (sym (c .count-of .ensures)) (steps-reach (a .start) (a .size) (a .divisions) _ (sym (told saysSteps (c .before .before .before .before .steps-of .ensures) (c .before .before .steps .given .1)))))
+    (c .before .before .before .before .before .pre, subst (λ (n : ℕ). StepsReach (a .size) n (c .before .before .steps .given .0 .0)) (sym (c .count-of .ensures)) (steps-reach (a .start) (a .size) (a .divisions) _ (sym (told saysSteps (c .before .before .before .before .steps-of .ensures) (c .before .before .steps .given .1)))))
 
 returns : tie.Need-returns
 returns c = let a = c .before .before .before .before .args in

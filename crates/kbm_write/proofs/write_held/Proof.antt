@@ -11,7 +11,7 @@ use mir.Val.{SFits}
 use Rattle.base.specs.Integers.{held}
 use Rattle.base.proofs.Machine.{told-held}
 use Rattle.integer_math.specs.Answers.{saysI32}
-use Rattle.kbm_write.specs.Export.{lastOf, middleOf}
+use Rattle.kbm_write.specs.Export.{lastKeyOf, middleKeyOf}
 use Rattle.kbm_write.proofs.Room.{held-is}
 use borrow.Author.Needs.{needs}
 use Rattle.kbm_write.proofs.write_held.Statement.{statement}
@@ -43,13 +43,13 @@ middle-fits : (c : tie.After-known-told2) → SFits w32 (c .before .middle .give
 middle-fits c = search needs
 
 -- what `to_i32` said is `held` of the exact last key
-told-last : (c : tie.After-to-i32) → saysI32 (c .to-i32 .result) ≡ held (lastOf (c .before .before .before .before .before .before .before .before .before .before .args .kbm))
+told-last : (c : tie.After-to-i32) → saysI32 (c .to-i32 .result) ≡ held (lastKeyOf (c .before .before .before .before .before .before .before .before .before .before .args .kbm))
 told-last c =
     let s = c .before .before .before .before .before .before .before .before .before .before in
     told-held _-ℤ_ (s .args .kbm .end .0) (pos 1) (end-fits s) (record { sfits = lit< tt }) (record { sfits = c .before .difference .ok }) (c .before .difference .ensures) (c .to-i32 .ensures)
 
 -- and of the exact middle key
-told-middle : (c : tie.After-to-i322) → saysI32 (c .to-i322 .result) ≡ held (middleOf (c .before .before .before .before .before .before .before .before .before .before .before .before .before .before .before .before .args .kbm))
+told-middle : (c : tie.After-to-i322) → saysI32 (c .to-i322 .result) ≡ held (middleKeyOf (c .before .before .before .before .before .before .before .before .before .before .before .before .before .before .before .before .args .kbm))
 told-middle c =
     let s = c .before .before .before .before .before .before .before .before .before .before .before .before .before .before .before .before in
     told-held _+ℤ_ (s .args .kbm .root .reference .0) (s .args .kbm .root .offset) (search needs) (search needs) (record { sfits = c .before .sum .ok }) (c .before .sum .ensures) (c .to-i322 .ensures)
@@ -98,7 +98,7 @@ returns c =
     let s = c .before .before .before .before .before .before .before .before .before .before .before .before .before .before .before .before .before .before .before .before .before .before .before in
     let las = sym (told-last (l .before .before)) ∙ ap saysI32 (l .last .given .1) in
     let mid = sym (told-middle (m .before .before)) ∙ ap saysI32 (m .middle .given .1) in
-    let e = rw (toZ-pos w32 {n = s .args .kbm .count} (size-fits s), toZ-ofZ {w = w32} (start-fits s), toZ-ofZ {w = w32} (last-fits (c .before .before .before .before .before .before .before .before .before .before)), toZ-ofZ {w = w32} (middle-fits (c .before .before .before .before)), toZ-ofZ {w = w32} (reference-fits s), toZ-ofZ {w = w16} (octave-fits s), toZ-ofZ {w = w32} (octave-wide s), held-is (lastOf (s .args .kbm)) las, held-is (middleOf (s .args .kbm)) mid) at (w .write-mapping .ensures) in
+    let e = rw (toZ-pos w32 {n = s .args .kbm .count} (size-fits s), toZ-ofZ {w = w32} (start-fits s), toZ-ofZ {w = w32} (last-fits (c .before .before .before .before .before .before .before .before .before .before)), toZ-ofZ {w = w32} (middle-fits (c .before .before .before .before)), toZ-ofZ {w = w32} (reference-fits s), toZ-ofZ {w = w16} (octave-fits s), toZ-ofZ {w = w32} (octave-wide s), held-is (lastKeyOf (s .args .kbm)) las, held-is (middleKeyOf (s .args .kbm)) mid) at (w .write-mapping .ensures) in
     rw (las, mid) e
 
 returns-2 : tie.Need-returns-2

@@ -17,6 +17,7 @@ use lib.Ieee.Scale.{round-same}
 use borrow.Author.Tests.{ne-eqb}
 use Rattle.base.specs.Said.{Said, gives, andThen}
 use Rattle.base.proofs.Said.{same-value}
+use Rattle.floats.specs.Floats.{float}
 use Rattle.floats.specs.Ranges.{inReach}
 use Rattle.floats.proofs.Between.{quotient-within, within-more, within-reach}
 use Rattle.floats.proofs.Ranges.{Within}
@@ -30,7 +31,7 @@ use Rattle.pitch.specs.Given.{computed}
 use Rattle.pitch.specs.Ratios.{fromFloat, asOctaves, fromOctaves, dividedInto}
 use Rattle.scl.proofs.Items.{octaves-ratio}
 use Rattle.scl_tables.proofs.Reaches.{log-gives}
-use Rattle.harmonics.specs.Segment.{float, intervalOf, stepsOf}
+use Rattle.harmonics.specs.Segment.{intervalOf, stepsOf}
 use Rattle.harmonics.specs.declared.segment.Divisions.the-variants.{Into}
 use Rattle.harmonics.specs.declared.segment.Steps.the-variants.{Equal}
 use Rattle.harmonics.proofs.Sizes.{times}

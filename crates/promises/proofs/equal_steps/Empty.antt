@@ -17,21 +17,21 @@ use lib.Ieee.Fits.{down-pos}
 use lib.Ieee.Scale.{round-same}
 use Rattle.base.specs.Numbers.{beyond-reach}
 use Rattle.base.specs.Said.{Said, gives, refuses, pick, andThen}
-use Rattle.floats.specs.Floats.{floor, oneF}
+use Rattle.floats.specs.Floats.{float, floor, oneF}
 use Rattle.floats.proofs.Sign.{round-neg}
 use Rattle.explog.specs.Exp.{tOf, pOf}
 use Rattle.explog.specs.Log.{bOf, yOf}
 use Rattle.explog.specs.Root.{root, rootFrom}
-use Rattle.explog.specs.Rules.{E, L, floorOf, timesPower, powerOf, logOf, logAt, ratioOf}
+use Rattle.explog.specs.Rules.{E, L, floorOf, timesPower, powerOf, logOf, logAt, octavesOf}
 use Rattle.pitch.specs.Given.{computed}
 use Rattle.pitch.specs.Ratios.{asOctaves, fromOctaves, repeated}
 use Rattle.sorted.specs.Lent.{ListTable}
-use Rattle.scl.specs.Items.{ratioOf as ratioOfItem}
+use Rattle.scl.specs.Items.{ratioOf}
 use Rattle.scl.specs.Table.{ItemTable, implicit}
 use Rattle.scl.specs.declared.Item.{Item}
 use Rattle.scl_tables.specs.Build.{lastOf}
 use Rattle.scl_tables.specs.Room.{roomOf}
-use Rattle.harmonics.specs.Segment.{float, harmonicOf, fraction, nearAt, intervalOf}
+use Rattle.harmonics.specs.Segment.{harmonicOf, fraction, nearAt, intervalOf}
 use Rattle.harmonics.specs.declared.segment.Divisions.the-variants.{Into}
 use Rattle.harmonics.specs.declared.segment.Fraction.{Fraction}
 use Rattle.harmonics.specs.declared.segment.SegmentType.{SegmentType}
@@ -61,7 +61,7 @@ zero-is = refl
 
 -- ---- L(1) = 0 and E(0) = 1
 log-one : logOf One ≡ Zero
-unfolding logOf logAt ratioOf bOf yOf round size
+unfolding logOf logAt octavesOf bOf yOf round size
 log-one = refl
 
 power-zero : powerOf (floorOf Zero) ≡ One
@@ -129,7 +129,7 @@ module _ (start n : ℕ) (some : 0 < start) (s-small : start < 2 ^ 16) (pos-n : 
       ∙ power-zero
 
   one-octaves : asOctaves One ≡ gives Zero
-  unfolding L logOf logAt ratioOf bOf yOf round size le lt eq
+  unfolding L logOf logAt octavesOf bOf yOf round size le lt eq
   one-octaves = refl
 
   zero-power : fromOctaves Zero ≡ gives One
@@ -157,7 +157,7 @@ module _ (start n : ℕ) (some : 0 < start) (s-small : start < 2 ^ 16) (pos-n : 
       ∙ ap (λ (s : Said Float). andThen (andThen s (λ ratio. gives (nearAt type start 0 ratio))) (λ f. gives (asItem f))) repeated-one
       ∙ ap (λ (f : Fraction). gives (asItem f)) (near-one type)
 
-  ratio-one : ratioOfItem (asItem (fraction start start)) ≡ gives oneF
+  ratio-one : ratioOf (asItem (fraction start start)) ≡ gives oneF
   unfolding ofInt ofBits le lt eq
   ratio-one = ap computed (self-over start some s-small (round binary64 false start 1) (round binary64 false start 1) whole whole)
 
@@ -165,7 +165,7 @@ module _ (start n : ℕ) (some : 0 < start) (s-small : start < 2 ^ 16) (pos-n : 
   period-one type two =
       let m = items-of type start 0 some s-small (lit< tt) (Into n) few (λ e. let z : n ≡ 0 = cc in omega (arith, z, two)) in
       let is = m .last (Equal (step start 0 n some s-small (lit< tt) pos-n few)) (steps-said start 0 n some s-small (lit< tt) pos-n few) pos-n (asItem (fraction start start)) (item-one type) in
-      (two, ap (λ (s : Said (List Item)). andThen s (λ is. ratioOfItem (lastOf (implicit ∷ is)))) (m .are) ∙ ap ratioOfItem is ∙ ratio-one)
+      (two, ap (λ (s : Said (List Item)). andThen s (λ is. ratioOf (lastOf (implicit ∷ is)))) (m .are) ∙ ap ratioOf is ∙ ratio-one)
 
 -- SIZE 0 IN TWO OR MORE DIVISIONS: 18, where there is room
 pub empty-beyond : (type : SegmentType) (start n : ℕ) (t : ItemTable) (l : ListTable) → 0 < start → start < 2 ^ 16 → 2 ≤ n → n < 2 ^ 16 → n < roomOf t l → madeHarmonics t l type start 0 (Into n) ≡ refuses beyond-reach 0

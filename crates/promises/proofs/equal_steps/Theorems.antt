@@ -15,6 +15,7 @@ use borrow.Author.Tests.{lt-ltb, ltb-true, ltb-false}
 use Rattle.base.specs.Numbers.{unusable, no-room, too-large, beyond-reach}
 use Rattle.base.specs.Said.{Said, gives, refuses, andThen}
 use Rattle.base.proofs.Said.{no-value, no-refusal, same-value, same-refuses}
+use Rattle.floats.specs.Floats.{float}
 use Rattle.explog.specs.Rules.{logOf}
 use Rattle.pitch.specs.Ratios.{asOctaves, fromOctaves, repeated}
 use Rattle.sorted.specs.Lent.{ListTable}
@@ -25,7 +26,7 @@ use Rattle.scl.proofs.Items.{powers-ratio}
 use Rattle.scl_tables.proofs.Reaches.{log-gives}
 use Rattle.scl_tables.specs.Build.{lastOf}
 use Rattle.scl_tables.specs.Room.{roomOf}
-use Rattle.harmonics.specs.Segment.{float, nearAt, stepsOf, segmentCount}
+use Rattle.harmonics.specs.Segment.{nearAt, stepsOf, segmentCount}
 use Rattle.harmonics.specs.declared.segment.Divisions.{Divisions}
 use Rattle.harmonics.specs.declared.segment.Divisions.the-variants.{Into, Lacking}
 use Rattle.harmonics.specs.declared.segment.SegmentType.{SegmentType}

@@ -16,7 +16,7 @@ use lib.Ieee.Order.{round-mono}
 use lib.Ieee.Scale.{round-same}
 use Rattle.base.specs.Numbers.{beyond-reach}
 use Rattle.base.specs.Said.{Said, gives, refuses, andThen}
-use Rattle.floats.specs.Floats.{oneF}
+use Rattle.floats.specs.Floats.{float, oneF}
 use Rattle.floats.specs.Ranges.{inReach}
 use Rattle.explog.proofs.Values.{given}
 use Rattle.pitch.specs.Given.{computed}
@@ -25,7 +25,7 @@ use Rattle.scl.specs.Items.{ratioOf}
 use Rattle.scl.specs.Table.{ItemTable, implicit}
 use Rattle.scl.specs.declared.Item.{Item}
 use Rattle.scl_tables.specs.Build.{lastOf}
-use Rattle.harmonics.specs.Segment.{float, wholeAt}
+use Rattle.harmonics.specs.Segment.{wholeAt}
 use Rattle.harmonics.specs.declared.segment.Divisions.the-variants.{Lacking}
 use Rattle.harmonics.specs.declared.segment.SegmentType.{SegmentType}
 use Rattle.harmonics.specs.declared.segment.SegmentType.the-variants.{Otonal, Utonal}

@@ -29,7 +29,7 @@ use Rattle.base.proofs.Said.{no-refusal, same-refuses}
 use Rattle.kbm_read.proofs.Tables.{leaves-meaning}
 use Rattle.key.specs.declared.PianoKey.{PianoKey}
 use Rattle.promises.specs.kbm.KeysOfText.{entryTokens, lastKey, Inside, Outside, steps, Counts, NotMapped, MappedTo, Silent, TooFar, SaidOf}
-use Rattle.kbm_write.specs.Export.{lastOf}
+use Rattle.kbm_write.specs.Export.{lastKeyOf}
 use Rattle.utf8.proofs.Encodings.{split}
 use Rattle.promises.proofs.kbm.Values.{letter-integer}
 use Rattle.promises.proofs.kbm.Range.{inside, inside-back, outside, outside-back}
@@ -111,7 +111,7 @@ module _ (ts : List (List ℕ)) (given : List Entry) (x : Entries ts given) (r :
 
 -- ---- the range, by the required lines
 module _ (vs : Values required) (key : PianoKey) where
-  last-is : lastOf (mappingFrom vs) ≡ lastKey vs
+  last-is : lastKeyOf (mappingFrom vs) ≡ lastKey vs
   last-is = +ℤ-negℤ-cancel (lastKey vs) (pos 1)
 
   is-inside : inKeys (mappingFrom vs) key ≡ true → Inside vs (key .0)

@@ -59,7 +59,7 @@ example-bytes = refl
 abbrev parts : List ℕ → List (List ℕ)
 parts middle = exampleLines middle (120 ∷ [])
 
-module _ (middle : List ℕ) (n : ℕ) (cut : lines (linesText (parts middle)) ≡ parts middle) (c : P.Comment middle → ⊥) (x : P.Number middle (pos n)) where
+module _ (middle : List ℕ) (n : ℕ) (cut : lines (linesText (parts middle)) ≡ parts middle) (c : P.PublishedComment middle → ⊥) (x : P.Number middle (pos n)) where
   with-middle : P.PublishedText (linesText (parts middle)) (exampleMapping (pos n))
   with-middle =
       record {
@@ -100,7 +100,7 @@ module _ (middle : List ℕ) (n : ℕ) (cut : lines (linesText (parts middle)) �
         most = lit≤ tt;
       }
     where
-      no-mark : (b : ℕ) (l : List ℕ) → 33 < b → P.Comment (b ∷ l) → ⊥
+      no-mark : (b : ℕ) (l : List ℕ) → 33 < b → P.PublishedComment (b ∷ l) → ⊥
       no-mark b l h e = omega arith
 
       all-kept : P.Kept (parts middle) (parts middle)

@@ -14,7 +14,7 @@ use Rattle.floats.proofs.Ranges.{and-true}
 use Rattle.kbm.specs.Keys.{inKeys}
 use Rattle.kbm.specs.declared.Kbm.{Kbm}
 use Rattle.key.specs.declared.PianoKey.{PianoKey}
-use Rattle.kbm_write.specs.Export.{lastOf}
+use Rattle.kbm_write.specs.Export.{lastKeyOf}
 
 -- ---- tests of naturals and of integers
 lt-suc : (a b : ℕ) → ltb a (suc b) ≡ leb a b
@@ -51,29 +51,29 @@ not-at-most (negsuc a) (negsuc b) e = lt-ltb a b (leb-false b a e)
 
 -- ---- the range
 module _ (kbm : Kbm) (key : PianoKey) where
-  range-is : inKeys kbm key ≡ leZ (kbm .start .0) (key .0) && leZ (key .0) (lastOf kbm)
+  range-is : inKeys kbm key ≡ leZ (kbm .start .0) (key .0) && leZ (key .0) (lastKeyOf kbm)
   range-is = rw (below-end (key .0) (kbm .end .0))
 
   -- inside is from the first key to the last
-  pub inside : inKeys kbm key ≡ true → (kbm .start .0 ≤ℤ key .0) × (key .0 ≤ℤ lastOf kbm)
-  inside w = let t = and-true (leZ (kbm .start .0) (key .0)) (leZ (key .0) (lastOf kbm)) (sym range-is ∙ w) in (leZ-yes (t .0), leZ-yes (t .1))
+  pub inside : inKeys kbm key ≡ true → (kbm .start .0 ≤ℤ key .0) × (key .0 ≤ℤ lastKeyOf kbm)
+  inside w = let t = and-true (leZ (kbm .start .0) (key .0)) (leZ (key .0) (lastKeyOf kbm)) (sym range-is ∙ w) in (leZ-yes (t .0), leZ-yes (t .1))
 
-  pub inside-back : kbm .start .0 ≤ℤ key .0 → key .0 ≤ℤ lastOf kbm → inKeys kbm key ≡ true
-  inside-back a b = range-is ∙ rw (is-true (leZ (kbm .start .0) (key .0)) (a .le), is-true (leZ (key .0) (lastOf kbm)) (b .le))
+  pub inside-back : kbm .start .0 ≤ℤ key .0 → key .0 ≤ℤ lastKeyOf kbm → inKeys kbm key ≡ true
+  inside-back a b = range-is ∙ rw (is-true (leZ (kbm .start .0) (key .0)) (a .le), is-true (leZ (key .0) (lastKeyOf kbm)) (b .le))
 
   -- outside is below the first key or above the last
-  pub outside : inKeys kbm key ≡ false → (key .0 <ℤ kbm .start .0) ⊎ (lastOf kbm <ℤ key .0)
-  outside w = go (leZ (kbm .start .0) (key .0)) (leZ (key .0) (lastOf kbm)) refl refl (sym range-is ∙ w)
+  pub outside : inKeys kbm key ≡ false → (key .0 <ℤ kbm .start .0) ⊎ (lastKeyOf kbm <ℤ key .0)
+  outside w = go (leZ (kbm .start .0) (key .0)) (leZ (key .0) (lastKeyOf kbm)) refl refl (sym range-is ∙ w)
     where
-      go : (x y : Bool) → leZ (kbm .start .0) (key .0) ≡ x → leZ (key .0) (lastOf kbm) ≡ y → x && y ≡ false → (key .0 <ℤ kbm .start .0) ⊎ (lastOf kbm <ℤ key .0)
+      go : (x y : Bool) → leZ (kbm .start .0) (key .0) ≡ x → leZ (key .0) (lastKeyOf kbm) ≡ y → x && y ≡ false → (key .0 <ℤ kbm .start .0) ⊎ (lastKeyOf kbm <ℤ key .0)
       go false y e f n = inl (ltZ-yes (rw (not-at-most (kbm .start .0) (key .0) e) tt))
-      go true false e f n = inr (ltZ-yes (rw (not-at-most (key .0) (lastOf kbm) f) tt))
+      go true false e f n = inr (ltZ-yes (rw (not-at-most (key .0) (lastKeyOf kbm) f) tt))
       go true true e f n = let z : _≡_ {A = ℕ} 0 1 = cc in absurd (omega arith)
 
-  pub outside-back : (key .0 <ℤ kbm .start .0) ⊎ (lastOf kbm <ℤ key .0) → inKeys kbm key ≡ false
+  pub outside-back : (key .0 <ℤ kbm .start .0) ⊎ (lastKeyOf kbm <ℤ key .0) → inKeys kbm key ≡ false
   outside-back o = go (bool-cases (inKeys kbm key)) o
     where
-      go : (inKeys kbm key ≡ true) ⊎ (inKeys kbm key ≡ false) → (key .0 <ℤ kbm .start .0) ⊎ (lastOf kbm <ℤ key .0) → inKeys kbm key ≡ false
+      go : (inKeys kbm key ≡ true) ⊎ (inKeys kbm key ≡ false) → (key .0 <ℤ kbm .start .0) ⊎ (lastKeyOf kbm <ℤ key .0) → inKeys kbm key ≡ false
       go (inr n) q = n
       go (inl w) (inl l) = clashℤ l (inside w .0)
       go (inl w) (inr h) = clashℤ h (inside w .1)

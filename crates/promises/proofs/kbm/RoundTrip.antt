@@ -35,7 +35,7 @@ use Rattle.kbm_read.proofs.Language.{accepts}
 use Rattle.listing.specs.Reader.{walkLines}
 use Rattle.writing.specs.Thousandths.{nearestThree}
 use Rattle.kbm_write.specs.Again.{ComesBack}
-use Rattle.kbm_write.specs.Export.{lastOf, middleOf, entryTexts, exportText}
+use Rattle.kbm_write.specs.Export.{lastKeyOf, middleKeyOf, entryTexts, exportText}
 use Rattle.kbm_write.proofs.ExportLines.{exportTexts, export-found}
 use Rattle.writing.proofs.Plain.{selves}
 use Rattle.writing.proofs.Printed.{size-reads, reads-only}
@@ -71,7 +71,7 @@ module _ (room : ℕ) (t1 t2 t3 t4 t5 t6 : List ℕ) (ts : List (List ℕ)) {siz
   pitch-not e4 e5 e6 n6 = rw (e1, e2, e3, n3, e4, e5, e6, n6)
 
 -- the mapping of the seven lines is the one that was written
-mapping-is : (kbm : Kbm) → mappingOf (headIs (kbm .count) (kbm .start .0) (lastOf kbm) (middleOf kbm) (kbm .root .reference .0) (kbm .root .pitch .0) (kbm .octave)) ≡ kbm
+mapping-is : (kbm : Kbm) → mappingOf (headIs (kbm .count) (kbm .start .0) (lastKeyOf kbm) (middleKeyOf kbm) (kbm .root .reference .0) (kbm .root .pitch .0) (kbm .octave)) ≡ kbm
 mapping-is kbm =
     let r = kbm .root .reference .0 in
     let o = kbm .root .offset in
@@ -89,10 +89,10 @@ module _ (kbm : Kbm) (es : List Entry) (y : Typed kbm es) where
   start-back : readInt true (2 ^ 31) (wholeText (kbm .start .0)) ≡ value (kbm .start .0)
   start-back = whole-value (2 ^ 31) (kbm .start .0) (lit< tt) (mag-in (kbm .start .0) (y .start)) (lit< tt)
 
-  last-back : readInt true (2 ^ 31) (wholeText (lastOf kbm)) ≡ value (lastOf kbm)
-  last-back = whole-value (2 ^ 31) (lastOf kbm) (lit< tt) (mag-in (lastOf kbm) (y .last)) (lit< tt)
+  last-back : readInt true (2 ^ 31) (wholeText (lastKeyOf kbm)) ≡ value (lastKeyOf kbm)
+  last-back = whole-value (2 ^ 31) (lastKeyOf kbm) (lit< tt) (mag-in (lastKeyOf kbm) (y .last)) (lit< tt)
 
-  last-low : leZ (pos 2147483647) (lastOf kbm) ≡ false
+  last-low : leZ (pos 2147483647) (lastKeyOf kbm) ≡ false
   last-low = last-below (kbm .end .0) (y .end)
 
   pitch-back : readDecimal (textOf 3 false hz) ≡ decimal.Is (nearestThree hz)
@@ -102,13 +102,13 @@ module _ (kbm : Kbm) (es : List Entry) (y : Typed kbm es) where
   octave-back = whole-value (2 ^ 15) (kbm .octave) (lit< tt) (mag-i16 (kbm .octave) (y .octave)) (lit< tt)
 
   -- what is read where the two keys are, and the pitch's three decimals are usable
-  read-back : (room : ℕ) → kbm .count ≤ room → readInt true (2 ^ 15) (wholeText (middleOf kbm)) ≡ value (middleOf kbm) → readInt true (2 ^ 15) (wholeText (kbm .root .reference .0)) ≡ value (kbm .root .reference .0)
+  read-back : (room : ℕ) → kbm .count ≤ room → readInt true (2 ^ 15) (wholeText (middleKeyOf kbm)) ≡ value (middleKeyOf kbm) → readInt true (2 ^ 15) (wholeText (kbm .root .reference .0)) ≡ value (kbm .root .reference .0)
       → {x : Float} → readDecimal (textOf 3 false hz) ≡ decimal.Is x → inPitch x ≡ true
-      → readOf room (exportText kbm es) ≡ gives (mappingOf (headIs (kbm .count) (kbm .start .0) (lastOf kbm) (middleOf kbm) (kbm .root .reference .0) x (kbm .octave)))
+      → readOf room (exportText kbm es) ≡ gives (mappingOf (headIs (kbm .count) (kbm .start .0) (lastKeyOf kbm) (middleKeyOf kbm) (kbm .root .reference .0) x (kbm .octave)))
   read-back room r e4 e5 {x} e6 n6 =
-      let h = headIs (kbm .count) (kbm .start .0) (lastOf kbm) (middleOf kbm) (kbm .root .reference .0) x (kbm .octave) in
+      let h = headIs (kbm .count) (kbm .start .0) (lastKeyOf kbm) (middleKeyOf kbm) (kbm .root .reference .0) x (kbm .octave) in
       ap (walk room 1 unread) (export-found kbm es)
-      ∙ head-read room (wholeText (pos (kbm .count))) (wholeText (kbm .start .0)) (wholeText (lastOf kbm)) (wholeText (middleOf kbm)) (wholeText (kbm .root .reference .0)) (textOf 3 false hz) (wholeText (kbm .octave)) (entryTexts es)
+      ∙ head-read room (wholeText (pos (kbm .count))) (wholeText (kbm .start .0)) (wholeText (lastKeyOf kbm)) (wholeText (middleKeyOf kbm)) (wholeText (kbm .root .reference .0)) (textOf 3 false hz) (wholeText (kbm .octave)) (entryTexts es)
       size-back start-back last-back last-low e4 e5 e6 n6 octave-back
       ∙ entries-read room 8 h 0 es (y .degrees) (omega (arith, y .counted, r))
       ∙ ends-read room h (0 + length es) (zero-add (length es) ∙ y .counted) (omega (arith, y .counted, y .size)) (omega (arith, y .counted, r))
@@ -116,7 +116,7 @@ module _ (kbm : Kbm) (es : List Entry) (y : Typed kbm es) where
   module _ (room : ℕ) (r : kbm .count ≤ room) where
     comes-back : ComesBack kbm → readOf room (exportText kbm es) ≡ gives kbm
     comes-back c =
-        read-back room r (whole-value (2 ^ 15) (middleOf kbm) (lit< tt) (mag-i16 (middleOf kbm) (c .middle)) (lit< tt))
+        read-back room r (whole-value (2 ^ 15) (middleKeyOf kbm) (lit< tt) (mag-i16 (middleKeyOf kbm) (c .middle)) (lit< tt))
         (whole-value (2 ^ 15) (kbm .root .reference .0) (lit< tt) (mag-i16 (kbm .root .reference .0) (c .reference)) (lit< tt))
         (pitch-back ∙ ap decimal.Is (c .pitch)) (y .pitch)
         ∙ ap gives (mapping-is kbm)
@@ -125,41 +125,41 @@ module _ (kbm : Kbm) (es : List Entry) (y : Typed kbm es) where
     ts = wholeText (kbm .octave) ∷ entryTexts es
 
     -- what reading gives determines which lines were read
-    had-pitch : (b : Bool) → inPitch (nearestThree hz) ≡ b → readInt true (2 ^ 15) (wholeText (middleOf kbm)) ≡ value (middleOf kbm) → readInt true (2 ^ 15) (wholeText (kbm .root .reference .0)) ≡ value (kbm .root .reference .0)
+    had-pitch : (b : Bool) → inPitch (nearestThree hz) ≡ b → readInt true (2 ^ 15) (wholeText (middleKeyOf kbm)) ≡ value (middleKeyOf kbm) → readInt true (2 ^ 15) (wholeText (kbm .root .reference .0)) ≡ value (kbm .root .reference .0)
         → readOf room (exportText kbm es) ≡ gives kbm → nearestThree hz ≡ hz
     had-pitch false n e4 e5 e =
         no-value (sym (ap (walk room 1 unread) (export-found kbm es)
-        ∙ pitch-not room (wholeText (pos (kbm .count))) (wholeText (kbm .start .0)) (wholeText (lastOf kbm)) (wholeText (middleOf kbm)) (wholeText (kbm .root .reference .0)) (textOf 3 false hz) ts size-back start-back last-back last-low e4 e5 pitch-back n) ∙ e)
+        ∙ pitch-not room (wholeText (pos (kbm .count))) (wholeText (kbm .start .0)) (wholeText (lastKeyOf kbm)) (wholeText (middleKeyOf kbm)) (wholeText (kbm .root .reference .0)) (textOf 3 false hz) ts size-back start-back last-back last-low e4 e5 pitch-back n) ∙ e)
     had-pitch true n e4 e5 e = ap (λ (k : Kbm). k .root .pitch .0) (same-value _ _ (sym (read-back room r e4 e5 pitch-back n) ∙ e))
 
-    had-reference : (i : Int) → readInt true (2 ^ 15) (wholeText (kbm .root .reference .0)) ≡ i → readInt true (2 ^ 15) (wholeText (middleOf kbm)) ≡ value (middleOf kbm) → inI16 (middleOf kbm) ≡ true
+    had-reference : (i : Int) → readInt true (2 ^ 15) (wholeText (kbm .root .reference .0)) ≡ i → readInt true (2 ^ 15) (wholeText (middleKeyOf kbm)) ≡ value (middleKeyOf kbm) → inI16 (middleKeyOf kbm) ≡ true
         → readOf room (exportText kbm es) ≡ gives kbm → ComesBack kbm
     had-reference none q e4 m e =
         no-value (sym (ap (walk room 1 unread) (export-found kbm es)
-        ∙ reference-not room (wholeText (pos (kbm .count))) (wholeText (kbm .start .0)) (wholeText (lastOf kbm)) (wholeText (middleOf kbm)) (wholeText (kbm .root .reference .0)) (textOf 3 false hz) ts size-back start-back last-back last-low e4 q) ∙ e)
+        ∙ reference-not room (wholeText (pos (kbm .count))) (wholeText (kbm .start .0)) (wholeText (lastKeyOf kbm)) (wholeText (middleKeyOf kbm)) (wholeText (kbm .root .reference .0)) (textOf 3 false hz) ts size-back start-back last-back last-low e4 q) ∙ e)
     had-reference (value z) q e4 m e =
         let key = kbm .root .reference .0 in
         let h = reads-only (2 ^ 15) key z (lit< tt) (lit≤ tt) (mag-in key (y .reference)) (sound true (2 ^ 15) (lit< tt) z (wholeText key) (sym q)) in
         record { reference = in-i16 key (h .1); middle = m; pitch = had-pitch (inPitch (nearestThree hz)) refl e4 (q ∙ ap value (h .0)) e }
 
-    had-middle : (i : Int) → readInt true (2 ^ 15) (wholeText (middleOf kbm)) ≡ i → readOf room (exportText kbm es) ≡ gives kbm → ComesBack kbm
+    had-middle : (i : Int) → readInt true (2 ^ 15) (wholeText (middleKeyOf kbm)) ≡ i → readOf room (exportText kbm es) ≡ gives kbm → ComesBack kbm
     had-middle none q e =
         no-value (sym (ap (walk room 1 unread) (export-found kbm es)
-        ∙ middle-not room (wholeText (pos (kbm .count))) (wholeText (kbm .start .0)) (wholeText (lastOf kbm)) (wholeText (middleOf kbm)) (wholeText (kbm .root .reference .0)) (textOf 3 false hz) ts size-back start-back last-back last-low q) ∙ e)
+        ∙ middle-not room (wholeText (pos (kbm .count))) (wholeText (kbm .start .0)) (wholeText (lastKeyOf kbm)) (wholeText (middleKeyOf kbm)) (wholeText (kbm .root .reference .0)) (textOf 3 false hz) ts size-back start-back last-back last-low q) ∙ e)
     had-middle (value z) q e =
-        let key = middleOf kbm in
+        let key = middleKeyOf kbm in
         let h = reads-only (2 ^ 15) key z (lit< tt) (lit≤ tt) (mag-in key (y .middle)) (sound true (2 ^ 15) (lit< tt) z (wholeText key) (sym q)) in
         had-reference (readInt true (2 ^ 15) (wholeText (kbm .root .reference .0))) refl (q ∙ ap value (h .0)) (in-i16 key (h .1)) e
 
     -- an export read again, into a table with a place for each entry, is the same mapping exactly when it comes back
     pub round-trip : (readOf room (exportText kbm es) ≡ gives kbm) ↔ ComesBack kbm
-    round-trip = (had-middle (readInt true (2 ^ 15) (wholeText (middleOf kbm))) refl, comes-back)
+    round-trip = (had-middle (readInt true (2 ^ 15) (wholeText (middleKeyOf kbm))) refl, comes-back)
 
   -- the entries that the lines of the export say, read or not
   lines-back : entriesIn (kbm .count) (exportText kbm es) ≡ es
   unfolding blanks
   lines-back =
-      let g : givenFrom 7 (selves (exportTexts kbm es)) ≡ es = head-given (wholeText (pos (kbm .count))) (wholeText (kbm .start .0)) (wholeText (lastOf kbm)) (wholeText (middleOf kbm)) (wholeText (kbm .root .reference .0)) (textOf 3 false hz) (wholeText (kbm .octave)) (entryTexts es) ∙ entries-given es (y .degrees) in
+      let g : givenFrom 7 (selves (exportTexts kbm es)) ≡ es = head-given (wholeText (pos (kbm .count))) (wholeText (kbm .start .0)) (wholeText (lastKeyOf kbm)) (wholeText (middleKeyOf kbm)) (wholeText (kbm .root .reference .0)) (textOf 3 false hz) (wholeText (kbm .octave)) (entryTexts es) ∙ entries-given es (y .degrees) in
       let z : kbm .count - length es ≡ 0 = omega (arith, y .counted) in
       rw (export-found kbm es, g, z) (append-nil es)
 

@@ -21,7 +21,7 @@ use Rattle.kbm.specs.declared.Entry.{Entry}
 use Rattle.kbm.specs.declared.Entry.the-variants.{Mapped, Unmapped}
 use Rattle.kbm.specs.declared.Kbm.{Kbm}
 use Rattle.kbm.proofs.Theorems.{key-has}
-use Rattle.kbm_write.specs.Export.{lastOf}
+use Rattle.kbm_write.specs.Export.{lastKeyOf}
 use Rattle.kbm_write.specs.Published as P
 use Rattle.key.specs.declared.PianoKey.{PianoKey}
 use Rattle.promises.specs.kbm.Sounding.{SoundsWithin, SilentWithin, SoundsPast, AnsweredAs}
@@ -38,7 +38,7 @@ not-mapped m {r} {i} {z} p u f =
 -- m says of the keys what the mapping with the entries es does, and its middle key is the mapping's reference key
 pub record SameKeys (m : P.Mapping) (kbm : Kbm) (es : List Entry) : Type 0 where
   pub first : m .first ≡ kbm .start .0
-  pub last : m .last ≡ lastOf kbm
+  pub last : m .last ≡ lastKeyOf kbm
   pub middle : m .middle ≡ kbm .root .reference .0
   pub octave : m .octave ≡ kbm .octave
   pub size : length es ≡ m .size

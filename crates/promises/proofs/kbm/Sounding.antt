@@ -19,7 +19,7 @@ use Rattle.kbm.specs.declared.Kbm.{Kbm}
 use Rattle.kbm.proofs.Table.{table-length}
 use Rattle.kbm_read.specs.Reader.{readOf, afterRead}
 use Rattle.kbm_read.proofs.Ends.{length-added}
-use Rattle.kbm_write.specs.Export.{lastOf, exportText}
+use Rattle.kbm_write.specs.Export.{lastKeyOf, exportText}
 use Rattle.kbm_write.specs.Published as P
 use Rattle.kbm_write.specs.Typed.{Typed}
 use Rattle.kbm_write.proofs.Published.{export-published}
@@ -79,7 +79,7 @@ middle-back x y = +ℤ-comm y (x -ℤ y) ∙ -ℤ-+ℤ-cancel x y
 
 module _ {s : List ℕ} {m : P.Mapping} (p : P.PublishedText s m) where
   module _ {k : Kbm} {es : List Entry} (a : Agree m k es) where
-    last-is : m .last ≡ lastOf k
+    last-is : m .last ≡ lastKeyOf k
     last-is = sym (+ℤ-negℤ-cancel (m .last) (pos 1)) ∙ ap (λ (z : ℤ). z -ℤ pos 1) (a .last)
 
     all : length es ≡ m .size

@@ -138,18 +138,18 @@ value-line l t x w s (Line.says r m u y b n q e) =
     inr (m, e ∙ ap (content m) f)
 
 -- `!` is no white space
-starts-mark : (b : ℕ) (l : List ℕ) → P.Comment (b ∷ l) → (w : ℕ) (ws v : List ℕ) → WhiteSpace w → b ∷ l ≡ inBytes encode (w ∷ ws) ++ v → ⊥
+starts-mark : (b : ℕ) (l : List ℕ) → P.PublishedComment (b ∷ l) → (w : ℕ) (ws v : List ℕ) → WhiteSpace w → b ∷ l ≡ inBytes encode (w ∷ ws) ++ v → ⊥
 unfolding inBytes
 starts-mark b l c w ws v k f = white-head w b (inBytes encode ws ++ v) l k (omega (arith, c)) (omega (arith, c)) (sym (append-assoc (encode w) (inBytes encode ws) v) ∙ sym f)
 
-no-blank : (b : ℕ) (l : List ℕ) → P.Comment (b ∷ l) → (ws vs : List ℕ) → Each WhiteSpace ws → Each WhiteSpace vs → b ∷ l ≡ inBytes encode ws ++ inBytes encode vs → ⊥
+no-blank : (b : ℕ) (l : List ℕ) → P.PublishedComment (b ∷ l) → (ws vs : List ℕ) → Each WhiteSpace ws → Each WhiteSpace vs → b ∷ l ≡ inBytes encode ws ++ inBytes encode vs → ⊥
 unfolding inBytes
 no-blank b l c [] [] k m f = no-cons (sym f)
 no-blank b l c [] (v ∷ vs) k m f = starts-mark b l c v vs [] (m .0) (f ∙ sym (append-nil (inBytes encode (v ∷ vs))))
 no-blank b l c (w ∷ ws) vs k m f = starts-mark b l c w ws (inBytes encode vs) (k .0) f
 
 -- a comment as published is no text, or a comment
-pub comment-line : (l : List ℕ) (x : Meaning) → P.Comment l → Line strict l x → (x ≡ invalid) ⊎ (x ≡ comment)
+pub comment-line : (l : List ℕ) (x : Meaning) → P.PublishedComment l → Line strict l x → (x ≡ invalid) ⊎ (x ≡ comment)
 unfolding inBytes
 comment-line [] x c y = absurd c
 comment-line (b ∷ l) x c (Line.not-text n e) = inl e

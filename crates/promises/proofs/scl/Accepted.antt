@@ -14,10 +14,10 @@ use Rattle.scl.specs.Items.{ratioOf}
 use Rattle.scl.specs.Table.{ItemTable, noItem, implicit, itemsIn, isItems}
 use Rattle.scl.specs.declared.Item.{Item}
 use Rattle.scl.specs.declared.Item.the-variants.{Cents, Fraction}
-use Rattle.scl_read.specs.Language.{Line, required, scale, Values, ScaleText}
-use Rattle.scl_read.specs.Reader.{scaleRead, readOf, afterItems, afterSorted}
+use Rattle.scl_read.specs.Language.{ContentLine, required, scale, Values, ScaleText}
+use Rattle.scl_read.specs.Reader.{scaleRead, readOf, afterItems, afterSorted, ReaderFinds}
 use Rattle.scl_read.proofs.Ends.{lines-usable, lines-held, lines-sorted}
-use Rattle.scl_read.proofs.Language.{Reading, accepts}
+use Rattle.scl_read.proofs.Language.{accepts}
 use Rattle.scl_read.proofs.Leaves.{leaves-items, leaves-list}
 use Rattle.scl_tables.specs.Build.{countOf, lastOf, scaleOf, isBeyond, afterList}
 use Rattle.scl_tables.specs.Room.{roomOf}
@@ -44,14 +44,14 @@ use Rattle.promises.proofs.scl.Values.{value-word, value-item}
 
 -- ---- LINES of UTF-8 say their values
 -- each of the lines says its word
-abbrev pub AllSay : List (List ℕ) → List Line → Type 0
+abbrev pub AllSay : List (List ℕ) → List ContentLine → Type 0
 AllSay [] [] = Unit {0}
 AllSay [] (w ∷ ws) = ⊥
 AllSay (l ∷ ls) [] = ⊥
 AllSay (l ∷ ls) (w ∷ ws) = reading.Line strict l (content (w .whole) (w .token)) × AllSay ls ws
 
 -- comments drop out, so the words of the lines are those of the lines that are kept
-kept-say : {ls ks : List (List ℕ)} → Kept ls ks → AllUtf8 ls → (ws : List Line) → AllSay ks ws → (says : List Meaning) × EachLine strict ls says × Words scale says ws
+kept-say : {ls ks : List (List ℕ)} → Kept ls ks → AllUtf8 ls → (ws : List ContentLine) → AllSay ks ws → (says : List Meaning) × EachLine strict ls says × Words scale says ws
 kept-say Kept.none a [] h = ([], tt, tt)
 kept-say Kept.none a (w ∷ ws) h = absurd h
 kept-say (Kept.comment {l = l} c k) a ws h =
@@ -87,7 +87,7 @@ description-says l x u b n (reading.Line.says r m t y o k q e) = (m, t, y, readi
 
 -- ---- THE NOTES
 record Noted (ls : List (List ℕ)) (ps : List P.Pitch) : Type 0 where
-  words : List Line
+  words : List ContentLine
   items : List Item
   say : AllSay ls words
   are : Entries scale words items
@@ -152,8 +152,8 @@ module _ {s : List ℕ} {m : P.Scale} (p : P.PublishedText s m) (w : WithinLimit
       let n = notes (p .rest) (m .pitches) (u .1 .1) (p .values) (w .values-within) in
       let (d, t, trim, said) = description-says (m .description) (meaningBy strictly (m .description)) (u .0) (w .not-blank) (w .no-mark) (strict-line (m .description)) in
       let (c, counted) = stands-say (p .count) (p .notes .token) (u .1 .0) (whole-word (p .notes .token) (p .notes .value)) (p .notes .stands) in
-      let a : Line = record { whole = d; token = t } in
-      let b : Line = record { whole = c; token = p .notes .token } in
+      let a : ContentLine = record { whole = d; token = t } in
+      let b : ContentLine = record { whole = c; token = p .notes .token } in
       let (says, each, words) = kept-say (p .keeps) (w .utf8) (a ∷ b ∷ n .words) (said, (counted, n .say)) in
       let len = same-length (m .pitches) (n .items) (n .same) in
       let vs : Values = (d, (length (m .pitches), tt)) in
@@ -178,7 +178,7 @@ module _ {s : List ℕ} {m : P.Scale} (p : P.PublishedText s m) (w : WithinLimit
 
   -- it is read where the tables have a place for each note and place 0, and leaves tables that later calls take
   pub published-read : (u : ItemTable) (l : ListTable) → length (m .pitches) < roomOf u l →
-      (d : List ℕ) × (is : List Item) × (list : List Entry) × (readOf (roomOf u l) s ≡ gives (scaleRead (length is) s)) × Reading s d is list × Agree m d is
+      (d : List ℕ) × (is : List Item) × (list : List Entry) × (readOf (roomOf u l) s ≡ gives (scaleRead (length is) s)) × ReaderFinds s d is list × Agree m d is
       × (isItems (length is) (afterItems s u l) ≡ true) × (itemsIn (length is) (afterItems s u l) ≡ implicit ∷ is) × (isList (length is) (afterSorted s u l) ≡ true) × (afterSorted s u l ≡ afterList (gives list) l)
   published-read u l h =
       let (d, is, list, t, a) = published-accepted in

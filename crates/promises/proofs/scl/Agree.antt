@@ -13,8 +13,8 @@ use Rattle.decimals.proofs.Language.{gives-complete, leaves-complete, one-readi
 use Rattle.integers.specs.IntegerText.{Digits}
 use Rattle.listing.specs.Listing.{Words, GiveAll, Entries}
 use Rattle.scl.specs.declared.Item.{Item}
-use Rattle.scl_read.specs.ItemText.{Has, Free, U32Text, ItemText}
-use Rattle.scl_read.specs.Language.{Line, required, scale, Values, ScaleText}
+use Rattle.scl_read.specs.ItemText.{Contains, Free, U32Text, ItemText}
+use Rattle.scl_read.specs.Language.{ContentLine, required, scale, Values, ScaleText}
 use Rattle.scl_write.specs.Published as P
 use Rattle.sorting.specs.Entries.{Entry}
 use Rattle.text.specs.Reading.{Comment, Meaning, invalid, comment, content, strict, EachLine}
@@ -33,7 +33,7 @@ use Rattle.promises.proofs.scl.ItemsBack.{free-digits}
 use Rattle.promises.proofs.scl.Values.{value-word, cents-dot, cents-form, split-at}
 
 -- ---- VALUES: a pitch value that is an item is that item
-not-free : {A : Type 0} {b : ℕ} {t : List ℕ} → Has b t → Free b t → A
+not-free : {A : Type 0} {b : ℕ} {t : List ℕ} → Contains b t → Free b t → A
 not-free {b = b} (u, v, e) f = absurd (go u (subst (Free b) e f))
   where
     go : (x : List ℕ) → Free b (x ++ b ∷ v) → ⊥
@@ -90,7 +90,7 @@ abbrev AllFirm : List (List ℕ) → Type 0
 AllFirm [] = Unit {0}
 AllFirm (l ∷ ls) = Firm l × AllFirm ls
 
-kept-words : {ls ks : List (List ℕ)} → Kept ls ks → (xs : List Meaning) → EachLine strict ls xs → (ws : List Line) → Words scale xs ws → AllFirm ks → AllSay ks ws
+kept-words : {ls ks : List (List ℕ)} → Kept ls ks → (xs : List Meaning) → EachLine strict ls xs → (ws : List ContentLine) → Words scale xs ws → AllFirm ks → AllSay ks ws
 kept-words Kept.none [] e [] w f = tt
 kept-words Kept.none [] e (v ∷ ws) w f = absurd w
 kept-words Kept.none (x ∷ xs) e ws w f = absurd e
@@ -103,7 +103,7 @@ kept-words (Kept.comment {l = l} {ks = ks} c k) (x ∷ xs) e ws w f = go (commen
 kept-words (Kept.kept n k) [] e ws w f = absurd e
 kept-words (Kept.kept {l = l} {ks = ks} n k) (x ∷ xs) e ws w f = go (f .0 x (e .0)) ws w (λ vs r. kept-words k xs (e .1) vs r (f .1))
   where
-    go : (x ≡ invalid) ⊎ ((m t : List ℕ) × (x ≡ content m t)) → (vs : List Line) → Words scale (x ∷ xs) vs → ((us : List Line) → Words scale xs us → AllSay ks us) → AllSay (l ∷ ks) vs
+    go : (x ≡ invalid) ⊎ ((m t : List ℕ) × (x ≡ content m t)) → (vs : List ContentLine) → Words scale (x ∷ xs) vs → ((us : List ContentLine) → Words scale xs us → AllSay ks us) → AllSay (l ∷ ks) vs
     go (inl q) vs r ih = absurd (subst (λ (y : Meaning). Words scale (y ∷ xs) vs) q r)
     go (inr (m, t, q)) [] r ih = absurd (subst (λ (y : Meaning). Words scale (y ∷ xs) []) q r)
     go (inr (m, t, q)) (v ∷ vs) r ih =
@@ -117,7 +117,7 @@ stands-firm {l} {t} w s x y = elim (value-line l t x w s y) [
   | inr e ↦ inr (e .0, t, e .1)
 ]
 
-pub stands-token : {l t : List ℕ} {v : Line} → Word t → Stands l t → reading.Line strict l (content (v .whole) (v .token)) → v .token ≡ t
+pub stands-token : {l t : List ℕ} {v : ContentLine} → Word t → Stands l t → reading.Line strict l (content (v .whole) (v .token)) → v .token ≡ t
 stands-token {l} {t} {v} w s y = elim (value-line l t (content (v .whole) (v .token)) w s y) [
   | inl e ↦ let z : _≡_ {A = ℕ} 0 1 = cc in absurd (omega arith)
   | inr e ↦ let q = e .1 in cc
@@ -136,7 +136,7 @@ description-firm l b n x (reading.Line.is-blank r y e) = absurd (b y)
 description-firm l b n x (reading.Line.is-comment r m y c e) = absurd (n m y c)
 description-firm l b n x (reading.Line.says r m t y o k q e) = inr (m, t, e)
 
-values-agree : (ls : List (List ℕ)) (ps : List P.Pitch) (ws : List Line) (is : List Item) → P.Values ls ps → AllSay ls ws → Entries scale ws is → AllSame ps is
+values-agree : (ls : List (List ℕ)) (ps : List P.Pitch) (ws : List ContentLine) (is : List Item) → P.Values ls ps → AllSay ls ws → Entries scale ws is → AllSame ps is
 values-agree [] [] [] [] v a e = tt
 values-agree [] [] [] (i ∷ is) v a e = absurd e
 values-agree [] [] (w ∷ ws) is v a e = absurd a
@@ -161,7 +161,7 @@ module _ {s : List ℕ} {m : P.Scale} (p : P.PublishedText s m) (b : Trimmed Whi
   pub agree : Agree m d is
   agree = go (a .lines .first) (a .lines .rest) words-read (a .lines .values) (a .lines .entries)
     where
-      go : (first rest : List Line) → AllSay (m .description ∷ p .count ∷ p .rest) (first ++ rest) → GiveAll scale required first (a .values) → Entries scale rest is → Agree m d is
+      go : (first rest : List ContentLine) → AllSay (m .description ∷ p .count ∷ p .rest) (first ++ rest) → GiveAll scale required first (a .values) → Entries scale rest is → Agree m d is
       go [] rest w g e = absurd g
       go (x ∷ []) rest w g e = absurd (g .1)
       go (x ∷ y ∷ []) rest w g e =

@@ -10,7 +10,7 @@ use lib.ListN.{length, take}
 use Rattle.listing.specs.Listing.{Words, GiveAll}
 use Rattle.printing.specs.PrintText.{wholeText}
 use Rattle.scl.specs.declared.Item.{Item}
-use Rattle.scl_read.specs.Language.{Line, required, scale, ScaleText}
+use Rattle.scl_read.specs.Language.{ContentLine, required, scale, ScaleText}
 use Rattle.scl_write.specs.Export.{itemTexts, scaleTexts, scaleText}
 use Rattle.scl_write.specs.Published.{OneLine}
 use Rattle.scl_write.proofs.ExportLines.{after-words, export-lines}
@@ -58,7 +58,7 @@ free-part [] (b ∷ m) c n = (n .0, free-part [] m c (n .1))
 free-part (b ∷ a) m c n = free-part a m c (n .1)
 
 -- the first line with content
-first-content : (ls : List (List ℕ)) (ms : List Meaning) (w : Line) (ws : List Line) → EachLine strict ls ms → AllNoLF ls → Words scale ms (w ∷ ws) →
+first-content : (ls : List (List ℕ)) (ms : List Meaning) (w : ContentLine) (ws : List ContentLine) → EachLine strict ls ms → AllNoLF ls → Words scale ms (w ∷ ws) →
     (l : List ℕ) × NoLF l × Part l (content (w .whole) (w .token))
 first-content ls [] w ws e n h = absurd h
 first-content [] (x ∷ ms) w ws e n h = absurd e
@@ -76,7 +76,7 @@ left-trimmed l m t = record { before = []; after = []; white-before = tt; white-
 pub text-line : {s d : List ℕ} {is : List Item} {list : List Entry} → ScaleText s d is list → (l t : List ℕ) × NoLF l × Part l (content d t)
 text-line {s} {d} t = go (t .lines .first) (t .lines .rest) (t .lines .words) (t .lines .values)
   where
-    go : (first rest : List Line) → Words scale (t .says) (first ++ rest) → GiveAll scale required first (t .values) → (l k : List ℕ) × NoLF l × Part l (content d k)
+    go : (first rest : List ContentLine) → Words scale (t .says) (first ++ rest) → GiveAll scale required first (t .values) → (l k : List ℕ) × NoLF l × Part l (content d k)
     go [] rest w g = absurd g
     go (v ∷ first) rest w g =
         let (l, n, r) = first-content (t .text .parts) (t .says) v (first ++ rest) (t .text .each) (lines-free (t .text .lines)) w in
@@ -103,7 +103,7 @@ cr-last (b ∷ x ∷ d) c = let (t, e) = cr-last (x ∷ d) c in (b ∷ t, ap (λ
 no-cr : (d : List ℕ) → Trimmed WhiteSpace encode d d → EndsCR d → ⊥
 no-cr d t c = let (u, e) = cr-last d c in t .ends 13 u (inl (omega arith, omega arith)) (e ∙ ap (λ (l : List ℕ). u ++ l) (sym (enc1 13 (omega arith))))
 
-no-comment : (d : List ℕ) → (Comment d → ⊥) → published.Comment d → ⊥
+no-comment : (d : List ℕ) → (Comment d → ⊥) → published.PublishedComment d → ⊥
 no-comment [] n c = c
 no-comment (b ∷ d) n c = n (d, ap (λ (x : ℕ). x ∷ d) c)
 

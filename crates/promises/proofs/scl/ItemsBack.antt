@@ -21,8 +21,8 @@ use Rattle.scl.specs.declared.Item.{Item}
 use Rattle.scl.specs.declared.Item.the-variants.{Cents, Fraction}
 use Rattle.scl.proofs.Items.{usable-fraction}
 use Rattle.scl.proofs.Table.{both}
-use Rattle.scl_read.specs.ItemText.{Has, Free, U32Text, ItemText}
-use Rattle.scl_read.specs.Language.{Line, scale}
+use Rattle.scl_read.specs.ItemText.{Contains, Free, U32Text, ItemText}
+use Rattle.scl_read.specs.Language.{ContentLine, scale}
 use Rattle.scl_write.specs.Export.{itemText, itemTexts}
 use Rattle.scl_write.proofs.Bound.{cents-few}
 use Rattle.scl_write.proofs.ItemLines.{cents-limited}
@@ -38,7 +38,7 @@ use Rattle.promises.specs.scl.Again.{ItemBack, ItemsBack}
 cents-reads : (c : Float) → isUsableCents c ≡ true → DecimalText (textOf 3 false c) (nearestThree c)
 cents-reads c h = three-reads c (cents-limited c h) (omega (arith, cents-few c h))
 
-cents-dot : (c : Float) → isUsableCents c ≡ true → Has 46 (textOf 3 false c)
+cents-dot : (c : Float) → isUsableCents c ≡ true → Contains 46 (textOf 3 false c)
 cents-dot c h =
     let f = printed 3 false c (cents-limited c h) .is in
     (signText (negative c) false ++ f .whole, f .part, f .text ∙ sym (append-assoc (signText (negative c) false) (f .whole) (46 ∷ f .part)))
@@ -86,7 +86,7 @@ back-item (Cents c) h t = one-reading (textOf 3 false c) (nearestThree c) c (cen
 back-item (Fraction n d) h t = tt
 
 -- ---- all of them, as words of the format
-unfoldable pub wordsOf : List (List ℕ) → List Line
+unfoldable pub wordsOf : List (List ℕ) → List ContentLine
 wordsOf [] = []
 wordsOf (t ∷ ts) = record { whole = t; token = t } ∷ wordsOf ts
 
@@ -106,7 +106,7 @@ unfolding wordsOf selves
 words-of [] = tt
 words-of (t ∷ ts) = (refl, words-of ts)
 
-pub only-words : (ts : List (List ℕ)) (ws : List Line) → Words scale (selves ts) ws → ws ≡ wordsOf ts
+pub only-words : (ts : List (List ℕ)) (ws : List ContentLine) → Words scale (selves ts) ws → ws ≡ wordsOf ts
 unfolding wordsOf selves
 only-words [] [] w = refl
 only-words [] (v ∷ ws) w = absurd w

@@ -15,7 +15,7 @@ use Rattle.scl.specs.Table.{implicit}
 use Rattle.scl.specs.declared.Item.{Item}
 use Rattle.scl.specs.declared.Item.the-variants.{Cents, Fraction}
 use Rattle.scl_read.specs.ItemText.{ItemText}
-use Rattle.scl_read.specs.Language.{Line, required, scale, ScaleText}
+use Rattle.scl_read.specs.Language.{ContentLine, required, scale, ScaleText}
 use Rattle.scl_read.proofs.Ends.{lines-usable, lines-held}
 use Rattle.scl_read.proofs.Usable.{item-usable, item-held}
 use Rattle.scl_tables.proofs.Theorems.{beyond-reach-is}
@@ -51,7 +51,7 @@ text-of l x (reading.Line.is-blank r t e) = subst (Text l) (sym e) r
 text-of l x (reading.Line.is-comment r m t c e) = subst (Text l) (sym e) r
 text-of l x (reading.Line.says r m k t s n q e) = subst (Text l) (sym e) r
 
-lines-utf8 : (ls : List (List ℕ)) (xs : List Meaning) (ws : List Line) → EachLine strict ls xs → Words scale xs ws → AllUtf8 ls
+lines-utf8 : (ls : List (List ℕ)) (xs : List Meaning) (ws : List ContentLine) → EachLine strict ls xs → Words scale xs ws → AllUtf8 ls
 lines-utf8 [] xs ws e w = tt
 lines-utf8 (l ∷ ls) [] ws e w = absurd e
 lines-utf8 (l ∷ ls) (invalid ∷ xs) ws e w = absurd w
@@ -79,7 +79,7 @@ value-within i (P.Value.cents x) y = cents-within x i (value-agrees (P.Value.cen
 value-within i (P.Value.ratio a b n d e x z p q) y = ratio-within n d i (value-agrees (P.Value.ratio a b n d e x z p q) y) (item-held y)
 value-within i (P.Value.whole n x p) y = ratio-within n 1 i (value-agrees (P.Value.whole n x p) y) (item-held y) .0
 
-values-within : (ls : List (List ℕ)) (ps : List P.Pitch) (ws : List Line) (is : List Item) (v : P.Values ls ps) → AllSay ls ws → Entries scale ws is → AllWithin ls ps v
+values-within : (ls : List (List ℕ)) (ps : List P.Pitch) (ws : List ContentLine) (is : List Item) (v : P.Values ls ps) → AllSay ls ws → Entries scale ws is → AllWithin ls ps v
 values-within [] [] ws is v a e = tt
 values-within [] (p ∷ ps) ws is v a e = absurd v
 values-within (l ∷ ls) [] ws is v a e = absurd v
@@ -111,7 +111,7 @@ module _ {s : List ℕ} {m : P.Scale} (p : P.PublishedText s m) where
         parts : a .text .parts ≡ p .parts
         parts = sym (one-lines (a .text .lines)) ∙ one-lines (p .lines)
 
-        go : (first rest : List Line) → AllSay (m .description ∷ p .count ∷ p .rest) (first ++ rest) → GiveAll scale required first (a .values) → Entries scale rest is → WithinLimits p
+        go : (first rest : List ContentLine) → AllSay (m .description ∷ p .count ∷ p .rest) (first ++ rest) → GiveAll scale required first (a .values) → Entries scale rest is → WithinLimits p
         go [] rest w v e = absurd v
         go (x ∷ []) rest w v e = absurd (v .1)
         go (x ∷ y ∷ []) rest w v e =

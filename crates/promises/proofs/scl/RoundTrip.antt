@@ -19,9 +19,9 @@ use Rattle.scl.specs.declared.Item.{Item}
 use Rattle.scl.specs.declared.Scl.{Scl}
 use Rattle.scl.proofs.Typed.{typed-held, held-after}
 use Rattle.scl.proofs.Table.{items-are}
-use Rattle.scl_read.specs.Language.{Line, required, scale, ScaleText}
-use Rattle.scl_read.specs.Reader.{scaleRead, readOf, afterItems, afterSorted}
-use Rattle.scl_read.proofs.Language.{Reading, accepts}
+use Rattle.scl_read.specs.Language.{ContentLine, required, scale, ScaleText}
+use Rattle.scl_read.specs.Reader.{scaleRead, readOf, afterItems, afterSorted, ReaderFinds}
+use Rattle.scl_read.proofs.Language.{accepts}
 use Rattle.scl_read.proofs.Leaves.{leaves-items, leaves-list}
 use Rattle.scl_tables.specs.Build.{scaleOf, afterList}
 use Rattle.scl_tables.specs.Room.{roomOf}
@@ -72,10 +72,10 @@ module _ (d : List ℕ) (is : List Item) (list : List Entry) where
       let e : t .says ≡ exportSays d is = sym (one-strict-text s (t .says) (t .text)) ∙ one-strict-text s (exportSays d is) (export-says d is b) in
       go (t .lines .first) (t .lines .rest) (subst (λ (ms : List Meaning). Words scale ms (t .lines .first ++ t .lines .rest)) e (t .lines .words)) (t .lines .values) (t .lines .entries)
     where
-      go : (first rest : List Line) → Words scale (exportSays d is) (first ++ rest) → GiveAll scale required first (t .values) → Entries scale rest is → ItemsBack is
+      go : (first rest : List ContentLine) → Words scale (exportSays d is) (first ++ rest) → GiveAll scale required first (t .values) → Entries scale rest is → ItemsBack is
       go [] rest w g x = absurd g
       go (a ∷ []) rest w g x = absurd (g .1)
-      go (a ∷ c ∷ []) rest w g x = back-entries is h (subst (λ (ws : List Line). Entries scale ws is) (only-words (itemTexts is) rest (w .1 .1)) x)
+      go (a ∷ c ∷ []) rest w g x = back-entries is h (subst (λ (ws : List ContentLine). Entries scale ws is) (only-words (itemTexts is) rest (w .1 .1)) x)
       go (a ∷ c ∷ v ∷ vs) rest w g x = absurd (g .1 .1)
 
   -- THE THEOREM: of usable items that the machine holds, and that have a sorted list, and of a description that is UTF-8
@@ -99,7 +99,7 @@ module _ (scl : Scl) (table : ItemTable) (d : List ℕ) (room : ℕ) {t : List �
       rw (a .1 .0) (round-trip d items list (a .0 .description-is) (held-after (itemsIn (scl .count) table) (typed-held table typed (scl .count))) (listed-usable (scl .count) table h) (omega (arith, counted, l)) o)
 
   -- the read accepts them as that scale exactly when it comes back
-  pub read-back : (places : ℕ) → scl .count < places → ((readOf places t ≡ gives (scaleRead (scl .count) t)) × Reading t d items list) ↔ ComesBack d items
+  pub read-back : (places : ℕ) → scl .count < places → ((readOf places t ≡ gives (scaleRead (scl .count) t)) × ReaderFinds t d items list) ↔ ComesBack d items
   read-back places r =
       let a = accepts places t d items list in
       let q = ap (λ k. gives (scaleRead k t)) counted in (

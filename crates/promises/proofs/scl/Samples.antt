@@ -10,7 +10,7 @@ use lib.Ieee.{Float, binary64, round, size, ofBits, ofInt, div, le, lt, eq, neg}
 use Rattle.base.specs.Said.{gives}
 use Rattle.floats.specs.Units.{negative}
 use Rattle.explog.specs.Log.{bOf, yOf}
-use Rattle.explog.specs.Rules.{L, logOf, logAt, ratioOf}
+use Rattle.explog.specs.Rules.{L, logOf, logAt, octavesOf}
 use Rattle.scl.specs.Items.{AllHeld}
 use Rattle.scl.specs.Table.{implicit, areUsable}
 use Rattle.scl_read.proofs.Usable.{implicit-usable, implicit-held}
@@ -45,7 +45,7 @@ unfolding areUsable
 all-usable = rw implicit-usable fifths-usable
 
 fifths-sorted : (list : List Entry) × (scaleOf (implicit ∷ fifths) ≡ gives list)
-unfolding isBeyond L logOf logAt ratioOf bOf yOf le lt eq round size ofBits ofInt div neg
+unfolding isBeyond L logOf logAt octavesOf bOf yOf le lt eq round size ofBits ofInt div neg
 fifths-sorted =
     let (list, e) = list-given (implicit ∷ fifths) (lit< tt) (implicit-held, fifths-held) all-usable in
     (list, scale-looks (implicit ∷ fifths) ∙ e)

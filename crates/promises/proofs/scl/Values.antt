@@ -13,7 +13,7 @@ use Rattle.integers.specs.IntegerText.{Digits, IntText}
 use Rattle.scl.specs.declared.Denom.the-variants.{Given, Lacking}
 use Rattle.scl.specs.declared.Item.{Item}
 use Rattle.scl.specs.declared.Item.the-variants.{Cents, Fraction}
-use Rattle.scl_read.specs.ItemText.{Has, Free, Split, ItemText}
+use Rattle.scl_read.specs.ItemText.{Contains, Free, Split, ItemText}
 use Rattle.scl_write.specs.Published as P
 use Rattle.writing.proofs.Plain.{Plain, Word, each-append}
 use Rattle.promises.specs.scl.Agree.{Same}
@@ -50,10 +50,10 @@ module _ {t : List ℕ} {minus : Bool} {n k : ℕ} (x : P.CentsText t minus n k)
   abbrev body : List ℕ
   body = x .whole ++ 46 ∷ x .part
 
-  pub cents-dot : Has 46 t
+  pub cents-dot : Contains 46 t
   cents-dot = go (x .writes)
     where
-      go : ((minus ≡ false) × (t ≡ body)) ⊎ ((minus ≡ true) × (t ≡ 45 ∷ body)) → Has 46 t
+      go : ((minus ≡ false) × (t ≡ body)) ⊎ ((minus ≡ true) × (t ≡ 45 ∷ body)) → Contains 46 t
       go (inl e) = (x .whole, x .part, e .1)
       go (inr e) = (45 ∷ x .whole, x .part, e .1)
 

@@ -9,7 +9,7 @@ use lib.Ieee.{Float, binary64, fits, mul, div}
 use lib.Ieee.Bits.{is-true}
 use lib.Ieee.Fits.{mul-fits}
 use Rattle.base.specs.Numbers.{unusable, beyond-reach}
-use Rattle.base.specs.Said.{Said, gives, refuses, pick, andThen}
+use Rattle.base.specs.Said.{Said, gives, refuses, pick, andThen, Accepted}
 use Rattle.base.proofs.Said.{no-value, no-refusal, same-value}
 use Rattle.floats.specs.Ranges.{inReach}
 use Rattle.explog.specs.Rules.{E, inPowers, logOf}
@@ -21,7 +21,6 @@ use Rattle.scl.specs.Table.{noItem}
 use Rattle.scl.specs.declared.Item.{Item}
 use Rattle.scl.proofs.Items.{powers-ratio, ratio-reach}
 use Rattle.scl_tables.specs.Build.{lastOf, countOf}
-use Rattle.scl_tables.proofs.Beyond.{Given}
 use Rattle.kbm.specs.declared.KbmRoot.{KbmRoot}
 use Rattle.scl_tables.proofs.Reaches.{log-gives}
 use Rattle.relative.specs.Refusals.{ReachedOrBeyond}
@@ -61,7 +60,7 @@ repeated-reach p z base r e = go (inPowers o) refl
     go false h = no-value (sym (no-power o h) ∙ sym (repeated-is p z r) ∙ e)
 
 -- ---- a degree whose item and period have ratios
-module _ (items : List Item) (d : ℤ) (p : Given (ratioOf (lastOf items))) (i : Given (ratioOf (getD items (placeOf (countOf items) d) noItem))) where
+module _ (items : List Item) (d : ℤ) (p : Accepted (ratioOf (lastOf items))) (i : Accepted (ratioOf (getD items (placeOf (countOf items) d) noItem))) where
   abbrev period : Float
   period = p .value
 
@@ -109,7 +108,7 @@ module _ (items : List Item) (d : ℤ) (p : Given (ratioOf (lastOf items))) (i :
       go false h = FarDegree.periods period (p .is) h
 
 -- ---- a pitch above a root
-module _ (items : List Item) (root : KbmRoot) (d : ℤ) (reach : inReach (root .pitch .0) ≡ true) (p : Given (ratioOf (lastOf items))) (i : (z : ℤ) → Given (ratioOf (getD items (placeOf (countOf items) z) noItem))) (at : ℤ) (turned : rootDegree root ≡ gives at) where
+module _ (items : List Item) (root : KbmRoot) (d : ℤ) (reach : inReach (root .pitch .0) ≡ true) (p : Accepted (ratioOf (lastOf items))) (i : (z : ℤ) → Accepted (ratioOf (getD items (placeOf (countOf items) z) noItem))) (at : ℤ) (turned : rootDegree root ≡ gives at) where
   abbrev hz : Float
   hz = root .pitch .0
 

@@ -12,7 +12,7 @@ use lib.IntN.{ℤ, pos, _+ℤ_, _-ℤ_}
 use lib.ListN.{length, getD}
 use Rattle.base.specs.Integers.{inI32, held}
 use Rattle.base.specs.Numbers.{overflow, no-room, beyond-reach}
-use Rattle.base.specs.Said.{Said, gives, refuses, pick, andThen}
+use Rattle.base.specs.Said.{Said, gives, refuses, pick, andThen, Accepted}
 use Rattle.floats.proofs.Between.{within-more, within-reach}
 use Rattle.floats.proofs.Ranges.{pitch-says}
 use Rattle.key.specs.Keys.{key, stepsBetween}
@@ -26,7 +26,6 @@ use Rattle.scl.proofs.Items.{item-ratio}
 use Rattle.scl.proofs.Table.{usable-at}
 use Rattle.scl_tables.specs.Build.{lastOf, countOf}
 use Rattle.scl_tables.specs.Room.{roomOf}
-use Rattle.scl_tables.proofs.Beyond.{Given}
 use Rattle.scl_read.specs.Language.{ScaleText}
 use Rattle.scl_read.specs.Reader.{afterItems}
 use Rattle.scl_read.proofs.Ends.{lines-held, lines-usable}
@@ -62,13 +61,13 @@ held-at (x ∷ items) zero h l = h .0
 held-at (x ∷ items) (suc i) h l = held-at items i (h .1) (le-of-suc-le-suc l)
 
 module _ (items : List Item) (some : 0 < length items) (h : AllHeld items) (u : areUsable items ≡ true) where
-  given-at : (i : ℕ) → i < length items → Given (ratioOf (getD items i noItem))
+  given-at : (i : ℕ) → i < length items → Accepted (ratioOf (getD items i noItem))
   given-at i l = let t = item-ratio (getD items i noItem) (held-at items i h l) (usable-at items i u l) in record { value = t .value; is = t .is }
 
-  period-given : Given (ratioOf (lastOf items))
+  period-given : Accepted (ratioOf (lastOf items))
   period-given = given-at (length items - 1) (omega (arith, some))
 
-  degree-given : (z : ℤ) → Given (ratioOf (getD items (placeOf (countOf items) z) noItem))
+  degree-given : (z : ℤ) → Accepted (ratioOf (getD items (placeOf (countOf items) z) noItem))
   degree-given z = given-at (placeOf (countOf items) z) (omega (arith, some, place-le (countOf items) z))
 
 module _ (text : List ℕ) (t : ItemTable) (l : ListTable) {d : List ℕ} {items : List Item} {list : List Entry} (s : ScaleText text d items list) (room : length items < roomOf t l)

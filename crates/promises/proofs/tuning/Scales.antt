@@ -8,7 +8,7 @@ use lib.Dec.{lit≤}
 use lib.ListN.{length, getD, take, drop, length-map}
 use lib.Seq.{take-at}
 use lib.Ieee.{Float, binary64, fits, div}
-use Rattle.base.specs.Said.{gives, andThen}
+use Rattle.base.specs.Said.{gives, andThen, Accepted}
 use Rattle.base.specs.Tables.{over}
 use Rattle.floats.specs.Floats.{oneF}
 use Rattle.floats.specs.Ranges.{inReach, inSearch}
@@ -24,7 +24,7 @@ use Rattle.scl.specs.Items.{ratioOf, AllHeld}
 use Rattle.scl.specs.Table.{areUsable}
 use Rattle.scl.specs.declared.Item.{Item}
 use Rattle.scl_tables.specs.Build.{lastOf, sortedOf, afterList}
-use Rattle.scl_tables.proofs.Beyond.{Given, Fine, period-ratio, over as overridden}
+use Rattle.scl_tables.proofs.Beyond.{Fine, period-ratio, over as overridden}
 use Rattle.scl_tables.proofs.Theorems.{list-leaves}
 use Rattle.relative.specs.Scales.{noEntry}
 use Rattle.searching.specs.Search.{searchOf}
@@ -40,7 +40,7 @@ left-is count es l n =
 
 -- a search of any ratio in 2^-64..2^64 is given: no 18, but for the one item whose ratio is 1.0
 pub list-search : (items : List Item) (some : 0 < length items) (h : AllHeld items) (u : areUsable items ≡ true) (es : List Entry) → sortedOf items ≡ gives es → (x : Float) → fits binary64 x ≡ true → inSearch x ≡ true
-    → (length items ≡ 2 → ratioOf (lastOf items) ≡ gives oneF → ⊥) → Given (searchOf items es x)
+    → (length items ≡ 2 → ratioOf (lastOf items) ≡ gives oneF → ⊥) → Accepted (searchOf items es x)
 list-search items some h u es e x fx sx except =
     search-given items some h u es (list-leaves items some h u es e) x fx sx (λ two one. except two (period-ratio items some h u .is ∙ ap gives one))
 

@@ -10,7 +10,7 @@ use lib.IntN.{ℤ}
 use lib.ListN.{length}
 use lib.Ieee.{Float, binary64, fits}
 use Rattle.base.specs.Numbers.{unusable, too-large, beyond-reach}
-use Rattle.base.specs.Said.{Said, gives}
+use Rattle.base.specs.Said.{Said, gives, Accepted}
 use Rattle.floats.specs.Floats.{oneF}
 use Rattle.floats.specs.Ranges.{inSearch}
 use Rattle.key.specs.Keys.{stepsBetween}
@@ -23,7 +23,7 @@ use Rattle.scl.specs.declared.Item.{Item}
 use Rattle.scl.proofs.Table.{items-usable}
 use Rattle.scl_tables.specs.Build.{lastOf, countOf, sortedOf, scaleOf, sizedOf, isBeyond, afterList}
 use Rattle.scl_tables.specs.Room.{roomOf}
-use Rattle.scl_tables.proofs.Beyond.{Given, scale-looks}
+use Rattle.scl_tables.proofs.Beyond.{scale-looks}
 use Rattle.scl_tables.proofs.Theorems.{list-leaves}
 use Rattle.scl_build.specs.Builder.{isReady, built}
 use Rattle.scl_build.specs.declared.SclBuilder.{SclBuilder}
@@ -71,7 +71,7 @@ module _ (b : SclBuilder) (t : ItemTable) (l : ListTable) (es : List Entry) (hel
   -- and a search of any ratio in 2^-64..2^64 is given: no 18, but for the one item whose ratio is 1.0 ("A search in a scale of one item
   -- with L(period) = 0 gives 18"); only 11 for the degree is left
   pub built-search : (x : Float) → fits binary64 x ≡ true → inSearch x ≡ true → (b .count ≡ 1 → ratioOf (lastOf (itemsIn (b .count) t)) ≡ gives oneF → ⊥)
-      → Given (searchOf (itemsIn (b .count) t) (listIn (b .count) (afterList (gives es) l)) x)
+      → Accepted (searchOf (itemsIn (b .count) t) (listIn (b .count) (afterList (gives es) l)) x)
   built-search x fx sx except =
       let items = itemsIn (b .count) t in
       let v = build-leaves b t l es held e in
@@ -86,7 +86,7 @@ module _ (text : List ℕ) (t : ItemTable) (l : ListTable) {d : List ℕ} {items
   read-passes = rw (leaves-items text t l s room .0, leaves-list text t l s room .0)
 
   pub read-search : (x : Float) → fits binary64 x ≡ true → inSearch x ≡ true → (length items ≡ 1 → ratioOf (lastOf (implicit ∷ items)) ≡ gives oneF → ⊥)
-      → Given (searchOf (itemsIn (length items) (afterItems text t l)) (listIn (length items) (afterSorted text t l)) x)
+      → Accepted (searchOf (itemsIn (length items) (afterItems text t l)) (listIn (length items) (afterSorted text t l)) x)
   read-search x fx sx except =
       let so = text-reading s .sorted in
       let g = list-search (implicit ∷ items) (omega arith) (lines-held (s .lines)) (lines-usable (s .lines)) list so x fx sx (λ two one. except (omega (arith, two)) one) in

@@ -12,7 +12,7 @@ use Rattle.kbm.specs.Samples.{sample, sampleTable}
 use Rattle.kbm.specs.Table.{tableOf}
 use Rattle.kbm.specs.declared.Kbm.{Kbm}
 use Rattle.key.specs.Keys.{key}
-use Rattle.kbm_write.specs.Export.{middleOf}
+use Rattle.kbm_write.specs.Export.{middleKeyOf}
 use Rattle.kbm_write.specs.Published as P
 use Rattle.pitch.specs.declared.Pitch.{Pitch}
 
@@ -48,7 +48,7 @@ pub record AnsweredAs (m : P.Mapping) (key : ℤ) (answer : Said ℤ) : Type 0 w
 abbrev pub atMiddle : Kbm → Kbm
 atMiddle kbm =
     record {
-      root = record { reference = key (middleOf kbm); pitch = kbm .root .pitch; offset = pos 0 };
+      root = record { reference = key (middleKeyOf kbm); pitch = kbm .root .pitch; offset = pos 0 };
       start = kbm .start;
       end = kbm .end;
       octave = kbm .octave;

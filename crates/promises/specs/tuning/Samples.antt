@@ -6,6 +6,7 @@ use mathlib.Core.List.{List, [], _∷_}
 use Prim.Native.Nat.{ℕ}
 use lib.IntN.{pos, negsuc}
 use lib.Ieee.{Float, fin}
+use Rattle.pitch.specs.Ratios.{twoF}
 use Rattle.sorting.specs.Entries.{Entry}
 use Rattle.scl.specs.Table.{implicit}
 use Rattle.scl.specs.declared.Denom.the-variants.{Given}
@@ -22,9 +23,6 @@ only numer = implicit ∷ Fraction numer (Given 1) ∷ []
 -- 1.0, and the period
 abbrev pub onlyList : Float → List Entry
 onlyList period = entry 0 (fin false 1 (pos 0)) (pos 0) ∷ entry 1 period (pos 0) ∷ []
-
-abbrev pub twoF : Float
-twoF = fin false 1 (pos 1)
 
 abbrev pub threeF : Float
 threeF = fin false 3 (pos 0)

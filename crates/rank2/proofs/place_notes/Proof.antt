@@ -7,7 +7,7 @@ use lib.Seq.{length-take-le}
 use Rattle.sorted.specs.Lent.{listTable}
 use borrow.Author.Needs.{needs}
 use Rattle.rank2.specs.Notes.{pitchAt}
-use Rattle.rank2.specs.Rank2.{ascendingOf}
+use Rattle.rank2.specs.Rank2.{ascendingRatios}
 use Rattle.rank2.proofs.Behind.{behind-parts, taken-part}
 use Rattle.rank2.proofs.place_notes.Statement.{statement}
 use Rattle.rank2.proofs.place_notes.Tie as tie
@@ -57,7 +57,7 @@ returns c =
     let lr : length rs ≡ length (take n (s .args .ratio .now)) = search needs in
     let lw : length ws ≡ length (take n (s .args .wraps .now)) = search needs in
     let r = length-take-le (s .args .n) (s .args .ratio .now) (s .pre .2) in (
-      taken-part n rs _ (lr ∙ r) (b .ensures ∙ ap (ascendingOf (pitchAt (s .args .period) (s .args .generator-cents) (s .args .period-cents) (s .args .positive))) r),
+      taken-part n rs _ (lr ∙ r) (b .ensures ∙ ap (ascendingRatios (pitchAt (s .args .period) (s .args .generator-cents) (s .args .period-cents) (s .args .positive))) r),
       behind-parts n (listTable (s .args .place .now) (s .args .ratio .now) (s .args .wraps .now)) ps rs ws lp lr lw (lp ∙ length-take-le (s .args .n) (s .args .place .now) (s .pre .1)) (lr ∙ r) (lw ∙ length-take-le (s .args .n) (s .args .wraps .now) (s .pre .3)),
     )
 

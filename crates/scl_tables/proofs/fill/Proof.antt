@@ -8,7 +8,7 @@ use lib.ListN.{length, length-set}
 use mir.Facts.{toZ-ofZ}
 use mir.Syntax.{w32}
 use mathlib.Core.Bool.{true}
-use Rattle.scl_tables.specs.Build.{entryOf}
+use Rattle.scl_tables.specs.Build.{reducedEntry}
 use Rattle.scl.specs.declared.Item.{Item}
 use Rattle.scl.specs.Items.{isUsable}
 use Rattle.scl.specs.Table.{itemsOf}
@@ -80,7 +80,7 @@ loop-again c =
       length-set (at .ratio) i (x .result .ratio) ∙ at .inv .0,
       length-set (at .wraps) i (x .result .wraps) ∙ at .inv .1,
       fill-turn (at .inv .2) (x .result .ratio) (x .result .wraps) (omega (arith, l, n))
-          (x .ensures .0 ∙ ap (entryOf (s .args .period .ratio) i) (sym (item-at ks cs ns ds i (s .pre .0) (s .pre .1) (s .pre .2) l)))
+          (x .ensures .0 ∙ ap (reducedEntry (s .args .period .ratio) i) (sym (item-at ks cs ns ds i (s .pre .0) (s .pre .1) (s .pre .2) l)))
           (x .ensures .1),
     )
 

@@ -4,10 +4,11 @@ use mathlib.Core.Path.{_≡_, sym, _∙_, ap}
 use lib.Ieee.{Float}
 use Rattle.base.specs.Said.{Said, gives, andThen}
 use Rattle.base.proofs.Said.{and-then}
+use Rattle.floats.specs.Floats.{float}
 use Rattle.pitch.specs.Answers.{saysRatio}
 use Rattle.pitch.specs.Ratios.{dividedInto}
 use borrow.Author.Needs.{needs}
-use Rattle.harmonics.specs.Segment.{float, stepsOf}
+use Rattle.harmonics.specs.Segment.{stepsOf}
 use Rattle.harmonics.specs.declared.segment.Steps.the-variants.{Equal}
 use Rattle.harmonics.proofs.segment.steps_of.Statement.{statement}
 use Rattle.harmonics.proofs.segment.steps_of.Tie as tie

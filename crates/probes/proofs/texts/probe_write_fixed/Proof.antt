@@ -4,7 +4,7 @@ use mathlib.Core.Bool.{true}
 use borrow.Author.Needs.{needs}
 use denote.Ref.{now}
 use Rattle.base.specs.Said.{pick}
-use Rattle.probes.specs.Probes.{placeOf, printable}
+use Rattle.probes.specs.Probes.{nextOf, printableTo}
 use Rattle.probes.proofs.Printable.{is-limited, few}
 use Rattle.probes.proofs.texts.probe_write_fixed.Statement.{statement}
 use Rattle.probes.proofs.texts.probe_write_fixed.Tie as tie
@@ -12,7 +12,7 @@ use Rattle.probes.proofs.texts.probe_write_fixed.Tie as tie
 is-printable-requires : tie.Need-is-printable-requires
 is-printable-requires c κs = search needs
 
-yes : (c : tie.Then1) → printable (c .before .before .before .args .x) (c .before .before .before .args .decimals) ≡ true
+yes : (c : tie.Then1) → printableTo (c .before .before .before .args .x) (c .before .before .before .args .decimals) ≡ true
 yes c = sym (c .before .is-printable .ensures) ∙ c .if1 .taken
 
 write-fixed-requires : tie.Need-write-fixed-requires
@@ -29,7 +29,7 @@ same-length c = search needs
 returns : tie.Need-returns
 returns c =
     let w = c .before .before .before in
-    rw (yes (w .before .before)) (c .place .ensures ∙ ap placeOf (w .write-fixed .ensures .0), w .write-fixed .ensures .1)
+    rw (yes (w .before .before)) (c .place .ensures ∙ ap nextOf (w .write-fixed .ensures .0), w .write-fixed .ensures .1)
 
 returns-2 : tie.Need-returns-2
 returns-2 c = rw (sym (c .before .is-printable .ensures) ∙ c .if1 .left) (search needs)

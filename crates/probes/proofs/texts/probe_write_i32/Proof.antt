@@ -2,7 +2,7 @@
 use mathlib.Core.Path.{_∙_, ap}
 use borrow.Author.Needs.{needs}
 use mir.Facts.{toZ-ofZ}
-use Rattle.probes.specs.Probes.{placeOf}
+use Rattle.probes.specs.Probes.{nextOf}
 use Rattle.probes.proofs.texts.probe_write_i32.Statement.{statement}
 use Rattle.probes.proofs.texts.probe_write_i32.Tie as tie
 
@@ -18,7 +18,7 @@ same-length c = search needs
 returns : tie.Need-returns
 returns c =
     let e = rw (toZ-ofZ (c .before .before .before .before .before .before .fits .z)) at (c .before .before .before .write-i32 .ensures) in
-    (c .place .ensures ∙ ap placeOf (e .0), e .1)
+    (c .place .ensures ∙ ap nextOf (e .0), e .1)
 
 pub probe-write-i32-spec : {M : Type 1} → statement M
 probe-write-i32-spec = tie.close (tie.spec write-i32-requires place-requires same-length returns)
