@@ -17,7 +17,8 @@ use Rattle.scl_tables.specs.Room.{roomOf}
 use Rattle.sorted.specs.Lent.{ListTable}
 use Rattle.sorting.specs.Entries.{Entry}
 use Rattle.text.specs.Placed.{placedIn}
-use Rattle.text.specs.ReadLine.{saidIn, part}
+use Rattle.text.specs.Part.{part}
+use Rattle.text.specs.ReadLine.{saidIn}
 use Rattle.text.specs.Reading.{Meaning, content}
 use Rattle.text.specs.declared.line.LineSays.{LineSays}
 use Rattle.text.specs.declared.line.LineSays.the-variants.{NotUtf8, Blank, Comment, Content}
