@@ -33,7 +33,7 @@ use Rattle.searching.specs.declared.approximation.Approximation.{Approximation}
 use Rattle.entries.specs.Entries.{asEntry, asEntries, columnsIn, noEntry}
 use Rattle.entries.specs.declared.SortedEntry.{SortedEntry}
 use Rattle.entries.specs.Columns.{degreeBy, columnSearch}
-use Rattle.entries.specs.Scans.{Aims, Starts, placesOf as stepsOf, scanned, Comparable, Ready, chosenBy, nearestBy, foundBy, answerOf}
+use Rattle.entries.specs.Scans.{Aims, Starts, scanPlaces, scanned, Comparable, Ready, chosenBy, nearestBy, foundBy, answerOf}
 use Rattle.entries.specs.declared.search.Aim.{Aim}
 use Rattle.entries.specs.declared.search.Scan.{Scan}
 use Rattle.entries.proofs.Opened.{found-none, found-beyond, found-near, answer-unusable, answer-usable}
@@ -151,7 +151,7 @@ module _ (count : ℕ) (t : ItemTable) (ys : List SortedEntry) (x : Float) (s : 
   last-is = ap (λ (r : Scan). r .last) (st .begins)
 
   abbrev pub left : Scan
-  left = scanned s ys (stepsOf s)
+  left = scanned s ys (scanPlaces s)
 
   abbrev es : List SortedEntry
   es = take (count + 1) ys
@@ -270,7 +270,7 @@ module _ (count : ℕ) (t : ItemTable) (ys : List SortedEntry) (x : Float) (s : 
         let n = count-run in
         subst Comparable (sym runs) (near (subst (λ (f : Scan). f .usable ≡ true) runs g) (omega (arith, some, n, e)))
 
-  pub steps-in : stepsOf s ≤ length ys
+  pub steps-in : scanPlaces s ≤ length ys
   steps-in = go (s .usable) refl
     where
       go : (b : Bool) → s .usable ≡ b → pick b (s .count + 1) 0 ≤ length ys

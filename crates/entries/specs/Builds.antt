@@ -24,16 +24,16 @@ abbrev pub afterEntries : Said (List Entry) → List Entry → List Entry
 afterEntries s old = after s (λ (es : List Entry). es) old
 
 -- how many entries an answer stores
-abbrev pub storedOf : Said ℕ → ℕ
-storedOf (gives count) = count + 1
-storedOf (refuses number detail) = 0
+abbrev pub entriesStored : Said ℕ → ℕ
+entriesStored (gives count) = count + 1
+entriesStored (refuses number detail) = 0
 
 -- ---- between the columns and the list
 -- columns from which a list of so many places takes what an answer says: they and the list have room for it, and what they hold
 -- first is the list that is said
 pub record Holds (said : Said ℕ) (left : ListTable) (places : ℕ) (s : Said (List Entry)) : Type 0 where
-  pub list-room : storedOf said ≤ places
-  pub places-room : storedOf said ≤ length (left .places)
-  pub ratios-room : storedOf said ≤ length (left .ratios)
-  pub wraps-room : storedOf said ≤ length (left .wraps)
-  pub stored : (old : List Entry) → over old (firstOf (storedOf said) left) ≡ afterEntries s old
+  pub list-room : entriesStored said ≤ places
+  pub places-room : entriesStored said ≤ length (left .places)
+  pub ratios-room : entriesStored said ≤ length (left .ratios)
+  pub wraps-room : entriesStored said ≤ length (left .wraps)
+  pub stored : (old : List Entry) → over old (firstOf (entriesStored said) left) ≡ afterEntries s old

@@ -53,8 +53,8 @@ pub record Starts (count : ℕ) (t : ItemTable) (places : ℕ) (x : Float) (s : 
   pub aims : s .usable ≡ true → 0 < count → Aims (itemsIn count t) x (s .aim)
 
 -- how many entries are gone over
-abbrev pub placesOf : Scan → ℕ
-placesOf s = pick (s .usable) (s .count + 1) 0
+abbrev pub scanPlaces : Scan → ℕ
+scanPlaces s = pick (s .usable) (s .count + 1) 0
 
 -- ---- a step
 -- the entry at i becomes the upper neighbour: the first two do, and those after an upper one below the target

@@ -18,7 +18,7 @@ ghost use Rattle.scl_tables.specs.Build.{afterList};
 ghost use Rattle.scl_build.specs.Builder.{counted};
 ghost use Rattle.scl_read.specs.Reader.{saysRead, itemsAfter, sortedAfter};
 ghost use Rattle.entries.specs.Entries.{sortedEntryAt, asEntries, firstOf};
-ghost use Rattle.entries.specs.Builds.{builtIn, storedOf, Holds};
+ghost use Rattle.entries.specs.Builds.{builtIn, entriesStored, Holds};
 ghost use Rattle.entries.specs.Readings.{readIn, countRead, sortedRead};
 ghost use Rattle.entries.specs.Same.{BuildEntries, ReadEntries};
 
@@ -60,7 +60,7 @@ fn store_list<'c>(
 
 // How many entries an answer stores: one for place 0 and one for each item, none on a refusal.
 fn stored_of(answer: SclAnswer) -> usize
-    ensures { λ r. ⌜ r ≡ storedOf (saysScl answer) ⌝ }
+    ensures { λ r. ⌜ r ≡ entriesStored (saysScl answer) ⌝ }
 {
     match answer {
         SclAnswer::Is(scl) => scl.count as usize + 1,
@@ -124,7 +124,7 @@ pub fn build_entries<'i>(
 
 // How many entries a read stores: one for place 0 and one for each item, none on a refusal.
 fn stored_of_read(answer: SclReadAnswer) -> usize
-    ensures { λ r. ⌜ r ≡ storedOf (countRead (saysRead answer)) ⌝ }
+    ensures { λ r. ⌜ r ≡ entriesStored (countRead (saysRead answer)) ⌝ }
 {
     match answer {
         SclReadAnswer::Is(read) => read.scl.count as usize + 1,

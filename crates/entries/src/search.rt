@@ -22,7 +22,7 @@ ghost use Rattle.searching.specs.Search.{foundAt};
 ghost use Rattle.searching.specs.DegreeAnswers.{saysDegreeSearch};
 ghost use Rattle.entries.specs.Entries.{asEntry, columnsIn};
 ghost use Rattle.entries.specs.Columns.{columnSearch};
-ghost use Rattle.entries.specs.Scans.{Aims, Starts, Comparable, Ready, begunOf, goesUp, scanStep, placesOf, nearestBy, foundBy, answerOf};
+ghost use Rattle.entries.specs.Scans.{Aims, Starts, Comparable, Ready, begunOf, goesUp, scanStep, scanPlaces, nearestBy, foundBy, answerOf};
 
 // What a search looks for: the ratio without its periods, how many these are, and whether there is nothing to find (18).
 pub struct Aim {
@@ -131,7 +131,7 @@ fn start<'i>(
 
 // How many entries the pass goes over.
 fn places_of(s: Scan) -> usize
-    ensures { λ r. ⌜ r ≡ placesOf s ⌝ }
+    ensures { λ r. ⌜ r ≡ scanPlaces s ⌝ }
 {
     if s.usable {
         return s.count as usize + 1;

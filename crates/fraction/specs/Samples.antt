@@ -18,8 +18,8 @@ use Rattle.pitch.specs.Ratios.{fromOctaves, upward}
 use Rattle.fraction.specs.declared.NearestFraction.{NearestFraction}
 
 -- numer / denom as it is answered, with no octave taken off
-abbrev pub answerOf : ℕ → ℕ → Float → NearestFraction
-answerOf numer denom deviation = record { numer = numer; denom = denom; deviation = record { 0 = deviation }; «num_octaves» = pos 0 }
+abbrev pub fractionAnswer : ℕ → ℕ → Float → NearestFraction
+fractionAnswer numer denom deviation = record { numer = numer; denom = denom; deviation = record { 0 = deviation }; «num_octaves» = pos 0 }
 
 -- how far x is from a fraction, upwards
 abbrev pub farFrom : ℕ → ℕ → Float → Float
@@ -34,13 +34,13 @@ unfolding round size
 is-1575 = refl
 
 -- "Ratio 1.25, odd limit 3: 4/3"
-pub four-thirds : nearestFraction (fin false 5 (negsuc 1)) 3 ≡ gives (answerOf 4 3 (div binary64 (fin false 5 (negsuc 1)) (floatOf (fraction 4 3))))
+pub four-thirds : nearestFraction (fin false 5 (negsuc 1)) 3 ≡ gives (fractionAnswer 4 3 (div binary64 (fin false 5 (negsuc 1)) (floatOf (fraction 4 3))))
 unfolding nearestFraction le lt eq ofBits L logOf logAt octavesOf bOf yOf round size floor toSigned ofInt E floorOf powerOf timesPower tOf root rootFrom pOf neg div bestFor walked turnOf turnAt passed improved bothOver bothWithin halvedWhileEven upward
 four-thirds = refl
 
 -- ---- 1.575 with odd limit 9
 -- the walk
-walk : bestFor x1575 (pos 0) 9 ≡ answerOf 8 5 (fin false 8866461766385663 (negsuc 52))
+walk : bestFor x1575 (pos 0) 9 ≡ fractionAnswer 8 5 (fin false 8866461766385663 (negsuc 52))
 unfolding le lt eq ofBits round size ofInt neg div bestFor walked turnOf turnAt passed improved bothOver bothWithin halvedWhileEven upward
 walk = refl
 
@@ -67,7 +67,7 @@ searched = refl
 
 -- "Taking `nearest_fraction` for the best fraction in the limit": 1.575 with odd limit 9 answers 8/5; 14/9 is within the
 -- limit and nearer, but the walk turns away at 11/7, which is not
-pub not-best : nearestFraction x1575 9 ≡ gives (answerOf 8 5 (fin false 8866461766385663 (negsuc 52)))
+pub not-best : nearestFraction x1575 9 ≡ gives (fractionAnswer 8 5 (fin false 8866461766385663 (negsuc 52)))
 unfolding nearestFraction
 not-best = rw (searched, octaves, whole, power, target, walk)
 

@@ -31,7 +31,7 @@ use Rattle.text.specs.declared.line.LineSays.{LineSays}
 use Rattle.text.specs.declared.line.LineSays.the-variants.{Content}
 use Rattle.kbm.specs.declared.Entry.{Entry}
 use Rattle.kbm.specs.declared.Entry.the-variants.{Unmapped}
-use Rattle.kbm_read.specs.Steps.{goesOn, takeLast, decimalRefused, pitchSaid, takePitch, takeEntry, takeDue, takeToken, takeMeaning, isCross, degreeIn, entryIn, foundEntry, foundIn}
+use Rattle.kbm_read.specs.Steps.{goesOn, takeLast, decimalRefused, referencePitchSaid, takePitch, takeEntry, takeDue, takeToken, takeMeaning, isCross, degreeIn, entryIn, foundEntry, foundIn}
 use Rattle.kbm_read.specs.declared.line.Due.{Due}
 use Rattle.kbm_read.specs.declared.line.Due.the-variants as due
 use Rattle.kbm_read.specs.declared.line.Found.the-variants as found
@@ -60,7 +60,7 @@ module _ (k : ℕ) (t : List ℕ) (h : Head) {x : DecimalAnswer} (e : x ≡ read
   pub pitch-refused : OneOf (1 ∷ 2 ∷ []) (tagOf the-type x) → decimalRefused k x ≡ takePitch k t h
   pitch-refused o = rw (← e) (go x o)
     where
-      go : (y : DecimalAnswer) → OneOf (1 ∷ 2 ∷ []) (tagOf the-type y) → decimalRefused k y ≡ pitchSaid k h y
+      go : (y : DecimalAnswer) → OneOf (1 ∷ 2 ∷ []) (tagOf the-type y) → decimalRefused k y ≡ referencePitchSaid k h y
       go (decimal.Is v) (inl n) = absurd (omega arith)
       go (decimal.Is v) (inr n) = absurd (omega arith)
       go decimal.Unsupported n = refl

@@ -24,7 +24,7 @@ use Rattle.kbm_read.specs.declared.line.EntryRead.{EntryRead}
 use Rattle.kbm_read.specs.declared.line.EntryRead.the-variants as entry
 use Rattle.kbm_read.specs.declared.line.Head.{Head}
 use Rattle.kbm_read.specs.declared.line.State.{State}
-pub use Rattle.kbm_read.specs.Steps.{saysStep, goesOn, takeSize, takeFirst, takeLast, takeMiddle, takeReference, decimalRefused, pitchSaid, takePitch, takeOctave, isCross, degreeIn, entryPlaced, takeEntry, takeDue, takeMeaning, foundEntry, foundIn}
+pub use Rattle.kbm_read.specs.Steps.{saysStep, goesOn, takeSize, takeFirst, takeLast, takeMiddle, takeReference, decimalRefused, referencePitchSaid, takePitch, takeOctave, isCross, degreeIn, entryPlaced, takeEntry, takeDue, takeMeaning, foundEntry, foundIn}
 unfoldable pub use Rattle.kbm_read.specs.Steps.{entryIn, takeToken}
 
 -- which required line is missing, counted from 1; 0 for none

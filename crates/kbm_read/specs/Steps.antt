@@ -71,14 +71,14 @@ decimalRefused k decimal.Unsupported = refuses unsupported-numeral k
 decimalRefused k decimal.Bad = refuses float-value k
 
 -- the reference pitch: 7, 9, and 10 outside 2^-10..2^20
-abbrev pub pitchSaid : ℕ → Head → DecimalAnswer → Said State
-pitchSaid k h x =
+abbrev pub referencePitchSaid : ℕ → Head → DecimalAnswer → Said State
+referencePitchSaid k h x =
     andThen (saysDecimal float-value k x) (λ v. pick (inPitch v) (goesOn due.Octave
     (record { size = h .size; first = h .first; end = h .end; middle = h .middle; reference = h .reference; hz = v; octave = h .octave }))
     (refuses unusable k))
 
 abbrev pub takePitch : ℕ → List ℕ → Head → Said State
-takePitch k t h = pitchSaid k h (readDecimal t)
+takePitch k t h = referencePitchSaid k h (readDecimal t)
 
 abbrev pub takeOctave : ℕ → List ℕ → Head → Said State
 takeOctave k t h =

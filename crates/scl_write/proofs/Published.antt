@@ -50,7 +50,7 @@ cents-text c h =
     signed false body e = inl (refl, e)
 
 -- an item's text is its pitch value
-value : (i : Item) → Held i → isUsable i ≡ true → P.Value (itemText i) (P.pitchOf i)
+value : (i : Item) → Held i → isUsable i ≡ true → P.Value (itemText i) (P.publishedPitch i)
 value (Cents c) f h = P.Value.cents (cents-text c h)
 value (Fraction n (Given d)) f h =
     let p = usable-fraction n (Given d) h in

@@ -71,13 +71,13 @@ pub record OneLine (description : List ℕ) : Type 0 where
   pub no-comment : PublishedComment description → ⊥
 
 -- the pitch value of an item of the library: cents to three decimals, ratios exactly, an integer over 1
-abbrev pub pitchOf : Item → Pitch
-pitchOf (Cents c) = Pitch.cents (negative c) (scaledOf 3 c) 3
-pitchOf (Fraction n d) = Pitch.ratio n (denomOf d)
+abbrev pub publishedPitch : Item → Pitch
+publishedPitch (Cents c) = Pitch.cents (negative c) (scaledOf 3 c) 3
+publishedPitch (Fraction n d) = Pitch.ratio n (denomOf d)
 
 abbrev pub pitchesOf : List Item → List Pitch
 pitchesOf [] = []
-pitchesOf (i ∷ is) = pitchOf i ∷ pitchesOf is
+pitchesOf (i ∷ is) = publishedPitch i ∷ pitchesOf is
 
 -- what a scale of the library says in the published format
 abbrev pub publishedOf : List ℕ → List Item → Scale

@@ -58,7 +58,7 @@ use Rattle.scl_build.specs.Builder.{counted}
 use Rattle.scl_build.specs.declared.SclBuilder.{SclBuilder}
 use Rattle.entries.specs.declared.SortedEntry.{SortedEntry}
 use Rattle.entries.specs.Entries.{asEntries, firstOf}
-use Rattle.entries.specs.Builds.{builtIn, storedOf, Holds}
+use Rattle.entries.specs.Builds.{builtIn, entriesStored, Holds}
 use Rattle.entries.proofs.Again.{ref}
 use Rattle.entries.proofs.Columns.{Names, lengths, Rooms, Long, Rows, Outs, Muts, Toks, Openeds, rows-out, rows-home, rows-open, rows-shut}
 use Rattle.entries.proofs.Storing as storing
@@ -255,8 +255,8 @@ module _ {M : Type 1} (𝓤 : URA M) (H : Heap 𝓤) (A : Atoms 𝓤) (W : Given
   lent₂ : (a : SclAnswer) (u : Val) → Is E.the-row a (u ∷ []) → ent 𝓤 (emp 𝓤) (Stored 𝓤 H A mem run .pre (to₂ a u))
   lent₂ a u is = qed W [] ∵ nothing ! $ owned ! E.the-row (Is E.the-row) (EL.makes E.the-type E′.the-plain 𝓤 H A) a _ is $ fjoin ! $ nothing ! $ join ! $ frame ! $ done !
 
-  said₂ : (a : SclAnswer) (n : ℕ) → ent 𝓤 (ensured 𝓤 H A h.ended (h.clauses 𝓤 H A mem run) tt (a, tt) tt n) (fact 𝓤 (n ≡ storedOf (saysScl a)))
-  said₂ a n = exE 𝓤 _ (λ us. snd∗ 𝓤 (sem 𝓤 H A (lasts h.ended tt (a, tt) us)) (fact 𝓤 (n ≡ storedOf (saysScl a))))
+  said₂ : (a : SclAnswer) (n : ℕ) → ent 𝓤 (ensured 𝓤 H A h.ended (h.clauses 𝓤 H A mem run) tt (a, tt) tt n) (fact 𝓤 (n ≡ entriesStored (saysScl a)))
+  said₂ a n = exE 𝓤 _ (λ us. snd∗ 𝓤 (sem 𝓤 H A (lasts h.ended tt (a, tt) us)) (fact 𝓤 (n ≡ entriesStored (saysScl a))))
 
   -- ---- the third: the columns at z are shown, and the list is given (`Storing.antt`)
   abbrev to₃ : ℕ → Names → ListTable → ℕ → Store 𝓤 H A mem run .Ghost
@@ -274,7 +274,7 @@ module _ {M : Type 1} (𝓤 : URA M) (H : Heap 𝓤) (A : Atoms 𝓤) (W : Given
   abbrev Called₃ : ℕ → Names → ListTable → ℕ → Unit {0} → Val → Item 𝓤
   Called₃ = storing.Called 𝓤 H A W mem run κ₄ q₄ x b₁ o₁ b₂ o₂ b₃ o₃ (lengths t) room
 
-  lent₃ : (a : SclAnswer) (u : Val) (z : ListTable) → Told₁ a u z → (n : ℕ) → n < 2 ^ 64 → n ≡ storedOf (saysScl a) → (ν : ℕ) → ent 𝓤 (sep 𝓤 (A .lft (ν ∷ []) fullShare) (sem 𝓤 H A (fsep (flft κ₄ q₄) (fsep L (Rows₀ z))))) (H .⇛ (ex 𝓤 (λ (δ : Names). sep 𝓤 (Store 𝓤 H A mem run .pre (to₃ ν δ z n)) (sem 𝓤 H A (Shown₃ ν z)))))
+  lent₃ : (a : SclAnswer) (u : Val) (z : ListTable) → Told₁ a u z → (n : ℕ) → n < 2 ^ 64 → n ≡ entriesStored (saysScl a) → (ν : ℕ) → ent 𝓤 (sep 𝓤 (A .lft (ν ∷ []) fullShare) (sem 𝓤 H A (fsep (flft κ₄ q₄) (fsep L (Rows₀ z))))) (H .⇛ (ex 𝓤 (λ (δ : Names). sep 𝓤 (Store 𝓤 H A mem run .pre (to₃ ν δ z n)) (sem 𝓤 H A (Shown₃ ν z)))))
   lent₃ a u z f′ n gn e ν =
       let s = f′ .2 .2 in
       storing.lent 𝓤 H A W mem run κ₄ q₄ x b₁ o₁ b₂ o₂ b₃ o₃ (lengths t) room z (f′ .1) n gn (omega (arith, e, s .list-room), omega (arith, e, s .places-room), omega (arith, e, s .ratios-room), omega (arith, e, s .wraps-room)) ν
@@ -287,7 +287,7 @@ module _ {M : Type 1} (𝓤 : URA M) (H : Heap 𝓤) (A : Atoms 𝓤) (W : Given
   abbrev Ended : ListTable → List SortedEntry → List (Item 𝓤)
   Ended z es = ‵ (flft κ q) ∷ ‵ (flft κ₄ q₄) ∷ ‵ (finally T.the-row (x .name) es) ∷ ‵ (Muts₀ z) ∷ ‵ Toks₀ ∷ []
 
-  exits : (a : SclAnswer) (u : Val) (z : ListTable) → Told₁ a u z → (n : ℕ) → n ≡ storedOf (saysScl a) → (es : List SortedEntry) → length es ≡ length (now x) → Said₃ z n es → ent 𝓤 (⋆ 𝓤 H A (Ended z es)) (Post u)
+  exits : (a : SclAnswer) (u : Val) (z : ListTable) → Told₁ a u z → (n : ℕ) → n ≡ entriesStored (saysScl a) → (es : List SortedEntry) → length es ≡ length (now x) → Said₃ z n es → ent 𝓤 (⋆ 𝓤 H A (Ended z es)) (Post u)
   exits a u z f′ n e es m s =
       qed W (Ended z es) ∵
       suffices ! _ (ends-at 𝓤 H A f.ended stayed (f.clauses 𝓤 H A mem run) W (((κ, (κ₁, (κ₂, (κ₃, (κ₄, tt))))), (q, (q₁, (q₂, (q₃, (q₄, tt))))), tt, args, vals), tt) u a
@@ -370,7 +370,7 @@ module _ {M : Type 1} (𝓤 : URA M) (H : Heap 𝓤) (A : Atoms 𝓤) (W : Given
     abbrev Counted : Val → ListTable → ℕ → List (Item 𝓤)
     Counted u z n = Empty ((ref32 mut, l₁₂) ∷ (sl32 mut, l₁₃) ∷ (ref64 mut, l₁₄) ∷ (sl64 mut, l₁₅) ∷ (ref32 mut, l₁₆) ∷ (sl32 mut, l₁₇) ∷ (word, l₁₈) ∷ (tyUnit, l₁₉) ∷ (tyRef erased mut entryTy, l₂₀) ∷ (sliceTy (tyRef erased mut entryTy), l₂₁) ∷ (ref32 imm, l₂₂) ∷ (sl32 imm, l₂₃) ∷ (ref64 imm, l₂₄) ∷ (sl64 imm, l₂₅) ∷ (ref32 imm, l₂₆) ∷ (sl32 imm, l₂₇) ∷ []) (‵ (fat fullShare word l₁₁ 0 (vint w64 n)) ∷ ‵ (fdies word l₁₁) ∷ ‵ (fat fullShare mE l₁₀ 0 u) ∷ ‵ (fdies mE l₁₀) ∷ Passed (Rest z))
 
-    third : (a : SclAnswer) (u : Val) (z : ListTable) → Told₁ a u z → (n : ℕ) → n < 2 ^ 64 → n ≡ storedOf (saysScl a) → ent 𝓤 (⋆ 𝓤 H A (Counted u z n)) (Wp 𝓤 H C Λ En body.t-10 (atReturn 𝓤 H En Post))
+    third : (a : SclAnswer) (u : Val) (z : ListTable) → Told₁ a u z → (n : ℕ) → n < 2 ^ 64 → n ≡ entriesStored (saysScl a) → ent 𝓤 (⋆ 𝓤 H A (Counted u z n)) (Wp 𝓤 H C Λ En body.t-10 (atReturn 𝓤 H En Post))
     third a u z f′ n gn e =
         qed W (Counted u z n) ∵ exec ! C Λ En body.t-10 (atRet En Post) $
         assigns ! (addr ! (from ! (fld ! refl (hop ! (look-in ! 36 (sub ! 0 refl (whole !))) (stop !))))) (from ! (stop !)) (init ! 14 refl (tt, tt)) $
@@ -397,7 +397,7 @@ module _ {M : Type 1} (𝓤 : URA M) (H : Heap 𝓤) (A : Atoms 𝓤) (W : Given
         use0 W (raw (Stored 𝓤 H A mem run .pre (to₂ a u))) (lent₂ a u (f′ .0)) $
         calls-at ! (fmOf 𝓤 H (W .laws) 𝓣) (Stored 𝓤 H A mem run) known₂ (to₂ a u) (and-then ! (load ! (from ! (stop !)) (look ! 35 refl)) (no-more !)) (λ v.
         use1 W (later (some (λ (n : ℕ). (‵ ftrue ⊛ ‵ (usize .own n (v ∷ []))) ⊛ raw (ensured 𝓤 H A h.ended (h.clauses 𝓤 H A mem run) tt (a, tt) tt n)))) (id⊢ 𝓤 _) $ await ! tt $ pick ! (λ n.
-        split ! $ move ! (1 ∷ []) $ use1 W (raw (fact 𝓤 (n ≡ storedOf (saysScl a)))) (said₂ a n) $ heard ! (n ≡ storedOf (saysScl a)) (λ e. split ! $ drop ! $
+        split ! $ move ! (1 ∷ []) $ use1 W (raw (fact 𝓤 (n ≡ entriesStored (saysScl a)))) (said₂ a n) $ heard ! (n ≡ entriesStored (saysScl a)) (λ e. split ! $ drop ! $
         peeks ! usize (Is usize) (shows 𝓤 H A usize) n (v ∷ []) (λ is.
         land ! (from ! (stop !)) (init ! 33 refl (uint-lawful 𝓤 H A W w64 .typed n (v ∷ []) is .0)) $
         rewrite ! 33 (λ (y : Val). ‵ (fat fullShare word l₁₁ 0 y)) (ap only (uint-tells w64 n (v ∷ []) is)) refl $ drop ! $ by ! (third a u z f′ n (is .1) e)))))

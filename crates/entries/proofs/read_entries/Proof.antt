@@ -54,7 +54,7 @@ use Rattle.scl_read.specs.declared.SclRead.{SclRead}
 use Rattle.scl_read.specs.declared.SclReadAnswer.{SclReadAnswer}
 use Rattle.entries.specs.declared.SortedEntry.{SortedEntry}
 use Rattle.entries.specs.Entries.{asEntries, firstOf}
-use Rattle.entries.specs.Builds.{storedOf, Holds}
+use Rattle.entries.specs.Builds.{entriesStored, Holds}
 use Rattle.entries.specs.Readings.{readIn, countRead, sortedRead}
 use Rattle.entries.proofs.Again.{ref}
 use Rattle.entries.proofs.Columns.{Names, lengths, Rooms, Long, Rows, Outs, Muts, Toks, Openeds, rows-out, rows-home, rows-open, rows-shut}
@@ -271,8 +271,8 @@ module _ {M : Type 1} (𝓤 : URA M) (H : Heap 𝓤) (A : Atoms 𝓤) (W : Given
   lent₂ : (a : SclReadAnswer) (u : Val) → Is E.the-row a (u ∷ []) → ent 𝓤 (emp 𝓤) (Stored 𝓤 H A mem run .pre (to₂ a u))
   lent₂ a u is = qed W [] ∵ nothing ! $ owned ! E.the-row (Is E.the-row) (EL.makes E.the-type E′.the-plain 𝓤 H A) a _ is $ fjoin ! $ nothing ! $ join ! $ frame ! $ done !
 
-  said₂ : (a : SclReadAnswer) (n : ℕ) → ent 𝓤 (ensured 𝓤 H A h.ended (h.clauses 𝓤 H A mem run) tt (a, tt) tt n) (fact 𝓤 (n ≡ storedOf (countRead (saysRead a))))
-  said₂ a n = exE 𝓤 _ (λ us. snd∗ 𝓤 (sem 𝓤 H A (lasts h.ended tt (a, tt) us)) (fact 𝓤 (n ≡ storedOf (countRead (saysRead a)))))
+  said₂ : (a : SclReadAnswer) (n : ℕ) → ent 𝓤 (ensured 𝓤 H A h.ended (h.clauses 𝓤 H A mem run) tt (a, tt) tt n) (fact 𝓤 (n ≡ entriesStored (countRead (saysRead a))))
+  said₂ a n = exE 𝓤 _ (λ us. snd∗ 𝓤 (sem 𝓤 H A (lasts h.ended tt (a, tt) us)) (fact 𝓤 (n ≡ entriesStored (countRead (saysRead a)))))
 
   -- ---- the third: the columns at z are shown, and the list is given (`Storing.antt`)
   abbrev to₃ : ℕ → Names → ListTable → ℕ → Store 𝓤 H A mem run .Ghost
@@ -290,7 +290,7 @@ module _ {M : Type 1} (𝓤 : URA M) (H : Heap 𝓤) (A : Atoms 𝓤) (W : Given
   abbrev Called₃ : ℕ → Names → ListTable → ℕ → Unit {0} → Val → Item 𝓤
   Called₃ = storing.Called 𝓤 H A W mem run κ₅ q₅ x b₁ o₁ b₂ o₂ b₃ o₃ (lengths t) room
 
-  lent₃ : (a : SclReadAnswer) (u : Val) (y : ItemTable) (z : ListTable) → Told₁ a u y z → (n : ℕ) → n < 2 ^ 64 → n ≡ storedOf (countRead (saysRead a)) → (ν : ℕ) → ent 𝓤 (sep 𝓤 (A .lft (ν ∷ []) fullShare) (sem 𝓤 H A (fsep (flft κ₅ q₅) (fsep L (Rows₀ z))))) (H .⇛ (ex 𝓤 (λ (δ : Names). sep 𝓤 (Store 𝓤 H A mem run .pre (to₃ ν δ z n)) (sem 𝓤 H A (Shown₃ ν z)))))
+  lent₃ : (a : SclReadAnswer) (u : Val) (y : ItemTable) (z : ListTable) → Told₁ a u y z → (n : ℕ) → n < 2 ^ 64 → n ≡ entriesStored (countRead (saysRead a)) → (ν : ℕ) → ent 𝓤 (sep 𝓤 (A .lft (ν ∷ []) fullShare) (sem 𝓤 H A (fsep (flft κ₅ q₅) (fsep L (Rows₀ z))))) (H .⇛ (ex 𝓤 (λ (δ : Names). sep 𝓤 (Store 𝓤 H A mem run .pre (to₃ ν δ z n)) (sem 𝓤 H A (Shown₃ ν z)))))
   lent₃ a u y z f′ n gn e ν =
       let s = f′ .3 .3 in
       storing.lent 𝓤 H A W mem run κ₅ q₅ x b₁ o₁ b₂ o₂ b₃ o₃ (lengths t) room z (f′ .1) n gn (omega (arith, e, s .list-room), omega (arith, e, s .places-room), omega (arith, e, s .ratios-room), omega (arith, e, s .wraps-room)) ν
@@ -303,7 +303,7 @@ module _ {M : Type 1} (𝓤 : URA M) (H : Heap 𝓤) (A : Atoms 𝓤) (W : Given
   abbrev Ended : ItemTable → ListTable → List SortedEntry → List (Item 𝓤)
   Ended y z es = ‵ K₀ ∷ ‵ (flft κ₅ q₅) ∷ ‵ (finally T.the-row (x .name) es) ∷ ‵ (Muts₀ z) ∷ ‵ Toks₀ ∷ ‵ (Fin₁ y) ∷ []
 
-  exits : (a : SclReadAnswer) (u : Val) (y : ItemTable) (z : ListTable) → Told₁ a u y z → (n : ℕ) → n ≡ storedOf (countRead (saysRead a)) → (es : List SortedEntry) → length es ≡ length (now x) → Said₃ z n es → ent 𝓤 (⋆ 𝓤 H A (Ended y z es)) (Post u)
+  exits : (a : SclReadAnswer) (u : Val) (y : ItemTable) (z : ListTable) → Told₁ a u y z → (n : ℕ) → n ≡ entriesStored (countRead (saysRead a)) → (es : List SortedEntry) → length es ≡ length (now x) → Said₃ z n es → ent 𝓤 (⋆ 𝓤 H A (Ended y z es)) (Post u)
   exits a u y z f′ n e es m s =
       qed W (Ended y z es) ∵
       suffices ! _ (ends-at 𝓤 H A f.ended stayed (f.clauses 𝓤 H A mem run) W (((κ, (κ₁, (κ₂, (κ₃, (κ₄, (κ₅, tt)))))), (q, (q₁, (q₂, (q₃, (q₄, (q₅, tt)))))), tt, args, vals), tt) u a
@@ -395,7 +395,7 @@ module _ {M : Type 1} (𝓤 : URA M) (H : Heap 𝓤) (A : Atoms 𝓤) (W : Given
     abbrev Counted : Val → ItemTable → ListTable → ℕ → List (Item 𝓤)
     Counted u y z n = Empty ((ref8 mut, l₁₂) ∷ (sl8 mut, l₁₃) ∷ (ref64 mut, l₁₄) ∷ (sl64 mut, l₁₅) ∷ (ref32 mut, l₁₆) ∷ (sl32 mut, l₁₇) ∷ (ref32 mut, l₁₈) ∷ (sl32 mut, l₁₉) ∷ (ref32 mut, l₂₀) ∷ (sl32 mut, l₂₁) ∷ (ref64 mut, l₂₂) ∷ (sl64 mut, l₂₃) ∷ (ref32 mut, l₂₄) ∷ (sl32 mut, l₂₅) ∷ (word, l₂₆) ∷ (tyUnit, l₂₇) ∷ (tyRef erased mut entryTy, l₂₈) ∷ (sliceTy (tyRef erased mut entryTy), l₂₉) ∷ (ref32 imm, l₃₀) ∷ (sl32 imm, l₃₁) ∷ (ref64 imm, l₃₂) ∷ (sl64 imm, l₃₃) ∷ (ref32 imm, l₃₄) ∷ (sl32 imm, l₃₅) ∷ []) (‵ (fat fullShare word l₁₁ 0 (vint w64 n)) ∷ ‵ (fdies word l₁₁) ∷ ‵ (fat fullShare mE l₁₀ 0 u) ∷ ‵ (fdies mE l₁₀) ∷ Passed (Rest y z))
 
-    third : (a : SclReadAnswer) (u : Val) (y : ItemTable) (z : ListTable) → Told₁ a u y z → (n : ℕ) → n < 2 ^ 64 → n ≡ storedOf (countRead (saysRead a)) → ent 𝓤 (⋆ 𝓤 H A (Counted u y z n)) (Wp 𝓤 H C Λ En body.t-18 (atReturn 𝓤 H En Post))
+    third : (a : SclReadAnswer) (u : Val) (y : ItemTable) (z : ListTable) → Told₁ a u y z → (n : ℕ) → n < 2 ^ 64 → n ≡ entriesStored (countRead (saysRead a)) → ent 𝓤 (⋆ 𝓤 H A (Counted u y z n)) (Wp 𝓤 H C Λ En body.t-18 (atReturn 𝓤 H En Post))
     third a u y z f′ n gn e =
         qed W (Counted u y z n) ∵ exec ! C Λ En body.t-18 (atRet En Post) $
         assigns ! (addr ! (from ! (fld ! refl (hop ! (look-in ! 52 (sub ! 0 refl (whole !))) (stop !))))) (from ! (stop !)) (init ! 14 refl (tt, tt)) $
@@ -422,7 +422,7 @@ module _ {M : Type 1} (𝓤 : URA M) (H : Heap 𝓤) (A : Atoms 𝓤) (W : Given
         use0 W (raw (Stored 𝓤 H A mem run .pre (to₂ a u))) (lent₂ a u (f′ .0)) $
         calls-at ! (fmOf 𝓤 H (W .laws) 𝓣) (Stored 𝓤 H A mem run) known₂ (to₂ a u) (and-then ! (load ! (from ! (stop !)) (look ! 51 refl)) (no-more !)) (λ v.
         use1 W (later (some (λ (n : ℕ). (‵ ftrue ⊛ ‵ (usize .own n (v ∷ []))) ⊛ raw (ensured 𝓤 H A h.ended (h.clauses 𝓤 H A mem run) tt (a, tt) tt n)))) (id⊢ 𝓤 _) $ await ! tt $ pick ! (λ n.
-        split ! $ move ! (1 ∷ []) $ use1 W (raw (fact 𝓤 (n ≡ storedOf (countRead (saysRead a))))) (said₂ a n) $ heard ! (n ≡ storedOf (countRead (saysRead a))) (λ e. split ! $ drop ! $
+        split ! $ move ! (1 ∷ []) $ use1 W (raw (fact 𝓤 (n ≡ entriesStored (countRead (saysRead a))))) (said₂ a n) $ heard ! (n ≡ entriesStored (countRead (saysRead a))) (λ e. split ! $ drop ! $
         peeks ! usize (Is usize) (shows 𝓤 H A usize) n (v ∷ []) (λ is.
         land ! (from ! (stop !)) (init ! 49 refl (uint-lawful 𝓤 H A W w64 .typed n (v ∷ []) is .0)) $
         rewrite ! 49 (λ (y : Val). ‵ (fat fullShare word l₁₁ 0 y)) (ap only (uint-tells w64 n (v ∷ []) is)) refl $ drop ! $ by ! (third a u y z f′ n (is .1) e)))))

@@ -39,7 +39,7 @@ use Rattle.harmonics.specs.Harmonics.{asItem, itemAt, harmonicsOf, madeHarmonic
 use Rattle.harmonics.proofs.Plans.{steps-reach, none-start, no-place}
 use Rattle.harmonics.proofs.Reaches.{Ways, ways}
 use Rattle.harmonics.proofs.Theorems.{no-divisions}
-use Rattle.promises.specs.equal_steps.Causes.{Tested, NoDivisions, Beyond, Items}
+use Rattle.promises.specs.equal_steps.Causes.{Tested, NoDivisions, Beyond, SegmentItems}
 use Rattle.promises.proofs.equal_steps.Divided.{step, step-reach, steps-said, steps-in-powers}
 
 -- numbers of refusals stay apart
@@ -52,13 +52,13 @@ none-or (Into zero) = inl refl
 none-or (Into (suc n)) = inr (λ e. let z : suc n ≡ 0 = cc in omega (arith, z))
 
 module _ (type : SegmentType) (start size : ℕ) (some : 0 < start) (s-small : start < 2 ^ 16) (z-small : size < 2 ^ 16) where
-  of-steps : (divisions : Divisions) (steps : Steps) → segmentCount size divisions < 2 ^ 16 → stepsOf start size divisions ≡ gives steps → (itemAt type start size steps (segmentCount size divisions) ≡ refuses beyond-reach 0 → ⊥) → Items type start size divisions
+  of-steps : (divisions : Divisions) (steps : Steps) → segmentCount size divisions < 2 ^ 16 → stepsOf start size divisions ≡ gives steps → (itemAt type start size steps (segmentCount size divisions) ≡ refuses beyond-reach 0 → ⊥) → SegmentItems type start size divisions
   of-steps divisions steps small e last = go (ways start size some s-small z-small type n small steps (steps-reach start size divisions steps e))
     where
       n : ℕ
       n = segmentCount size divisions
 
-      by : All (itemAt type start size steps) 1 n → Items type start size divisions
+      by : All (itemAt type start size steps) 1 n → SegmentItems type start size divisions
       by m = record {
         items = m .items;
         are = ap (λ (s : Said Steps). andThen s (λ x. itemsFrom (itemAt type start size x) 1 n)) e ∙ m .are;
@@ -72,7 +72,7 @@ module _ (type : SegmentType) (start size : ℕ) (some : 0 < start) (s-small : s
             ∙ m .last i p (ap (itemAt type start size steps) z ∙ ap (λ (y : Steps). itemAt type start size y n) (sym same) ∙ is);
       }
 
-      go : Ways start size some s-small z-small (itemAt type start size steps) n → Items type start size divisions
+      go : Ways start size some s-small z-small (itemAt type start size steps) n → SegmentItems type start size divisions
       go (Ways.all h) = by (all-items (itemAt type start size steps) n 1 (λ j a b. h j (omega arith)))
       go (Ways.beyond q h) = absurd (last q)
 
@@ -88,7 +88,7 @@ module _ (type : SegmentType) (start size : ℕ) (some : 0 < start) (s-small : s
       no-refusal (sym (ap (λ (s : Said Float). andThen (andThen s (λ ratio. gives (nearAt type start size ratio))) (λ f. gives (asItem f))) said) ∙ q)
 
   -- NO ITEM IS REFUSED, but by 0 divisions
-  pub items-of : (divisions : Divisions) → segmentCount size divisions < 2 ^ 16 → (NoDivisions divisions → ⊥) → Items type start size divisions
+  pub items-of : (divisions : Divisions) → segmentCount size divisions < 2 ^ 16 → (NoDivisions divisions → ⊥) → SegmentItems type start size divisions
   items-of Lacking small h = of-steps Lacking Whole small refl (λ q. no-refusal q)
   items-of (Into zero) small h = absurd (h refl)
   items-of (Into (suc n)) small h =
@@ -110,14 +110,14 @@ module _ (type : SegmentType) (start size : ℕ) (divisions : Divisions) (s-smal
     made : Tested t l start size divisions → (Beyond type start size divisions → ⊥)
         → (is : List Item) → harmonicsOf type start size divisions ≡ gives is → call ≡ gives is → Leaves t l is → Way
 
-  made-by : Tested t l start size divisions → (m : Items type start size divisions) → call ≡ madeOf t l (length (m .items)) (gives (m .items))
+  made-by : Tested t l start size divisions → (m : SegmentItems type start size divisions) → call ≡ madeOf t l (length (m .items)) (gives (m .items))
   unfolding madeHarmonics
   made-by q m = rw (lt-ltb 0 start (q .some), m .are, m .size-is)
 
   divided : Tested t l start size divisions → (NoDivisions divisions → ⊥) → Way
   divided q some = go (accepted-or t l is few room (m .usable) (m .held))
     where
-      m : Items type start size divisions
+      m : SegmentItems type start size divisions
       m = items-of type start size (q .some) s-small z-small divisions small some
 
       is : List Item

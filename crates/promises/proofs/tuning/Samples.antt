@@ -15,7 +15,7 @@ use Rattle.scl_tables.specs.Build.{sortedOf}
 use Rattle.relative.specs.Relative.{periodsOf, placeOf, relativePitchOf}
 use Rattle.searching.specs.Search.{chosenOf, nearestOf, searchOf}
 use Rattle.searching.specs.Degrees.{declaredOf, ascendingOf}
-use Rattle.promises.specs.tuning.Samples.{only, onlyList, threeF, threeAnswer, seventeenth, eighteenth, partedAnswer, repeated, repeatedList, repeatedAnswer, three, belowPitch}
+use Rattle.promises.specs.tuning.Samples.{only, onlyList, threeF, threeAnswer, seventeenth, eighteenth, partedAnswer, repeatedItems, repeatedList, repeatedAnswer, three, belowPitch}
 
 -- the lists are those of the scales
 pub two-sorted : sortedOf (only 2) ≡ gives (onlyList twoF)
@@ -46,11 +46,11 @@ unfolding searchOf chosenOf nearestOf held le lt eq neg add sub mul div rem roun
 found-parts = refl
 
 -- of equal entries the first is found
-pub repeated-sorted : sortedOf repeated ≡ gives repeatedList
+pub repeated-sorted : sortedOf repeatedItems ≡ gives repeatedList
 unfolding sortedOf le lt eq neg add sub mul div rem round size ofBits ofFields odd climb span ofInt toSigned trunc abs tOf pOf bOf yOf root rootFrom E L floorOf timesPower powerOf logOf logAt octavesOf
 repeated-sorted = refl
 
-pub repeated-found : andThen (searchOf repeated repeatedList (fin false 1 (pos 0))) (ascendingOf 6) ≡ gives repeatedAnswer
+pub repeated-found : andThen (searchOf repeatedItems repeatedList (fin false 1 (pos 0))) (ascendingOf 6) ≡ gives repeatedAnswer
 unfolding searchOf chosenOf nearestOf held le lt eq neg add sub mul div rem round size ofBits ofFields odd climb span ofInt toSigned trunc abs tOf pOf bOf yOf root rootFrom E L floorOf timesPower powerOf logOf logAt octavesOf
 repeated-found = refl
 

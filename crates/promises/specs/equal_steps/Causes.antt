@@ -41,7 +41,7 @@ abbrev pub Beyond : SegmentType → ℕ → ℕ → Divisions → Type 0
 Beyond type start size divisions = NoDivisions divisions ⊎ PeriodOne type start size divisions
 
 -- the items of a segment: as many as it is asked for, each usable
-pub record Items (type : SegmentType) (start size : ℕ) (divisions : Divisions) : Type 0 where
+pub record SegmentItems (type : SegmentType) (start size : ℕ) (divisions : Divisions) : Type 0 where
   pub items : List Item
   pub are : harmonicsOf type start size divisions ≡ gives items
   pub size-is : length items ≡ segmentCount size divisions

@@ -45,8 +45,8 @@ abbrev pub partedAnswer : Approximation
 partedAnswer = approximation (fin false 2251799813685245 (negsuc 50)) (pos 18)
 
 -- ---- items 1/1 five times and 2/1: 1.0 is searched, which six entries equal
-abbrev pub repeated : List Item
-repeated = implicit ∷ Fraction 1 (Given 1) ∷ Fraction 1 (Given 1) ∷ Fraction 1 (Given 1) ∷ Fraction 1 (Given 1) ∷ Fraction 1 (Given 1) ∷ Fraction 2 (Given 1) ∷ []
+abbrev pub repeatedItems : List Item
+repeatedItems = implicit ∷ Fraction 1 (Given 1) ∷ Fraction 1 (Given 1) ∷ Fraction 1 (Given 1) ∷ Fraction 1 (Given 1) ∷ Fraction 1 (Given 1) ∷ Fraction 2 (Given 1) ∷ []
 
 abbrev pub unison : Entry
 unison = entry 0 (fin false 1 (pos 0)) (pos 0)

@@ -60,7 +60,7 @@ use Rattle.searching.specs.DegreeAnswers.{saysDegreeSearch}
 use Rattle.searching.specs.declared.approximation.DegreeSearch.{DegreeSearch}
 use Rattle.entries.specs.Entries.{noEntry}
 use Rattle.entries.specs.declared.SortedEntry.{SortedEntry}
-use Rattle.entries.specs.Scans.{Starts, Ready, placesOf, scanStep, scanned, answerOf}
+use Rattle.entries.specs.Scans.{Starts, Ready, scanPlaces, scanStep, scanned, answerOf}
 use Rattle.entries.specs.declared.search.Scan.{Scan}
 use Rattle.entries.proofs.Answers.{steps-in, ready, answers}
 use Rattle.scl.proofs.Scl as S
@@ -248,8 +248,8 @@ module _ {M : Type 1} (𝓤 : URA M) (H : Heap 𝓤) (A : Atoms 𝓤) (W : Given
   lent₂ : (s : Scan) → Good s → ent 𝓤 (emp 𝓤) (Places 𝓤 H A mem run .pre (to₂ s))
   lent₂ s gs = qed W [] ∵ nothing ! $ owned ! F.the-row (Is F.the-row) (LL.makes F.the-type F′.the-plain 𝓤 H A) s _ gs $ fjoin ! $ nothing ! $ join ! $ frame ! $ done !
 
-  said₂ : (s : Scan) (n : ℕ) → ent 𝓤 (ensured 𝓤 H A p.ended (p.clauses 𝓤 H A mem run) tt (s, tt) tt n) (fact 𝓤 (n ≡ placesOf s))
-  said₂ s n = exE 𝓤 _ (λ us. snd∗ 𝓤 (sem 𝓤 H A (lasts p.ended tt (s, tt) us)) (fact 𝓤 (n ≡ placesOf s)))
+  said₂ : (s : Scan) (n : ℕ) → ent 𝓤 (ensured 𝓤 H A p.ended (p.clauses 𝓤 H A mem run) tt (s, tt) tt n) (fact 𝓤 (n ≡ scanPlaces s))
+  said₂ s n = exE 𝓤 _ (λ us. snd∗ 𝓤 (sem 𝓤 H A (lasts p.ended tt (s, tt) us)) (fact 𝓤 (n ≡ scanPlaces s)))
 
   -- ---- a turn's
   module _ (i : ℕ) (gi : i < 2 ^ 64) (s : Scan) (gs : Good s) (e : SortedEntry) (ge : Is T.the-row e (T′.lowered e ∷ [])) where
@@ -277,7 +277,7 @@ module _ {M : Type 1} (𝓤 : URA M) (H : Heap 𝓤) (A : Atoms 𝓤) (W : Given
   said₃ : (s : Scan) (a : DegreeSearch) → ent 𝓤 (ensured 𝓤 H A k.ended (k.clauses 𝓤 H A mem run) tt (s, (sorted, tt)) tt a) (fact 𝓤 (saysDegreeSearch a ≡ answerOf s sorted))
   said₃ s a = exE 𝓤 _ (λ us. snd∗ 𝓤 (sem 𝓤 H A (lasts k.ended tt (s, (sorted, tt)) us)) (fact 𝓤 (saysDegreeSearch a ≡ answerOf s sorted)))
 
-  exits : (s : Scan) → Begins s → (a : DegreeSearch) (u : Val) → Is E.the-row a (u ∷ []) → saysDegreeSearch a ≡ answerOf (scanned s ys (placesOf s)) sorted → ent 𝓤 (⋆ 𝓤 H A (‵ (flft κ q) ∷ ‵ (flft κ₁ q₁) ∷ [])) (Post u)
+  exits : (s : Scan) → Begins s → (a : DegreeSearch) (u : Val) → Is E.the-row a (u ∷ []) → saysDegreeSearch a ≡ answerOf (scanned s ys (scanPlaces s)) sorted → ent 𝓤 (⋆ 𝓤 H A (‵ (flft κ q) ∷ ‵ (flft κ₁ q₁) ∷ [])) (Post u)
   exits s st a u is e =
       qed W (‵ (flft κ q) ∷ ‵ (flft κ₁ q₁) ∷ []) ∵
       suffices ! _ (ends-at 𝓤 H A f.ended stayed (f.clauses 𝓤 H A mem run) W (((κ, (κ₁, tt)), (q, (q₁, tt)), tt, args, vals), tt) u a (tt, (tt, (tt, (tt, (tt, (tt, (tt, (tt, tt)))))))) (tt, (tt, (tt, (tt, (tt, (tt, (tt, (tt, tt))))))))) $
@@ -330,7 +330,7 @@ module _ {M : Type 1} (𝓤 : URA M) (H : Heap 𝓤) (A : Atoms 𝓤) (W : Given
     abbrev Counted : Scan → ℕ → List (Item 𝓤) → List (Item 𝓤)
     Counted s n Γ = ‵ (fat fullShare word l₁₀ 0 (vint w64 n)) ∷ ‵ (fdies word l₁₀) ∷ Held s Γ
 
-    module _ (s : Scan) (st : Begins s) (n : ℕ) (e : n ≡ placesOf s) where
+    module _ (s : Scan) (st : Begins s) (n : ℕ) (e : n ≡ scanPlaces s) where
       within : n ≤ length ys
       within = let m = steps-in (sc .count) items ys (tg .0) s st in omega (arith, e, m)
 
@@ -413,7 +413,7 @@ module _ {M : Type 1} (𝓤 : URA M) (H : Heap 𝓤) (A : Atoms 𝓤) (W : Given
           move ! (32 ∷ 33 ∷ []) $ free1 ! $ move ! (30 ∷ 31 ∷ []) $ free1 ! $ move ! (28 ∷ 29 ∷ []) $ free1 ! $ move ! (26 ∷ 27 ∷ []) $ free1 ! $ move ! (24 ∷ 25 ∷ []) $ free1 ! $ move ! (22 ∷ 23 ∷ []) $ free1 ! $ move ! (20 ∷ 21 ∷ []) $ free1 ! $ move ! (18 ∷ 19 ∷ []) $ free1 ! $ move ! (16 ∷ 17 ∷ []) $ free1 ! $ move ! (14 ∷ 15 ∷ []) $ free1 ! $ move ! (12 ∷ 13 ∷ []) $ free1 ! $ move ! (10 ∷ 11 ∷ []) $ free1 ! $ move ! (8 ∷ 9 ∷ []) $ free1 ! $ move ! (6 ∷ 7 ∷ []) $ free1 ! $ move ! (4 ∷ 5 ∷ []) $ free1 ! $ move ! (2 ∷ 3 ∷ []) $ free1 ! $ free1 ! $ free0 ! $ keep ! (0 ∷ 1 ∷ []) $ by ! (exits s st a u is w)))))
         where
           last : Scan
-          last = at (placesOf s)
+          last = at (scanPlaces s)
 
           gr : Good last
           gr = subst (λ (x : ℕ). Good (at x)) (z ∙ e) (i .1 .1)
@@ -443,7 +443,7 @@ module _ {M : Type 1} (𝓤 : URA M) (H : Heap 𝓤) (A : Atoms 𝓤) (W : Given
         use0 W (raw (Places 𝓤 H A mem run .pre (to₂ s))) (lent₂ s gs) $
         calls-at ! (fmOf 𝓤 H (W .laws) 𝓣) (Places 𝓤 H A mem run) known₂ (to₂ s) (and-then ! (load ! (from ! (stop !)) (look ! 15 refl)) (no-more !)) (λ v.
         use1 W (later (some (λ (n : ℕ). (‵ ftrue ⊛ ‵ (usize .own n (v ∷ []))) ⊛ raw (ensured 𝓤 H A p.ended (p.clauses 𝓤 H A mem run) tt (s, tt) tt n)))) (id⊢ 𝓤 _) $ await ! tt $ pick ! (λ n.
-        split ! $ move ! (1 ∷ []) $ use1 W (raw (fact 𝓤 (n ≡ placesOf s))) (said₂ s n) $ heard ! (n ≡ placesOf s) (λ e. split ! $ drop ! $
+        split ! $ move ! (1 ∷ []) $ use1 W (raw (fact 𝓤 (n ≡ scanPlaces s))) (said₂ s n) $ heard ! (n ≡ scanPlaces s) (λ e. split ! $ drop ! $
         peeks ! usize (Is usize) (shows 𝓤 H A usize) n (v ∷ []) (λ is.
         land ! (from ! (stop !)) (init ! 13 refl (uint-lawful 𝓤 H A W w64 .typed n (v ∷ []) is .0)) $
         rewrite ! 13 (λ (y : Val). ‵ (fat fullShare word l₁₀ 0 y)) (ap only (uint-tells w64 n (v ∷ []) is)) refl $ drop ! $ by ! (loop s st n e gs)))))
