@@ -55,7 +55,7 @@ pub fn asked<T>(call: impl FnOnce() -> T) -> Option<T> {
 fn judged<T: PartialEq>(ruled: Answer<T>, outside: bool, old: T, rust: impl FnOnce() -> T) -> Said<T> {
     match ruled {
         Err(11) => match caught(rust) {
-            None => Said::refused(Who::Rust, 11, 0, old),
+            None => Said::refused(Who::Panics, 11, 0, old),
             Some(_) => Said::fault(old),
         },
         Err(number) => Said::refused(Who::Rules, number, 0, old),
