@@ -41,6 +41,13 @@ pub enum Who {
     Rules,
 }
 
+impl Who {
+    /// Whose an answer is that is made of several: the rules' where one of them is, and where there is none.
+    pub fn of_all(parts: Vec<Who>) -> Who {
+        parts.into_iter().max().unwrap_or(Who::Rules)
+    }
+}
+
 /// What a call should answer, and leave behind.
 #[derive(Clone, Debug)]
 pub struct Said<T> {
