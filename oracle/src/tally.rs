@@ -35,7 +35,8 @@ pub enum Who {
     Rust,
     /// The second E and L, and the Rust's own code on top of them.
     Second,
-    /// Document 01's rules, where the Rust was asked and panicked, as it must: exact numbers say that it overflows, or a row of docs/DIFFERENCES.md says it.
+    /// Document 01's rules, where the Rust was asked and panicked, as it must: exact numbers say that it overflows or divides by 0, or a row of
+    /// docs/DIFFERENCES.md says it.
     Panics,
     /// Document 01's rules, where the Rust has no such answer.
     Rules,
