@@ -5,14 +5,47 @@
 
 DATA is a type of values, known by its form (`is_data`); any other premise is a fault. What is asked of a result, `says r ≡ s` or each part of FACT,
 must be what the contract ensures, with the line's variables replaced by terms of what goes in; and what is equated must be the result and all that
-a `&mut` holds after the call. Terms are compared as they are written, but for module names, quotes, the abbreviations of the line's own file and
-those that stand for a relation in the crate's specs."""
+a `&mut` holds after the call. Terms are compared as they are written, but for quotes, the abbreviations of the line's own file and those that stand for a
+relation in the crate's specs; a name is the same where both files import it from one place, under whatever name of its module."""
 import re
 
 TABLES = {"ItemTable": "itemTable", "ListTable": "listTable"}  # records of columns, and what makes them: equal where their columns are
 VALUES = {"ℕ", "ℤ", "Float", "Bool", "Entry", *TABLES}  # and each struct and enum of the sources; lists, answers and functions of these
 ONE = "abbrev pub One : {A B : Type 0} → (A → B) → B → Type 0\nOne {A} {B} says s = (x y : A) → says x ≡ s → says y ≡ s → x ≡ y\n"
+RESULT = "the result"  # what a contract calls `r`, or otherwise
 IMPORTED = re.compile(r"^use Rattle\.base\.specs\.Said\.\{(?:[^}]*, )?One[,}]", re.M)
+
+
+# ---- names, and what a file takes them from
+class Name(str):
+    """A word without its module, and the places that it is imported from: none for what is bound or declared beside it, more than one for the same thing handed on."""
+
+    places = frozenset()
+
+
+def is_same(name, other):
+    """Whether two words are one name: from one place, or both from none."""
+    places, others = (getattr(word, "places", frozenset()) for word in (name, other))
+    return name == other and (places == others or not places.isdisjoint(others))
+
+
+def imports(text):
+    """Where a file imports names from: the places of each, and the module that each name of a module stands for."""
+    names, modules = {}, {}
+    for path, listed, alias in re.findall(r"^(?:ghost |pub |unfoldable )*use ([^\s{};]+?)(?:\.\{([^}]*)\}| as (\S+?))?;?$", text, re.M):
+        path = re.sub(r"^(Rattle·\w+)·\w+", r"\1", path)
+        modules |= {alias: path} if alias else {}
+        for name in re.findall(r"[^\s,]+", listed):
+            names.setdefault(name.strip("_"), set()).add(f"{path}.{name}")
+            modules[name] = f"{path}.{name}"
+    return names, modules
+
+
+def named(word, names, modules):
+    found = re.fullmatch(r"([A-Z]\w*)\.((?:[A-Z]\w*\.)*(\w.*))", word)
+    name = Name(found[3] if found else word)
+    name.places = frozenset([f"{modules.get(found[1], found[1])}.{found[2]}"] if found else names.get(word, ()))
+    return name
 
 
 # ---- terms: a word, or a tuple of terms
@@ -20,8 +53,8 @@ def closed(parts):
     return parts[0] if len(parts) == 1 else tuple(parts)
 
 
-def parse(text):
-    """A text by its parentheses; a group in braces begins with one."""
+def parse(text, known=({}, {})):
+    """A text by its parentheses, in a file with these imports; a group in braces begins with one."""
     groups = [[]]
     for word in re.findall(r"[(){};,]|[^\s(){};,]+", re.sub(r"[«»]|--[^\n]*", "", text)):
         if word in "({":
@@ -30,7 +63,7 @@ def parse(text):
             group = groups.pop()
             groups[-1].append(closed(group))
         else:
-            groups[-1].append(re.sub(r"^(?:[A-Z]\w*\.)+(?=\w)", "", word))
+            groups[-1].append(named(word, *known))
     return closed(groups[0])
 
 
@@ -72,7 +105,7 @@ def by_columns(term, table):
 def abbreviations(text, kind=""):
     """Those of a file that have one equation with plain parameters, and a type that ends so."""
     found = re.findall(rf"^( *)abbrev (?:pub )?(\S+) :[^\n]*{kind}\n\1\2((?: \w+)*) =([^\n]*(?:\n\1 +[^\n]*)*)(?=\n(?!\1\2\s)|\Z)", text, re.M)
-    return {name: (parameters.split(), parse(body)) for _, name, parameters, body in found}
+    return {name: (parameters.split(), parse(body, imports(text))) for _, name, parameters, body in found}
 
 
 def unfolded(term, meant):
@@ -110,7 +143,7 @@ def modules_around(text, at):
         if begins < depth and not re.match(r" *(?:--|$)", lines[number]):
             depth = begins
             found += re.findall(r"\A *(?:pub )?module \S+(.*?)\bwhere\b", "\n".join(lines[number:]), re.S)
-    return [parse(parameters) for parameters in found if parameters.strip()]
+    return [parse(parameters, imports(text)) for parameters in found if parameters.strip()]
 
 
 class Line:
@@ -120,7 +153,7 @@ class Line:
     def __init__(self, text, at, statement, types, meant):
         self.inputs, self.results, self.facts, self.fault = set(), set(), [], None
         meant = meant | abbreviations(text)
-        *premises, conclusion = split(parse(statement), "→")
+        *premises, conclusion = split(parse(statement, imports(text)), "→")
         asked, tables = [], set()
         for premise in [*modules_around(text, at), *premises]:
             groups = binders(premise)
@@ -172,15 +205,20 @@ class Line:
 
 
 # ---- a line against a contract
-def ensured(contract, meant):
-    """What a contract says, each fact by its sides."""
-    return [split(factor, "≡") for said in re.findall(r"⌜(.*?)⌝", contract, re.S) for factor in factors(unfolded(parse(said), meant))]
+def ensured(contract, text, meant):
+    """What a contract of a file says, each fact by its sides, whatever it calls the result."""
+    facts, called = [], {}
+    for name, said in re.findall(r"\bensures \{ λ (\w+)\.|⌜(.*?)⌝", contract, re.S):
+        called = {name: RESULT} if name else called
+        if said:
+            facts += [split(factor, "≡") for factor in factors(unfolded(replaced(parse(said, imports(text)), called), meant))]
+    return facts
 
 
 def outputs(term):
-    """The results that a term of a contract is: `r`, what a `&mut` holds after the call, a record of such; else none."""
-    if term == "r":
-        return {"r"}
+    """The results that a term of a contract is: the result, what a `&mut` holds after the call, a record of such; else none."""
+    if term == RESULT:
+        return {RESULT}
     if not isinstance(term, tuple):
         return set()
     if term[0] == "now" and term[1][1:] == (".exit",):
@@ -192,10 +230,10 @@ def outputs(term):
 def matches(pattern, term, line, bound):
     """Whether a term of a contract is a line's term with its variables replaced; `bound` says by what, and grows."""
     if isinstance(pattern, str) and pattern in line.inputs | line.results:
-        fits = outputs(term) if pattern in line.results else not words(term) & {"r", ".exit"}
+        fits = outputs(term) if pattern in line.results else not words(term) & {RESULT, ".exit"}
         return bool(fits) and bound.setdefault(pattern, term) == term
     if isinstance(pattern, str) or isinstance(term, str):
-        return pattern == term
+        return is_same(pattern, term)
     return len(pattern) == len(term) and all(matches(*pair, line, bound) for pair in zip(pattern, term))
 
 

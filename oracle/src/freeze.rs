@@ -46,7 +46,8 @@ impl List {
         };
         let name = call.split(' ').next().unwrap_or_default();
         let fields = [name, before, &answer, more].map(str::trim).into_iter().filter(|part| !part.is_empty()).collect::<Vec<&str>>().join(" ");
-        let whose = if fields.split(' ').any(|field| ONLY_RULES.contains(&field)) { Who::Rules } else { said.who };
+        let ruled = said.who >= Who::Panics || fields.split(' ').any(|field| ONLY_RULES.contains(&field));
+        let whose = if ruled { Who::Rules } else { said.who };
         self.questions.push(format!("{} {call}", who(whose)));
         self.answers.push(fields);
         self.said.push((whose, code));
@@ -57,7 +58,7 @@ pub fn who(who: Who) -> &'static str {
     match who {
         Who::Rust => "rust",
         Who::Second => "second",
-        Who::Rules => "rules",
+        Who::Panics | Who::Rules => "rules",
     }
 }
 

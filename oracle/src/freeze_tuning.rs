@@ -96,18 +96,19 @@ fn root_of(m: Mapping) -> Root {
     Root { reference: m.reference, hz: m.pitch(), offset: m.offset }
 }
 
-/// The pitches of a run, beside what the single calls say.
+/// The pitches of a run, beside what the single calls say: by the rules where one of these is.
 fn run(list: &mut List, b: &Built, m: Mapping, map: &[i32], kbm: &Kbm, first: i32, keys: usize) {
-    let (mut hz, mut numbers, mut who) = ([OLD_HZ; MAPPED], [OLD_NUMBER; MAPPED], Who::Rules);
+    let (mut hz, mut numbers, mut whose) = ([OLD_HZ; MAPPED], [OLD_NUMBER; MAPPED], Vec::new());
     let code = if keys > MAPPED { Code::refusal(12, 0) } else { Code::ACCEPTED };
     for k in (0..keys).filter(|_| code == Code::ACCEPTED) {
         let said = i32::try_from(i64::from(first) + k as i64).map_or(Said::refused(Who::Rules, 11, 0, Float::Untouched), |key| tuning::maybe_pitch(b, m, map, kbm, key));
         numbers[k] = said.code.number() as u32;
+        whose.push(said.who);
         if let Float::Is(bits) = said.value {
-            (hz[k], who) = (f64::from_bits(bits), Who::Second);
+            hz[k] = f64::from_bits(bits);
         }
     }
-    listed_run(list, b, m, map, first, keys, Said { who, code, value: () }, hz, numbers);
+    listed_run(list, b, m, map, first, keys, Said { who: Who::of_all(whose), code, value: () }, hz, numbers);
 }
 
 fn listed_run(list: &mut List, b: &Built, m: Mapping, map: &[i32], first: i32, keys: usize, said: Said<()>, hz: [f64; MAPPED], numbers: [u32; MAPPED]) {

@@ -21,7 +21,7 @@ pub fn said(text: &[u8], room: usize) -> Said<(Mapping, Vec<i32>)> {
     match (ruled, rust) {
         (Ok((mapping, entries)), Some(Ok(same))) if (mapping, &entries) == (same.0, &same.1) => gives(Who::Rust, Code::ACCEPTED, mapping, &entries),
         (Err((1, line)), Some(Err((1, 0)))) => gives(Who::Rust, Code::refusal(1, line), OLD_MAPPING, &[]),
-        (Err((11, line)), None) => gives(Who::Rust, Code::refusal(11, line), OLD_MAPPING, &[]),
+        (Err((11, line)), None) => gives(Who::Panics, Code::refusal(11, line), OLD_MAPPING, &[]),
         (Err((number @ (9 | 10 | 12), detail)), Some(rust)) if may_go_on(number, detail, &rust) => gives(Who::Rules, Code::refusal(number, detail), OLD_MAPPING, &[]),
         // no room at a line before the one at which the Rust panics cannot be: entries come after the keys
         (Err((number, detail)), Some(Err(same))) if (number, detail) == same => gives(Who::Rust, Code::refusal(number, detail), OLD_MAPPING, &[]),

@@ -16,8 +16,7 @@ pub fn degree(m: Mapping, entries: &[i32], key: i32) -> Said<i32> {
     let theirs = caught(|| rust_kbm::of(m, entries).scale_degree_of(PianoKey::from_midi_number(key)));
     let who = match (theirs, rules::overflows(m, entries, key), ruled) {
         (Some(theirs), false, ruled) if theirs == ruled.ok() && !matches!(ruled, Err((11, _))) => Who::Rust,
-        (None, true, Err((11, 0))) => Who::Rust,
-        (None, true, Ok(_)) => Who::Rules,
+        (None, true, Err((11, 0)) | Ok(_)) => Who::Panics,
         _ => return Said::fault(ffi::OLD_I32),
     };
     match ruled {

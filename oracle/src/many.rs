@@ -69,9 +69,9 @@ pub fn many(minutes: u64, seed: u64) -> ExitCode {
     });
     let all = work.all.into_inner().unwrap();
     all.print();
-    let [rust, second, rules] = all.cases();
+    let [rust, second, panics, rules] = all.cases();
     let (rounds, seconds) = (work.rounds.into_inner(), began.elapsed().as_secs());
-    println!("many: {} cases in {rounds} rounds from seed {seed} on: {rust} the Rust's own, {second} on the second E and L, {rules} by the rules; {seconds} s on {threads} threads", rust + second + rules);
+    println!("many: {} cases in {rounds} rounds from seed {seed} on: {rust} the Rust's own, {second} on the second E and L, {panics} in which it panics, {rules} by the rules; {seconds} s on {threads} threads", rust + second + panics + rules);
     let verdict = all.verdict();
     if work.over.into_inner() { ExitCode::FAILURE } else { verdict }
 }

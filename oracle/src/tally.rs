@@ -28,15 +28,25 @@ impl Code {
     }
 }
 
-/// Who says what a call should answer.
-#[derive(Clone, Copy, Debug, Eq, PartialEq)]
+/// Who says what a call should answer; the later, the less of it is the Rust's.
+#[derive(Clone, Copy, Debug, Eq, Ord, PartialEq, PartialOrd)]
 pub enum Who {
     /// The Rust as it is.
     Rust,
     /// The second E and L, and the Rust's own code on top of them.
     Second,
+    /// Document 01's rules, where the Rust was asked and panicked, as it must: exact numbers say that it overflows or divides by 0, or a row of
+    /// docs/DIFFERENCES.md says it.
+    Panics,
     /// Document 01's rules, where the Rust has no such answer.
     Rules,
+}
+
+impl Who {
+    /// Whose an answer is that is made of several: the rules' where one of them is, and where there is none.
+    pub fn of_all(parts: Vec<Who>) -> Who {
+        parts.into_iter().max().unwrap_or(Who::Rules)
+    }
 }
 
 /// What a call should answer, and leave behind.
@@ -56,11 +66,11 @@ impl<T> Said<T> {
         Said { who, code: Code::refusal(number, detail), value }
     }
 
-    /// The Rust answers, or panics exactly where `overflows` says so, in exact numbers: there it is this refusal.
+    /// The Rust answers, or panics exactly where `overflows` says so, in exact numbers: there it is this refusal, by the rules.
     pub fn unless_panic(answer: Option<T>, overflows: bool, number: u64, old: T) -> Said<T> {
         match (answer, overflows) {
             (Some(value), false) => Said::gives(Who::Rust, value),
-            (None, true) => Said::refused(Who::Rust, number, 0, old),
+            (None, true) => Said::refused(Who::Panics, number, 0, old),
             (Some(value), true) => Said::fault(value),
             (None, false) => Said::fault(old),
         }
@@ -95,7 +105,7 @@ impl Report {
     }
 
     /// Compares one function: `cases` calls the tally once for each input. The refusals met must be exactly `numbers`, and the Rust or
-    /// the second E and L must have answered some.
+    /// the second E and L must have answered some: panics alone are not enough.
     pub fn function(&mut self, name: &str, numbers: &[u64], cases: impl FnOnce(&mut Tally)) {
         self.tried(name, numbers, false, cases);
     }
@@ -107,7 +117,7 @@ impl Report {
     }
 
     fn tried(&mut self, name: &str, numbers: &[u64], ruled: bool, cases: impl FnOnce(&mut Tally)) {
-        let mut tally = Tally { name: name.to_string(), by: [0; 3], differences: 0, met: BTreeMap::new(), unlike: BTreeSet::new() };
+        let mut tally = Tally { name: name.to_string(), by: [0; 4], differences: 0, met: BTreeMap::new(), unlike: BTreeSet::new() };
         cases(&mut tally);
         let line = Line { tally, numbers: numbers.iter().copied().collect(), ruled };
         if self.shown {
@@ -130,9 +140,9 @@ impl Report {
         self.lines.iter().map(|line| line.tally.differences).sum()
     }
 
-    /// Cases: the Rust's own answers, those on the second E and L, those by the rules alone.
-    pub fn cases(&self) -> [u64; 3] {
-        [0, 1, 2].map(|who| self.lines.iter().map(|line| line.tally.by[who]).sum())
+    /// Cases: the Rust's own answers, those on the second E and L, those in which the Rust panics, those by the rules alone.
+    pub fn cases(&self) -> [u64; 4] {
+        [0, 1, 2, 3].map(|who| self.lines.iter().map(|line| line.tally.by[who]).sum())
     }
 
     /// Each function with the refusals that the Rust does not give there: by the rules alone, or where it panics.
@@ -161,8 +171,8 @@ impl Report {
 }
 
 fn heading() {
-    println!("cases: of them the Rust's own answers, those on the second E and L, and those by the rules alone; then refusals met");
-    println!("{:<26} {:>9} {:>9} {:>9} {:>9} {:>6}  {}", "function", "cases", "rust", "second", "rules", "differ", "NUMBER:times");
+    println!("cases: of them the Rust's own answers, those on the second E and L, those in which the Rust panics, and those by the rules alone; then refusals met");
+    println!("{:<26} {:>9} {:>9} {:>9} {:>9} {:>9} {:>6}  {}", "function", "cases", "rust", "second", "panics", "rules", "differ", "NUMBER:times");
 }
 
 /// What was compared of one function, and the refusals that it has.
@@ -176,12 +186,13 @@ impl Line {
     fn print(&self) {
         let Tally { name, by, differences, met, .. } = &self.tally;
         let numbers: Vec<String> = met.iter().map(|(number, times)| format!("{number}:{times}")).collect();
-        println!("{:<26} {:>9} {:>9} {:>9} {:>9} {:>6}  {}", name, by.iter().sum::<u64>(), by[0], by[1], by[2], differences, numbers.join(" "));
+        let [rust, second, panics, rules] = by;
+        println!("{:<26} {:>9} {:>9} {:>9} {:>9} {:>9} {:>6}  {}", name, by.iter().sum::<u64>(), rust, second, panics, rules, differences, numbers.join(" "));
     }
 
-    /// What its cases lack.
+    /// What its cases lack. A panic of the Rust is no answer.
     fn faults(&self) -> Vec<String> {
-        let (name, [rust, second, rules]) = (&self.tally.name, self.tally.by);
+        let (name, [rust, second, _, rules]) = (&self.tally.name, self.tally.by);
         let mut found = Vec::new();
         if self.ruled && rules == 0 {
             found.push(format!("{name}: no case"));
@@ -198,7 +209,7 @@ impl Line {
 
 pub struct Tally {
     name: String,
-    by: [u64; 3],
+    by: [u64; 4],
     differences: u64,
     met: BTreeMap<u64, u64>,
     unlike: BTreeSet<u64>,
@@ -221,7 +232,7 @@ impl Tally {
         self.by[who as usize] += 1;
         if code != Code::ACCEPTED {
             *self.met.entry(code.number()).or_default() += 1;
-            if who == Who::Rules || OURS.contains(&code.number()) {
+            if who >= Who::Panics || OURS.contains(&code.number()) {
                 self.unlike.insert(code.number());
             }
         }
@@ -242,7 +253,7 @@ impl Tally {
     }
 
     fn add(&mut self, other: &Tally) {
-        (0..3).for_each(|who| self.by[who] += other.by[who]);
+        (0..4).for_each(|who| self.by[who] += other.by[who]);
         self.differences += other.differences;
         self.unlike.extend(&other.unlike);
         other.met.iter().for_each(|(&number, times)| *self.met.entry(number).or_default() += times);
@@ -253,7 +264,7 @@ thread_local! {
     static QUIET: Cell<bool> = const { Cell::new(false) };
 }
 
-/// A panic of the Rust is an answer, and says nothing; one of the comparison is a fault, and says where.
+/// A panic of the Rust is expected, and says nothing; one of the comparison is a fault, and says where.
 pub fn hear_own_panics() {
     let loud = std::panic::take_hook();
     std::panic::set_hook(Box::new(move |info| {

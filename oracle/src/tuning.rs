@@ -55,7 +55,7 @@ pub fn asked<T>(call: impl FnOnce() -> T) -> Option<T> {
 fn judged<T: PartialEq>(ruled: Answer<T>, outside: bool, old: T, rust: impl FnOnce() -> T) -> Said<T> {
     match ruled {
         Err(11) => match caught(rust) {
-            None => Said::refused(Who::Rust, 11, 0, old),
+            None => Said::refused(Who::Panics, 11, 0, old),
             Some(_) => Said::fault(old),
         },
         Err(number) => Said::refused(Who::Rules, number, 0, old),
@@ -471,16 +471,17 @@ fn runs(all: &mut Report) {
                 tally.same((keys, places), (code, (pitches, numbers.clone())), Said::refused(Who::Rules, 12, 0, (old, vec![OLD_U32; numbers.len()])));
                 return;
             }
-            let (mut said, mut refused, mut who) = (old, vec![OLD_U32; numbers.len()], Who::Rules);
+            let (mut said, mut refused, mut whose) = (old, vec![OLD_U32; numbers.len()], Vec::new());
             for k in 0..keys as usize {
                 let key = i64::from(first) + k as i64;
                 let one = i32::try_from(key).map_or(Said::refused(Who::Rules, 11, 0, Float::Untouched), |key| maybe_pitch(b, m, &map, &kbm, key));
                 refused[k] = one.code.number() as u32;
+                whose.push(one.who);
                 if let Float::Is(bits) = one.value {
-                    (said[k], who) = (bits, Who::Second);
+                    said[k] = bits;
                 }
             }
-            tally.same((m, first, keys), (code, (pitches, numbers)), Said::gives(who, (said, refused)));
+            tally.same((m, first, keys), (code, (pitches, numbers)), Said::gives(Who::of_all(whose), (said, refused)));
         });
         // tables that cannot be used, before a slice that is too short
         for ((c, count), part) in bad_tables() {
