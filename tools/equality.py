@@ -40,9 +40,9 @@ def imports(text):
     for path, listed, alias in re.findall(r"^(?:ghost |pub |unfoldable )*use ([^\s{};]+?)(?:\.\{([^}]*)\}| as (\S+?))?;?$", text, re.M):
         path = re.sub(r"^(Rattle·\w+)·\w+", r"\1", path)
         modules |= {alias: path} if alias else {}
-        for name in re.findall(r"[^\s,]+", listed):
-            names.setdefault(name.strip("_"), set()).add(f"{path}.{name}")
-            modules[name] = f"{path}.{name}"
+        for name, here in re.findall(r"([^\s,]+)(?: as ([^\s,]+))?", listed):
+            names.setdefault((here or name).strip("_"), set()).add(f"{path}.{name}")
+            modules[here or name] = f"{path}.{name}"
     return names, modules
 
 
