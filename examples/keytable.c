@@ -112,7 +112,7 @@ int main(int argc, char **argv) {
         return 1;
     int64_t keys = (int64_t)mapping.end - mapping.start;
     uint32_t shown = keys < 0 ? 0 : keys < MOST ? (uint32_t)keys : MOST;
-    if (!accepted(argv[2], telbijan_tuning_pitches_of(&scale, &mapping, mapping.start, shown, hz, numbers)))
+    if (!accepted(argv[2], mapping_lines, telbijan_tuning_pitches_of(&scale, &mapping, mapping.start, shown, hz, numbers)))
         return 1;
     printf("key degree Hz cents\n");
     for (uint32_t k = 0; k < shown; k++)

@@ -635,7 +635,7 @@ static inline telbijan_refusal telbijan_tuning_find_by_pitch_sorted(const telbij
     return telbijan_refusal_of(telbijan_find_by_pitch_sorted(TELBIJAN_COLUMNS(scale), scale->count, TELBIJAN_ROOT(root), hz, &found->number, &found->deviation));
 }
 
-/* The key that many degrees above the reference key, by telbijan_find_key_by_pitch: 10, 11, 18. Each key counts as one degree: no
+/* The key whose pitch comes nearest, the reference key plus that degree, by telbijan_find_key_by_pitch: 10, 11, 18. Each key counts as one degree: no
  * mapping plays a part, so that a key which a mapping leaves out or gives another degree may be found. */
 static inline telbijan_refusal telbijan_tuning_find_key_by_pitch(const telbijan_scale *scale, telbijan_root root, double hz, telbijan_found *found) {
     return telbijan_refusal_of(telbijan_find_key_by_pitch(TELBIJAN_COLUMNS(scale), scale->count, TELBIJAN_ROOT(root), hz, &found->number, &found->deviation));

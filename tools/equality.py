@@ -13,7 +13,7 @@ TABLES = {"ItemTable": "itemTable", "ListTable": "listTable"}  # records of colu
 VALUES = {"ℕ", "ℤ", "Float", "Bool", "Entry", *TABLES}  # and each struct and enum of the sources; lists, answers and functions of these
 ONE = "abbrev pub One : {A B : Type 0} → (A → B) → B → Type 0\nOne {A} {B} says s = (x y : A) → says x ≡ s → says y ≡ s → x ≡ y\n"
 RESULT = "the result"  # what a contract calls `r`, or otherwise
-IMPORTED = re.compile(r"^use Rattle\.base\.specs\.Said\.\{(?:[^}]*, )?One[,}]", re.M)
+ONE_OF = "Rattle.base.specs.Said.One"  # where it is imported from
 
 
 # ---- names, and what a file takes them from
@@ -23,10 +23,15 @@ class Name(str):
     places = frozenset()
 
 
-def is_same(name, other):
-    """Whether two words are one name: from one place, or both from none."""
-    places, others = (getattr(word, "places", frozenset()) for word in (name, other))
-    return name == other and (places == others or not places.isdisjoint(others))
+def places_of(word):
+    return getattr(word, "places", frozenset())
+
+
+def is_same(term, other):
+    """Whether two terms are one, name for name: two words are one name from one place, or both from none."""
+    if isinstance(term, tuple) and isinstance(other, tuple):
+        return len(term) == len(other) and all(map(is_same, term, other))
+    return term == other and (places_of(term) == places_of(other) or not places_of(term).isdisjoint(places_of(other)))
 
 
 def imports(text):
@@ -35,9 +40,9 @@ def imports(text):
     for path, listed, alias in re.findall(r"^(?:ghost |pub |unfoldable )*use ([^\s{};]+?)(?:\.\{([^}]*)\}| as (\S+?))?;?$", text, re.M):
         path = re.sub(r"^(Rattle·\w+)·\w+", r"\1", path)
         modules |= {alias: path} if alias else {}
-        for name in re.findall(r"[^\s,]+", listed):
-            names.setdefault(name.strip("_"), set()).add(f"{path}.{name}")
-            modules[name] = f"{path}.{name}"
+        for name, here in re.findall(r"([^\s,]+)(?: as ([^\s,]+))?", listed):
+            names.setdefault((here or name).strip("_"), set()).add(f"{path}.{name}")
+            modules[here or name] = f"{path}.{name}"
     return names, modules
 
 
@@ -102,10 +107,10 @@ def by_columns(term, table):
     return tuple(by_columns(each, table) for each in term) if isinstance(term, tuple) else term
 
 
-def abbreviations(text, kind=""):
-    """Those of a file that have one equation with plain parameters, and a type that ends so."""
+def abbreviations(text, kind="", folder=None):
+    """Those of a file that have one equation with plain parameters, and a type that ends so; and the folder that others import them from, if others do."""
     found = re.findall(rf"^( *)abbrev (?:pub )?(\S+) :[^\n]*{kind}\n\1\2((?: \w+)*) =([^\n]*(?:\n\1 +[^\n]*)*)(?=\n(?!\1\2\s)|\Z)", text, re.M)
-    return {name: (parameters.split(), parse(body, imports(text))) for _, name, parameters, body in found}
+    return {name: (parameters.split(), parse(body, imports(text)), folder) for _, name, parameters, body in found}
 
 
 def unfolded(term, meant):
@@ -113,8 +118,10 @@ def unfolded(term, meant):
     if not isinstance(term, tuple):
         return term
     term = tuple(unfolded(each, meant) for each in term)
-    parameters, body = meant.get(term[0], ((), None))
-    return unfolded(replaced(body, dict(zip(parameters, term[1:]))), meant) if body and len(parameters) == len(term) - 1 else term
+    parameters, body, folder = meant.get(term[0], ((), None, None))
+    if not body or len(parameters) != len(term) - 1 or not all(folder and place.startswith(f"{folder}.") for place in places_of(term[0])):
+        return term
+    return unfolded(replaced(body, dict(zip(parameters, term[1:]))), meant)
 
 
 # ---- a line
@@ -171,16 +178,16 @@ class Line:
             for premise in asked:
                 self.wrong(f"asks for {shown(premise)}")
             for end in ends:
-                self.one(end, bool(IMPORTED.search(text)))
+                self.one(end)
         for table in tables:
             self.take_apart(table)
 
     def wrong(self, said):
         self.fault = self.fault or said
 
-    def one(self, end, imported):
+    def one(self, end):
         parts = [part for part in end if part[0] != "{"]
-        if not imported or len(parts) != 3 or parts[0] != "One":
+        if len(parts) != 3 or parts[0] != "One" or places_of(parts[0]) != {ONE_OF}:
             return self.wrong(f"ends in {shown(end)}, which is not the One of crates/base")
         result, says = f"result {len(self.facts)}", parts[1]
         self.results.add(result)
@@ -191,7 +198,7 @@ class Line:
         self.results, others = set(pairs), set(pairs.values())
         if len(pairs) != len(ends) or len(others) != len(ends) or self.results & others or not self.inputs >= self.results | others:
             return self.wrong("does not end by equating results with others")
-        if len(asked) != 2 or asked[1] != replaced(asked[0], pairs) or not words(asked[0]) >= self.results or words(asked[0]) & others:
+        if len(asked) != 2 or not is_same(asked[1], replaced(asked[0], pairs)) or not words(asked[0]) >= self.results or words(asked[0]) & others:
             return self.wrong(f"asks for {' and '.join(map(shown, asked))}: not the same fact of each result")
         self.inputs -= self.results | others
         self.facts = [split(factor, "≡") for factor in factors(asked[0])]
@@ -231,7 +238,7 @@ def matches(pattern, term, line, bound):
     """Whether a term of a contract is a line's term with its variables replaced; `bound` says by what, and grows."""
     if isinstance(pattern, str) and pattern in line.inputs | line.results:
         fits = outputs(term) if pattern in line.results else not words(term) & {RESULT, ".exit"}
-        return bool(fits) and bound.setdefault(pattern, term) == term
+        return bool(fits) and is_same(bound.setdefault(pattern, term), term)
     if isinstance(pattern, str) or isinstance(term, str):
         return is_same(pattern, term)
     return len(pattern) == len(term) and all(matches(*pair, line, bound) for pair in zip(pattern, term))

@@ -2,8 +2,8 @@
 // and writes the answers, a line for each; its file `stdout` has the frozen ones, and `rt` compares byte for byte.
 //
 // A question is `WHO CALL ARGUMENTS`, its fields parted by single spaces: WHO is `rust` where the answer is the Rust's own, `second` where
-// it stands on the second E and L, `rules` where the Rust is not asked. A float is 16 hex digits of its bits, or `nan`; bytes
-// are their hex digits, or `-` for none. An answer is the name of the call and the fields of its answer (the crate `said`). A line that is
+// it stands on the second E and L, `rules` where the Rust has no such answer. A float is 16 hex digits of its bits, or `nan`; bytes
+// are their hex digits, or `-` for none. An answer is the name of the call and the fields of its answer (the crate `say`). A line that is
 // no question of a call that the program has is answered by `?`, which no frozen answer is.
 pub mod columns;
 pub mod given;
