@@ -90,11 +90,11 @@ pub fn kbm_root(root: Root) -> KbmRoot {
     KbmRoot { ref_key: PianoKey::from_midi_number(root.reference), ref_pitch: Pitch::from_hz(root.hz), root_offset: root.offset }
 }
 
-fn degree_parts(a: Approximation<i32>) -> (i32, f64) {
+pub fn degree_parts(a: Approximation<i32>) -> (i32, f64) {
     (a.approx_value, a.deviation.as_float())
 }
 
-fn key_parts(a: Approximation<PianoKey>) -> (i32, f64) {
+pub fn key_parts(a: Approximation<PianoKey>) -> (i32, f64) {
     (a.approx_value.midi_number(), a.deviation.as_float())
 }
 

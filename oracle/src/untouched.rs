@@ -1,11 +1,16 @@
 //! The Rust with its own exp2 and log2, beside the same calls on E and L: how many answers differ, and how far. Nothing is left out
 //! but what E, L or the rules refuse; the inputs are those of the comparison, but of the limits of nearest_fraction only eight.
 
-use crate::pitch::{self, ONES, One, TWOS, Two, ratio};
+use crate::ffi_tuning::Found;
 use crate::inputs::Random;
-use crate::tally::{Code, caught};
-use crate::{lent::Float, powers, rules_scl, rust_scl, scl_build, tuning};
+use crate::pitch::{self, ONES, One, TWOS, Two, ratio};
+use crate::tally::{Code, Said, caught};
+use crate::tuning::{self, degree_parts, key_parts};
+use crate::{lent::Float, powers, rules_scl, rust_scl, scl_build};
+use tune::key::PianoKey;
+use tune::pitch::Pitch;
 use tune::powers::use_untouched;
+use tune::tuning::{Scale, Tuning};
 
 /// How far answers are apart: the most in absolute terms, relative to ours, and in units of the last place.
 struct Apart {
@@ -101,35 +106,64 @@ fn scales() {
     println!("SclBuilder::build: other places or wraparounds in {others} of {cases} lists; the line above is the ratios of the rest");
 }
 
-/// Relative pitches and searches in the comparison's scales, each scale built on its own side. Left out is what the rules refuse.
-fn tunings() {
-    let (mut pitches, mut deviations, mut cases, mut others) = (Apart::new(), Apart::new(), 0, 0);
-    let mut random = Random::new(57);
-    for b in tuning::scales().step_by(4) {
-        let theirs = untouched(|| rust_scl::pushes(&b.pushes).build_with_description("").unwrap());
-        for _ in 0..8 {
-            let degree = random.next() as i32 % 100 - 50;
-            let ours = tuning::relative(&b, degree);
-            if ours.code == Code::ACCEPTED {
-                pitches.add(bits(ours.value), untouched(|| theirs.relative_pitch_of(degree).as_float()));
-            }
-            let x = random.ratio(20);
-            let ours = tuning::find(&b, x);
-            if ours.code == Code::ACCEPTED {
-                cases += 1;
-                use_untouched(true);
-                let answer = caught(|| theirs.find_by_relative_pitch(ratio(x)));
-                use_untouched(false);
-                match answer {
-                    Some(found) if found.approx_value == ours.value.0 => deviations.add(bits(ours.value.1), found.deviation.as_float()),
-                    _ => others += 1,
-                }
-            }
+/// What searches answer: how far the deviations are apart where the degree or key is the same, and how often it is another.
+struct Searched {
+    apart: Apart,
+    cases: u64,
+    others: u64,
+}
+
+impl Searched {
+    fn add(&mut self, ours: Said<Found>, theirs: impl FnOnce() -> (i32, f64)) {
+        if ours.code != Code::ACCEPTED {
+            return;
+        }
+        self.cases += 1;
+        match untouched(|| caught(theirs)) {
+            Some((number, deviation)) if number == ours.value.0 => self.apart.add(bits(ours.value.1), deviation),
+            _ => self.others += 1,
         }
     }
-    pitches.print("relative_pitch_of");
-    deviations.print("find_by_relative_pitch");
-    println!("find_by_relative_pitch: another degree in {others} of {cases}; the line above is the deviations of the rest");
+
+    fn print(&self, name: &str, number: &str) {
+        self.apart.print(name);
+        println!("{name}: another {number} in {} of {}; the line above is the deviations of the rest", self.others, self.cases);
+    }
+}
+
+/// Pitches and searches in the comparison's scales, each scale built on its own side. Left out is what the rules refuse.
+fn tunings() {
+    let mut pitches = [(); 4].map(|()| Apart::new());
+    let mut searches = [(); 5].map(|()| Searched { apart: Apart::new(), cases: 0, others: 0 });
+    let mut random = Random::new(57);
+    for b in tuning::scales().step_by(4) {
+        let scl = &untouched(|| rust_scl::pushes(&b.pushes).build_with_description("").unwrap());
+        for _ in 0..8 {
+            let (degree, x, root) = (random.next() as i32 % 100 - 50, random.ratio(20), tuning::random_root(&mut random));
+            let (hz, tuned) = (root.hz * x, (scl, tuning::kbm_root(root)));
+            let mut pitch = |k: usize, ours: Said<Float>, theirs: &dyn Fn() -> f64| {
+                if ours.code == Code::ACCEPTED {
+                    pitches[k].add(bits(ours.value), untouched(theirs));
+                }
+            };
+            pitch(0, tuning::relative(&b, degree), &|| scl.relative_pitch_of(degree).as_float());
+            pitch(1, tuning::sorted_relative(&b, degree), &|| scl.sorted_relative_pitch_of(degree).as_float());
+            pitch(2, tuning::pitch(&b, root, degree), &|| Tuning::<i32>::pitch_of(&tuned, degree).as_hz());
+            pitch(3, tuning::sorted_pitch(&b, root, degree), &|| tuned.sorted_pitch_of(degree).as_hz());
+            searches[0].add(tuning::find(&b, x), || degree_parts(scl.find_by_relative_pitch(ratio(x))));
+            searches[1].add(tuning::find_sorted(&b, x), || degree_parts(scl.find_by_relative_pitch_sorted(ratio(x))));
+            searches[2].add(tuning::find_pitch(&b, root, hz), || degree_parts(Tuning::<i32>::find_by_pitch(&tuned, Pitch::from_hz(hz))));
+            searches[3].add(tuning::find_pitch_sorted(&b, root, hz), || degree_parts(tuned.find_by_pitch_sorted(Pitch::from_hz(hz))));
+            searches[4].add(tuning::find_key(&b, root, hz), || key_parts(Tuning::<PianoKey>::find_by_pitch(&tuned, Pitch::from_hz(hz))));
+        }
+    }
+    for (apart, name) in pitches.iter().zip(["relative_pitch_of", "sorted_relative_pitch_of", "pitch_of", "sorted_pitch_of"]) {
+        apart.print(name);
+    }
+    let names = ["find_by_relative_pitch", "..relative_pitch_sorted", "find_by_pitch", "find_by_pitch_sorted", "find_by_pitch, key"];
+    for (k, (searched, name)) in searches.iter().zip(names).enumerate() {
+        searched.print(name, if k == 4 { "key" } else { "degree" });
+    }
 }
 
 pub fn report() {
