@@ -1,3 +1,4 @@
+pub mod Stored
 pub mod Numbers
 pub mod Theorems
 pub mod Details
