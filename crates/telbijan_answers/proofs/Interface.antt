@@ -5,6 +5,7 @@ use Prim.Native.Nat.{ℕ, _≤_, _<_, _^_}
 use native.Mathlib.Omega.{arith}
 use Rattle.base.specs.Said.{Said, gives, refuses, refusal, Numbered}
 use Rattle.base.specs.declared.Refusal.{Refusal}
+use Rattle.base.proofs.Said.{no-value, same-refuses}
 use Rattle.telbijan_answers.specs.Interface.{code, result, kept, fieldOf, numberIn, detailIn}
 
 -- x is what a call answered, told what its contract says of it, and x′ what a match made of it
@@ -53,3 +54,16 @@ zero-accepted s n = (there s n, back s)
 
     back : {A : Type 0} (s : Said A) → (a : A) × (s ≡ gives a) → result s ≡ 0
     back s g = ap result (g .1)
+
+-- A REFUSED CALL: its result is not 0, and the refusal's number and detail are taken back from it
+pub refused-back : {A : Type 0} {s : Said A} {r n d : ℕ} → Numbered s → r ≡ result s → s ≡ refuses n d → d < 2 ^ 56 →
+    (r ≡ 0 → ⊥) × (numberIn r ≡ n) × (detailIn r ≡ d)
+refused-back {A} {s} {r} {n} {d} w told e h =
+    let q : r ≡ code n d = told ∙ ap result e in
+    let b = bounds s w e in
+    let back = number-back n d (omega (arith, b .1)) in
+    (λ z. omega (arith, b .0, back, ap numberIn (sym q ∙ z)), ap numberIn q ∙ back, ap detailIn q ∙ detail-back n d (omega (arith, b .1)) h)
+  where
+    bounds : (s : Said A) → Numbered s → s ≡ refuses n d → (1 ≤ n) × (n ≤ 18)
+    bounds s (Numbered.value a) e = no-value (sym e)
+    bounds s (Numbered.number low high) e = let w = same-refuses e in (omega (arith, low, w .0), omega (arith, high, w .0))

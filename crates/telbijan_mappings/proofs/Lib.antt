@@ -2,3 +2,4 @@ pub mod Stored
 pub mod Numbers
 pub mod Theorems
 pub mod Details
+pub mod Readings
