@@ -11,7 +11,7 @@ it from one place, under whatever name of its module. A contract is read with th
 import re
 
 # records of columns or of stored numbers, and what makes them: equal where these are
-TABLES = {"ItemTable": "itemTable", "ListTable": "listTable", "Kbm": "mappingWith"}
+TABLES = {"ItemTable": "itemTable", "ListTable": "listTable", "Kbm": "mappingWith", "SclRead": "readWith"}
 VALUES = {"ℕ", "ℤ", "Float", "Bool", "Entry", *TABLES}  # and each struct and enum of the sources; lists, answers and functions of these
 ONE = "abbrev pub One : {A B : Type 0} → (A → B) → B → Type 0\nOne {A} {B} says s = (x y : A) → says x ≡ s → says y ≡ s → x ≡ y\n"
 RESULT = "the result"  # what a contract calls `r`, or otherwise

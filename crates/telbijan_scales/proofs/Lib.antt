@@ -1,3 +1,4 @@
 pub mod Theorems
 pub mod Numbers
 pub mod Details
+pub mod Readings

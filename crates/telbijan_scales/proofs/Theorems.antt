@@ -19,6 +19,7 @@ use Rattle.scl_build.specs.Answers.{saysBuilder}
 use Rattle.scl_build.specs.Builder.{state, builderOf, afterNew, pushed, afterPush, pushedRatio, afterRatio, built, counted}
 use Rattle.scl_build.specs.declared.SclBuilderAnswer.{SclBuilderAnswer}
 use Rattle.scl_read.specs.Reader.{readOf, afterItems, afterSorted}
+use Rattle.scl_read.specs.declared.SclRead.{SclRead}
 use Rattle.writing.specs.Fitted.{textLength}
 use Rattle.scl_write.specs.Export.{exportOf}
 use Rattle.telbijan_answers.specs.Interface.{result, kept, fieldOf}
@@ -31,8 +32,15 @@ use Rattle.telbijan_scales.specs.Generators.{segmentWith, divisionsWith}
 pub item-as-ratio-one : (kind : ℕ) (cents : Float) (numer denom : ℕ) (ratio : Float) → One (λ r. r) (result (ratioOf (itemOf kind cents numer denom))) × One (λ r. r) (kept (ratioOf (itemOf kind cents numer denom)) ratio)
 item-as-ratio-one kind cents numer denom ratio = (one-result (result (ratioOf (itemOf kind cents numer denom))), one-result (kept (ratioOf (itemOf kind cents numer denom)) ratio))
 
-pub read-scl-one : (text : List ℕ) (items : ItemTable) (list : ListTable) (count start end : ℕ) → One (λ r. r) (result (readOf (roomOf items list) text)) × (One (λ r. r) (afterItems text items list) × (One (λ r. r) (afterSorted text items list) × (One (λ r. r) (kept (fieldOf (λ s. s .scl .count) (readOf (roomOf items list) text)) count) × (One (λ r. r) (kept (fieldOf (λ s. s .description .start) (readOf (roomOf items list) text)) start) × One (λ r. r) (kept (fieldOf (λ s. s .description .end) (readOf (roomOf items list) text)) end)))))
-read-scl-one text items list count start end = (one-result (result (readOf (roomOf items list) text)), (one-result (afterItems text items list), (one-result (afterSorted text items list), (one-result (kept (fieldOf (λ s. s .scl .count) (readOf (roomOf items list) text)) count), (one-result (kept (fieldOf (λ s. s .description .start) (readOf (roomOf items list) text)) start), one-result (kept (fieldOf (λ s. s .description .end) (readOf (roomOf items list) text)) end))))))
+pub read-scl-one : (text : List ℕ) (items : ItemTable) (list : ListTable) (old : SclRead) →
+    One (λ r. r) (result (readOf (roomOf items list) text)) × One (λ r. r) (afterItems text items list) × One (λ r. r) (afterSorted text items list)
+    × One (λ r. r) (kept (readOf (roomOf items list) text) old)
+read-scl-one text items list old = (
+  one-result (result (readOf (roomOf items list) text)),
+  one-result (afterItems text items list),
+  one-result (afterSorted text items list),
+  one-result (kept (readOf (roomOf items list) text) old),
+)
 
 pub new-scl-one : (items : ItemTable) (list : ListTable) (room : ℕ) → One (λ r. r) (result (builderOf items list)) × (One (λ r. r) (afterNew items list) × One (λ r. r) (kept (fieldOf (λ b. b .room) (builderOf items list)) room))
 new-scl-one items list room = (one-result (result (builderOf items list)), (one-result (afterNew items list), one-result (kept (fieldOf (λ b. b .room) (builderOf items list)) room)))

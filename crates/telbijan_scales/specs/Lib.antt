@@ -1,1 +1,2 @@
 pub mod Generators
+pub mod Calls

@@ -3,12 +3,10 @@ use harmonics::segment::Divisions;
 use harmonics::segment::SegmentType;
 use pitch::Ratio;
 ghost use mathlib.Core.Path.{_≡_};
-ghost use Rattle.scl.specs.Table.{itemTable};
-ghost use Rattle.sorted.specs.Lent.{listTable};
-ghost use Rattle.generate.specs.Generated.{countedOf, itemsLeft, listLeft};
 ghost use Rattle.harmonics.specs.Harmonics.{madeHarmonics};
 ghost use Rattle.rank2.specs.Rank2.{madeRank2};
-ghost use Rattle.telbijan_answers.specs.Interface.{result, kept};
+ghost use Rattle.telbijan_answers.specs.Lent.{itemsBefore, itemsAfter, listBefore, listAfter};
+ghost use Rattle.telbijan_scales.specs.Calls.{CreateScale};
 ghost use Rattle.telbijan_scales.specs.Generators.{segmentWith, divisionsWith};
 
 // Which segment.
@@ -53,10 +51,11 @@ pub extern "C" fn telbijan_create_harmonics_scale(
     wraps: &mut [i32],
     count: &mut u16,
 ) -> u64
-    ensures { λ r. ⌜ r ≡ result (countedOf (madeHarmonics (itemTable (now (kind .entry)) (now (cents .entry)) (now (numer .entry)) (now (denom .entry))) (listTable (now (place .entry)) (now (ratio .entry)) (now (wraps .entry))) (segmentWith otonal) start size (divisionsWith divided divisions))) ⌝ }
-    ensures { λ _. ⌜ itemTable (now (kind .exit)) (now (cents .exit)) (now (numer .exit)) (now (denom .exit)) ≡ itemsLeft (madeHarmonics (itemTable (now (kind .entry)) (now (cents .entry)) (now (numer .entry)) (now (denom .entry))) (listTable (now (place .entry)) (now (ratio .entry)) (now (wraps .entry))) (segmentWith otonal) start size (divisionsWith divided divisions)) (itemTable (now (kind .entry)) (now (cents .entry)) (now (numer .entry)) (now (denom .entry))) (listTable (now (place .entry)) (now (ratio .entry)) (now (wraps .entry))) ⌝ }
-    ensures { λ _. ⌜ listTable (now (place .exit)) (now (ratio .exit)) (now (wraps .exit)) ≡ listLeft (madeHarmonics (itemTable (now (kind .entry)) (now (cents .entry)) (now (numer .entry)) (now (denom .entry))) (listTable (now (place .entry)) (now (ratio .entry)) (now (wraps .entry))) (segmentWith otonal) start size (divisionsWith divided divisions)) (itemTable (now (kind .entry)) (now (cents .entry)) (now (numer .entry)) (now (denom .entry))) (listTable (now (place .entry)) (now (ratio .entry)) (now (wraps .entry))) ⌝ }
-    ensures { λ _. ⌜ now (count .exit) ≡ kept (countedOf (madeHarmonics (itemTable (now (kind .entry)) (now (cents .entry)) (now (numer .entry)) (now (denom .entry))) (listTable (now (place .entry)) (now (ratio .entry)) (now (wraps .entry))) (segmentWith otonal) start size (divisionsWith divided divisions))) (now (count .entry)) ⌝ }
+    ensures { λ r. ⌜ CreateScale
+        (madeHarmonics (itemsBefore kind cents numer denom) (listBefore place ratio wraps)
+        (segmentWith otonal) start size (divisionsWith divided divisions))
+        (itemsBefore kind cents numer denom) (listBefore place ratio wraps) (now (count .entry))
+        r (itemsAfter kind cents numer denom) (listAfter place ratio wraps) (now (count .exit)) ⌝ }
 {
     let segment = segment_of(otonal);
     let into = divisions_of(divided, divisions);
@@ -95,10 +94,10 @@ pub extern "C" fn telbijan_create_rank2_temperament_scale(
     wraps: &mut [i32],
     count: &mut u16,
 ) -> u64
-    ensures { λ r. ⌜ r ≡ result (countedOf (madeRank2 (itemTable (now (kind .entry)) (now (cents .entry)) (now (numer .entry)) (now (denom .entry))) (listTable (now (place .entry)) (now (ratio .entry)) (now (wraps .entry))) generator positive negative period)) ⌝ }
-    ensures { λ _. ⌜ itemTable (now (kind .exit)) (now (cents .exit)) (now (numer .exit)) (now (denom .exit)) ≡ itemsLeft (madeRank2 (itemTable (now (kind .entry)) (now (cents .entry)) (now (numer .entry)) (now (denom .entry))) (listTable (now (place .entry)) (now (ratio .entry)) (now (wraps .entry))) generator positive negative period) (itemTable (now (kind .entry)) (now (cents .entry)) (now (numer .entry)) (now (denom .entry))) (listTable (now (place .entry)) (now (ratio .entry)) (now (wraps .entry))) ⌝ }
-    ensures { λ _. ⌜ listTable (now (place .exit)) (now (ratio .exit)) (now (wraps .exit)) ≡ listLeft (madeRank2 (itemTable (now (kind .entry)) (now (cents .entry)) (now (numer .entry)) (now (denom .entry))) (listTable (now (place .entry)) (now (ratio .entry)) (now (wraps .entry))) generator positive negative period) (itemTable (now (kind .entry)) (now (cents .entry)) (now (numer .entry)) (now (denom .entry))) (listTable (now (place .entry)) (now (ratio .entry)) (now (wraps .entry))) ⌝ }
-    ensures { λ _. ⌜ now (count .exit) ≡ kept (countedOf (madeRank2 (itemTable (now (kind .entry)) (now (cents .entry)) (now (numer .entry)) (now (denom .entry))) (listTable (now (place .entry)) (now (ratio .entry)) (now (wraps .entry))) generator positive negative period)) (now (count .entry)) ⌝ }
+    ensures { λ r. ⌜ CreateScale
+        (madeRank2 (itemsBefore kind cents numer denom) (listBefore place ratio wraps) generator positive negative period)
+        (itemsBefore kind cents numer denom) (listBefore place ratio wraps) (now (count .entry))
+        r (itemsAfter kind cents numer denom) (listAfter place ratio wraps) (now (count .exit)) ⌝ }
 {
     let said = rank2::create_rank2_temperament_scale(
         Ratio(generator),

@@ -8,21 +8,16 @@ use scl_build::SclBuilderAnswer;
 use scl_read::SclReadAnswer;
 ghost use mathlib.Core.Path.{_≡_};
 ghost use mathlib.Core.Bool.{true};
-ghost use lib.ListN.{length};
-ghost use Rattle.base.specs.Tables.{after};
 ghost use Rattle.scl.specs.Items.{isUsable, ratioOf};
-ghost use Rattle.scl.specs.Table.{itemOf, itemTable};
+ghost use Rattle.scl.specs.Table.{itemOf};
 ghost use Rattle.scl.specs.declared.Denom.the-variants.{Given, Lacking};
 ghost use Rattle.scl.specs.declared.Item.the-variants.{Cents, Fraction};
-ghost use Rattle.sorted.specs.Lent.{listTable};
-ghost use Rattle.scl_tables.specs.Build.{afterList};
-ghost use Rattle.scl_tables.specs.Room.{roomOf};
 ghost use Rattle.scl_build.specs.Answers.{saysBuilder};
-ghost use Rattle.scl_build.specs.Builder.{state, builderOf, afterNew, pushed, afterPush, pushedRatio, afterRatio, built, counted, Comes};
-ghost use Rattle.scl_read.specs.Reader.{saysRead, readOf, afterItems, afterSorted};
-ghost use Rattle.writing.specs.Fitted.{textLength};
-ghost use Rattle.scl_write.specs.Export.{exportOf, NeverFull};
-ghost use Rattle.telbijan_answers.specs.Interface.{result, kept, fieldOf};
+ghost use Rattle.scl_read.specs.Reader.{saysRead};
+ghost use Rattle.telbijan_answers.specs.Interface.{result, kept};
+ghost use Rattle.telbijan_answers.specs.Calls.{Stored, StoredPart};
+ghost use Rattle.telbijan_answers.specs.Lent.{itemsBefore, itemsAfter, listBefore, listAfter};
+ghost use Rattle.telbijan_scales.specs.Calls.{readWith, ReadScl, NewScl, PushItem, PushRatio, BuildScl, ExportScl};
 
 // The ratio of an item, stored: 18 for an unknown kind, and where the ratio lies outside 2^-900..2^900; never for a usable item.
 #[no_mangle]
@@ -42,10 +37,8 @@ pub extern "C" fn telbijan_item_as_ratio(
 
 // Stores the count of a scale that was read, and where its description starts and ends.
 fn store_read(answer: SclReadAnswer, count: &mut u16, start: &mut usize, end: &mut usize) -> u64
-    ensures { λ r. ⌜ r ≡ result (saysRead answer) ⌝ }
-    ensures { λ _. ⌜ now (count .exit) ≡ kept (fieldOf (λ s. s .scl .count) (saysRead answer)) (now (count .entry)) ⌝ }
-    ensures { λ _. ⌜ now (start .exit) ≡ kept (fieldOf (λ s. s .description .start) (saysRead answer)) (now (start .entry)) ⌝ }
-    ensures { λ _. ⌜ now (end .exit) ≡ kept (fieldOf (λ s. s .description .end) (saysRead answer)) (now (end .entry)) ⌝ }
+    ensures { λ r. ⌜ Stored (saysRead answer) (readWith (now (count .entry)) (now (start .entry)) (now (end .entry)))
+        r (readWith (now (count .exit)) (now (start .exit)) (now (end .exit))) ⌝ }
 {
     match answer {
         SclReadAnswer::Is(read) => {
@@ -81,14 +74,10 @@ pub extern "C" fn telbijan_read_scl(
     start: &mut usize,
     end: &mut usize,
 ) -> u64
-    ensures { λ r. ⌜ r ≡ result (readOf (roomOf (itemTable (now (kind .entry)) (now (cents .entry)) (now (numer .entry)) (now (denom .entry))) (listTable (now (place .entry)) (now (ratio .entry)) (now (wraps .entry)))) (now (text .entry))) ⌝ }
-    ensures { λ _. ⌜ itemTable (now (kind .exit)) (now (cents .exit)) (now (numer .exit)) (now (denom .exit))
-        ≡ afterItems (now (text .entry)) (itemTable (now (kind .entry)) (now (cents .entry)) (now (numer .entry)) (now (denom .entry))) (listTable (now (place .entry)) (now (ratio .entry)) (now (wraps .entry))) ⌝ }
-    ensures { λ _. ⌜ listTable (now (place .exit)) (now (ratio .exit)) (now (wraps .exit))
-        ≡ afterSorted (now (text .entry)) (itemTable (now (kind .entry)) (now (cents .entry)) (now (numer .entry)) (now (denom .entry))) (listTable (now (place .entry)) (now (ratio .entry)) (now (wraps .entry))) ⌝ }
-    ensures { λ _. ⌜ now (count .exit) ≡ kept (fieldOf (λ s. s .scl .count) (readOf (roomOf (itemTable (now (kind .entry)) (now (cents .entry)) (now (numer .entry)) (now (denom .entry))) (listTable (now (place .entry)) (now (ratio .entry)) (now (wraps .entry)))) (now (text .entry)))) (now (count .entry)) ⌝ }
-    ensures { λ _. ⌜ now (start .exit) ≡ kept (fieldOf (λ s. s .description .start) (readOf (roomOf (itemTable (now (kind .entry)) (now (cents .entry)) (now (numer .entry)) (now (denom .entry))) (listTable (now (place .entry)) (now (ratio .entry)) (now (wraps .entry)))) (now (text .entry)))) (now (start .entry)) ⌝ }
-    ensures { λ _. ⌜ now (end .exit) ≡ kept (fieldOf (λ s. s .description .end) (readOf (roomOf (itemTable (now (kind .entry)) (now (cents .entry)) (now (numer .entry)) (now (denom .entry))) (listTable (now (place .entry)) (now (ratio .entry)) (now (wraps .entry)))) (now (text .entry)))) (now (end .entry)) ⌝ }
+    ensures { λ r. ⌜ ReadScl (now (text .entry)) (itemsBefore kind cents numer denom) (listBefore place ratio wraps)
+        (readWith (now (count .entry)) (now (start .entry)) (now (end .entry)))
+        r (itemsAfter kind cents numer denom) (listAfter place ratio wraps)
+        (readWith (now (count .exit)) (now (start .exit)) (now (end .exit))) ⌝ }
 {
     let said = scl_read::read_scl(text, kind, cents, numer, denom, place, ratio, wraps);
     store_read(said, count, start, end)
@@ -96,8 +85,7 @@ pub extern "C" fn telbijan_read_scl(
 
 // Stores the room of a builder.
 fn store_room(answer: SclBuilderAnswer, room: &mut usize) -> u64
-    ensures { λ r. ⌜ r ≡ result (saysBuilder answer) ⌝ }
-    ensures { λ _. ⌜ now (room .exit) ≡ kept (fieldOf (λ b. b .room) (saysBuilder answer)) (now (room .entry)) ⌝ }
+    ensures { λ r. ⌜ StoredPart (λ b. b .room) (saysBuilder answer) (now (room .entry)) r (now (room .exit)) ⌝ }
 {
     match answer {
         SclBuilderAnswer::Is(builder) => {
@@ -122,10 +110,8 @@ pub extern "C" fn telbijan_new_scl(
     wraps: &[i32],
     room: &mut usize,
 ) -> u64
-    ensures { λ r. ⌜ r ≡ result (builderOf (itemTable (now (kind .entry)) (now (cents .entry)) (now (numer .entry)) (now (denom .entry))) (listTable (now (place .entry)) (now (ratio .entry)) (now (wraps .entry)))) ⌝ }
-    ensures { λ _. ⌜ itemTable (now (kind .exit)) (now (cents .exit)) (now (numer .exit)) (now (denom .exit))
-        ≡ afterNew (itemTable (now (kind .entry)) (now (cents .entry)) (now (numer .entry)) (now (denom .entry))) (listTable (now (place .entry)) (now (ratio .entry)) (now (wraps .entry))) ⌝ }
-    ensures { λ _. ⌜ now (room .exit) ≡ kept (fieldOf (λ b. b .room) (builderOf (itemTable (now (kind .entry)) (now (cents .entry)) (now (numer .entry)) (now (denom .entry))) (listTable (now (place .entry)) (now (ratio .entry)) (now (wraps .entry))))) (now (room .entry)) ⌝ }
+    ensures { λ r. ⌜ NewScl (itemsBefore kind cents numer denom) (listBefore place ratio wraps) (now (room .entry))
+        r (itemsAfter kind cents numer denom) (now (room .exit)) ⌝ }
 {
     store_room(
         SclBuilder::new(kind, cents, numer, denom, place, ratio, wraps),
@@ -135,8 +121,7 @@ pub extern "C" fn telbijan_new_scl(
 
 // Stores the count of a builder.
 fn store_count(answer: SclBuilderAnswer, after: &mut usize) -> u64
-    ensures { λ r. ⌜ r ≡ result (saysBuilder answer) ⌝ }
-    ensures { λ _. ⌜ now (after .exit) ≡ kept (fieldOf (λ b. b .count) (saysBuilder answer)) (now (after .entry)) ⌝ }
+    ensures { λ r. ⌜ StoredPart (λ b. b .count) (saysBuilder answer) (now (after .entry)) r (now (after .exit)) ⌝ }
 {
     match answer {
         SclBuilderAnswer::Is(builder) => {
@@ -161,10 +146,8 @@ pub extern "C" fn telbijan_push_cents(
     value: f64,
     after: &mut usize,
 ) -> u64
-    ensures { λ r. ⌜ r ≡ result (pushed (state room count) (itemTable (now (kind .entry)) (now (cents .entry)) (now (numer .entry)) (now (denom .entry))) (Cents value)) ⌝ }
-    ensures { λ _. ⌜ itemTable (now (kind .exit)) (now (cents .exit)) (now (numer .exit)) (now (denom .exit))
-        ≡ afterPush (state room count) (itemTable (now (kind .entry)) (now (cents .entry)) (now (numer .entry)) (now (denom .entry))) (Cents value) ⌝ }
-    ensures { λ _. ⌜ now (after .exit) ≡ kept (fieldOf (λ b. b .count) (pushed (state room count) (itemTable (now (kind .entry)) (now (cents .entry)) (now (numer .entry)) (now (denom .entry))) (Cents value))) (now (after .entry)) ⌝ }
+    ensures { λ r. ⌜ PushItem (Cents value) (itemsBefore kind cents numer denom) room count (now (after .entry))
+        r (itemsAfter kind cents numer denom) (now (after .exit)) ⌝ }
 {
     let builder = SclBuilder { room, count };
     store_count(builder.push_cents(kind, cents, numer, denom, value), after)
@@ -182,10 +165,8 @@ pub extern "C" fn telbijan_push_ratio(
     value: f64,
     after: &mut usize,
 ) -> u64
-    ensures { λ r. ⌜ r ≡ result (pushedRatio (state room count) (itemTable (now (kind .entry)) (now (cents .entry)) (now (numer .entry)) (now (denom .entry))) value) ⌝ }
-    ensures { λ _. ⌜ itemTable (now (kind .exit)) (now (cents .exit)) (now (numer .exit)) (now (denom .exit))
-        ≡ afterRatio (state room count) (itemTable (now (kind .entry)) (now (cents .entry)) (now (numer .entry)) (now (denom .entry))) value ⌝ }
-    ensures { λ _. ⌜ now (after .exit) ≡ kept (fieldOf (λ b. b .count) (pushedRatio (state room count) (itemTable (now (kind .entry)) (now (cents .entry)) (now (numer .entry)) (now (denom .entry))) value)) (now (after .entry)) ⌝ }
+    ensures { λ r. ⌜ PushRatio value (itemsBefore kind cents numer denom) room count (now (after .entry))
+        r (itemsAfter kind cents numer denom) (now (after .exit)) ⌝ }
 {
     let builder = SclBuilder { room, count };
     store_count(
@@ -206,10 +187,8 @@ pub extern "C" fn telbijan_push_int(
     value: u32,
     after: &mut usize,
 ) -> u64
-    ensures { λ r. ⌜ r ≡ result (pushed (state room count) (itemTable (now (kind .entry)) (now (cents .entry)) (now (numer .entry)) (now (denom .entry))) (Fraction value Lacking)) ⌝ }
-    ensures { λ _. ⌜ itemTable (now (kind .exit)) (now (cents .exit)) (now (numer .exit)) (now (denom .exit))
-        ≡ afterPush (state room count) (itemTable (now (kind .entry)) (now (cents .entry)) (now (numer .entry)) (now (denom .entry))) (Fraction value Lacking) ⌝ }
-    ensures { λ _. ⌜ now (after .exit) ≡ kept (fieldOf (λ b. b .count) (pushed (state room count) (itemTable (now (kind .entry)) (now (cents .entry)) (now (numer .entry)) (now (denom .entry))) (Fraction value Lacking))) (now (after .entry)) ⌝ }
+    ensures { λ r. ⌜ PushItem (Fraction value Lacking) (itemsBefore kind cents numer denom) room count (now (after .entry))
+        r (itemsAfter kind cents numer denom) (now (after .exit)) ⌝ }
 {
     let builder = SclBuilder { room, count };
     store_count(builder.push_int(kind, cents, numer, denom, value), after)
@@ -228,10 +207,8 @@ pub extern "C" fn telbijan_push_fraction(
     below: u32,
     after: &mut usize,
 ) -> u64
-    ensures { λ r. ⌜ r ≡ result (pushed (state room count) (itemTable (now (kind .entry)) (now (cents .entry)) (now (numer .entry)) (now (denom .entry))) (Fraction above (Given below))) ⌝ }
-    ensures { λ _. ⌜ itemTable (now (kind .exit)) (now (cents .exit)) (now (numer .exit)) (now (denom .exit))
-        ≡ afterPush (state room count) (itemTable (now (kind .entry)) (now (cents .entry)) (now (numer .entry)) (now (denom .entry))) (Fraction above (Given below)) ⌝ }
-    ensures { λ _. ⌜ now (after .exit) ≡ kept (fieldOf (λ b. b .count) (pushed (state room count) (itemTable (now (kind .entry)) (now (cents .entry)) (now (numer .entry)) (now (denom .entry))) (Fraction above (Given below)))) (now (after .entry)) ⌝ }
+    ensures { λ r. ⌜ PushItem (Fraction above (Given below)) (itemsBefore kind cents numer denom) room count (now (after .entry))
+        r (itemsAfter kind cents numer denom) (now (after .exit)) ⌝ }
 {
     let builder = SclBuilder { room, count };
     store_count(
@@ -256,11 +233,8 @@ pub extern "C" fn telbijan_build_scl(
     count: usize,
     items: &mut u16,
 ) -> u64
-    ensures { λ r. ⌜ r ≡ result (counted (state room count) (built (state room count) (itemTable (now (kind .entry)) (now (cents .entry)) (now (numer .entry)) (now (denom .entry))) (listTable (now (place .entry)) (now (ratio .entry)) (now (wraps .entry))))) ⌝ }
-    ensures { λ _. ⌜ listTable (now (place .exit)) (now (ratio .exit)) (now (wraps .exit))
-        ≡ afterList (built (state room count) (itemTable (now (kind .entry)) (now (cents .entry)) (now (numer .entry)) (now (denom .entry))) (listTable (now (place .entry)) (now (ratio .entry)) (now (wraps .entry)))) (listTable (now (place .entry)) (now (ratio .entry)) (now (wraps .entry))) ⌝ }
-    ensures { λ _. ⌜ now (items .exit) ≡ kept (counted (state room count) (built (state room count) (itemTable (now (kind .entry)) (now (cents .entry)) (now (numer .entry)) (now (denom .entry))) (listTable (now (place .entry)) (now (ratio .entry)) (now (wraps .entry))))) (now (items .entry)) ⌝ }
-    ensures { λ _. ⌜ Comes (state room count) (itemTable (now (kind .entry)) (now (cents .entry)) (now (numer .entry)) (now (denom .entry))) (listTable (now (place .entry)) (now (ratio .entry)) (now (wraps .entry))) (counted (state room count) (built (state room count) (itemTable (now (kind .entry)) (now (cents .entry)) (now (numer .entry)) (now (denom .entry))) (listTable (now (place .entry)) (now (ratio .entry)) (now (wraps .entry))))) (listTable (now (place .exit)) (now (ratio .exit)) (now (wraps .exit))) ⌝ }
+    ensures { λ r. ⌜ BuildScl (itemsBefore kind cents numer denom) (listBefore place ratio wraps) room count (now (items .entry))
+        r (listAfter place ratio wraps) (now (items .exit)) ⌝ }
 {
     let builder = SclBuilder { room, count };
     let said = builder.build(kind, cents, numer, denom, place, ratio, wraps);
@@ -281,10 +255,8 @@ pub extern "C" fn telbijan_export_scl(
     out: &mut [u8],
     written: &mut usize,
 ) -> u64
-    ensures { λ r. ⌜ r ≡ result (textLength (exportOf (record { count = count }) (itemTable (now (kind .entry)) (now (cents .entry)) (now (numer .entry)) (now (denom .entry))) (now (description .entry)) (length (now (out .entry))))) ⌝ }
-    ensures { λ _. ⌜ now (out .exit) ≡ after (exportOf (record { count = count }) (itemTable (now (kind .entry)) (now (cents .entry)) (now (numer .entry)) (now (denom .entry))) (now (description .entry)) (length (now (out .entry)))) (λ t. t) (now (out .entry)) ⌝ }
-    ensures { λ _. ⌜ now (written .exit) ≡ kept (textLength (exportOf (record { count = count }) (itemTable (now (kind .entry)) (now (cents .entry)) (now (numer .entry)) (now (denom .entry))) (now (description .entry)) (length (now (out .entry))))) (now (written .entry)) ⌝ }
-    ensures { λ _. ⌜ NeverFull (record { count = count }) (now (description .entry)) (length (now (out .entry))) (textLength (exportOf (record { count = count }) (itemTable (now (kind .entry)) (now (cents .entry)) (now (numer .entry)) (now (denom .entry))) (now (description .entry)) (length (now (out .entry))))) ⌝ }
+    ensures { λ r. ⌜ ExportScl (now (description .entry)) (itemsBefore kind cents numer denom) (record { count = count })
+        (now (out .entry)) (now (written .entry)) r (now (out .exit)) (now (written .exit)) ⌝ }
 {
     let scl = Scl { count };
     let said = scl_write::export_scl(scl, description, kind, cents, numer, denom, out);

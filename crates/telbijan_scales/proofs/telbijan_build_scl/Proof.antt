@@ -27,7 +27,7 @@ returns c =
     let call = c .before .before .before .before .before .before .before in
     let told = call .build .ensures .0 in
     let handed = handed-on saysScl (λ s. kept s (now (call .before .before .before .before .before .before .before .before .before .before .args .items))) (call .build .result) (told .0) (c .store-scl .ensures) in
-    (handed .0, (told .1, (handed .1, rw (told .0) at (call .build .ensures .1))))
+    (handed .0, told .1, handed .1, rw (told .0) at (call .build .ensures .1))
 
 pub telbijan-build-scl-spec : {M : Type 1} → statement M
 telbijan-build-scl-spec =

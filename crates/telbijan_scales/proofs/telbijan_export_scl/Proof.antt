@@ -21,7 +21,7 @@ returns c =
     let call = c .before .before .before .before in
     let told = call .export-scl .ensures in
     let handed = handed-on saysSize (λ s. kept s (now (call .before .before .before .before .before .before .before .before .args .written))) (call .export-scl .result) (told .0) (c .store-size .ensures) in
-    (handed .0, (told .1 .0, (handed .1, rw (told .0) at (told .1 .1))))
+    ((handed .0, told .1 .0, handed .1), rw (told .0) at (told .1 .1))
 
 pub telbijan-export-scl-spec : {M : Type 1} → statement M
 telbijan-export-scl-spec =

@@ -30,7 +30,7 @@ returns c =
     let call = c .before .before .before .before .before .before .before .before .before .before in
     let told = call .new .ensures in
     let handed = handed-on saysBuilder (λ s. kept (fieldOf (λ b. b .room) s) (now (call .before .before .before .before .before .before .before .before .before .before .before .args .room))) (call .new .result) (told .0) (c .store-room .ensures) in
-    (handed .0, (told .1, handed .1))
+    (handed .0, told .1, handed .1)
 
 pub telbijan-new-scl-spec : {M : Type 1} → statement M
 telbijan-new-scl-spec =

@@ -2,8 +2,9 @@
 use borrow.Author.Needs.{needs}
 use denote.Ref.{now}
 use Rattle.scl_read.specs.Reader.{saysRead}
-use Rattle.telbijan_answers.specs.Interface.{kept, fieldOf}
+use Rattle.telbijan_answers.specs.Interface.{kept}
 use Rattle.telbijan_answers.proofs.Interface.{handed-on}
+use Rattle.telbijan_scales.specs.Calls.{readWith}
 use Rattle.telbijan_scales.proofs.telbijan_read_scl.Statement.{statement}
 use Rattle.telbijan_scales.proofs.telbijan_read_scl.Tie as tie
 
@@ -40,11 +41,9 @@ returns c =
     let start = call .before .before .before .before .before .before .before .before .before .before .before .before .before .before .before in
     let told = call .read-scl .ensures in
     let said = call .read-scl .result in
-    let stored = c .store-read .ensures in
-    let count = handed-on saysRead (λ s. kept (fieldOf (λ s. s .scl .count) s) (now (start .args .count))) said (told .0) (stored .0, stored .1 .0) in
-    let from = handed-on saysRead (λ s. kept (fieldOf (λ s. s .description .start) s) (now (start .args .start))) said (told .0) (stored .0, stored .1 .1 .0) in
-    let to = handed-on saysRead (λ s. kept (fieldOf (λ s. s .description .end) s) (now (start .args .end))) said (told .0) (stored .0, stored .1 .1 .1) in
-    (count .0, (told .1 .0, (told .1 .1, (count .1, (from .1, to .1)))))
+    let old = readWith (now (start .args .count)) (now (start .args .start)) (now (start .args .end)) in
+    let handed = handed-on saysRead (λ s. kept s old) said (told .0) (c .store-read .ensures) in
+    (handed .0, told .1 .0, told .1 .1, handed .1)
 
 pub telbijan-read-scl-spec : {M : Type 1} → statement M
 telbijan-read-scl-spec =

@@ -46,7 +46,7 @@ returns c =
     let call = c .before .before .before .before .before .before .before .before .before .before .before .before .before .before .before in
     let told = (rw (call .before .before .before .before .before .before .before .before .before .segment-of .ensures, call .before .before .before .before .before .before .before .before .divisions-of .ensures) at (call .create-harmonics-scale .ensures)) in
     let handed = handed-on saysScl (λ s. kept s (now (call .before .before .before .before .before .before .before .before .before .before .before .before .before .before .before .before .args .count))) (call .create-harmonics-scale .result) (told .0) (c .store-scl .ensures) in
-    (handed .0, (told .1 .0, (told .1 .1, handed .1)))
+    (handed .0, told .1 .0, told .1 .1, handed .1)
 
 pub telbijan-create-harmonics-scale-spec : {M : Type 1} → statement M
 telbijan-create-harmonics-scale-spec =

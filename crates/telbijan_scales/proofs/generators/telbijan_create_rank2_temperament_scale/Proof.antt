@@ -40,7 +40,7 @@ returns c =
     let call = c .before .before .before .before .before .before .before .before .before .before .before .before .before .before .before in
     let told = call .create-rank2-temperament-scale .ensures in
     let handed = handed-on saysScl (λ s. kept s (now (call .before .before .before .before .before .before .before .before .before .before .before .before .before .before .args .count))) (call .create-rank2-temperament-scale .result) (told .0) (c .store-scl .ensures) in
-    (handed .0, (told .1 .0, (told .1 .1, handed .1)))
+    (handed .0, told .1 .0, told .1 .1, handed .1)
 
 pub telbijan-create-rank2-temperament-scale-spec : {M : Type 1} → statement M
 telbijan-create-rank2-temperament-scale-spec =
