@@ -1,3 +1,4 @@
 -- Calls for C, one after another: what the contracts of two of them say together.
 pub mod ReadDegree
 pub mod ExportRead
+pub mod ReadExport

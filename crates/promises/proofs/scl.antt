@@ -1,5 +1,6 @@
 -- Scale files read and written: what the two say together. The round trip, and the published format.
 pub mod ItemsBack
+pub mod Utf8Part
 pub mod Described
 pub mod RoundTrip
 pub mod Samples

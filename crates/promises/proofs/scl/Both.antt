@@ -42,5 +42,5 @@ pub in-both : (d : List ℕ) (is : List Item) (list : List Entry) → AllHeld is
 in-both d is list f h l o c =
     let b = c .described in
     let p = export-published d is (one-line d b) f h l in
-    let a = round-trip d is list (b .utf8) f h l o .1 c in
+    let a = round-trip d is list f h l o .1 c in
     (p, a, published-exactly p .0 (d, is, list, a, agree p (not-blank d b) (no-mark d b) a))

@@ -27,19 +27,20 @@ use Rattle.writing.specs.PublishedLines as published
 use Rattle.writing.proofs.Plain.{selves, word-line}
 use Rattle.writing.proofs.Plain as plain
 use Rattle.promises.specs.scl.Again.{Described}
+use Rattle.promises.proofs.scl.Utf8Part.{trimmed-utf8}
 
 -- ---- FROM A TEXT: what a line says of its trimmed part
 abbrev pub Part : List ℕ → Meaning → Type 0
 Part l invalid = Unit {0}
 Part l blank = Unit {0}
 Part l comment = Unit {0}
-Part l (content m t) = Trimmed WhiteSpace encode l m × (m ≡ [] → ⊥) × (Comment m → ⊥)
+Part l (content m t) = Trimmed WhiteSpace encode l m × (m ≡ [] → ⊥) × (Comment m → ⊥) × Utf8 l
 
 pub part-of : (l : List ℕ) (x : Meaning) → reading.Line strict l x → Part l x
 part-of l x (reading.Line.not-text n e) = subst (Part l) (sym e) tt
 part-of l x (reading.Line.is-blank r t e) = subst (Part l) (sym e) tt
 part-of l x (reading.Line.is-comment r m t c e) = subst (Part l) (sym e) tt
-part-of l x (reading.Line.says r m k t s n q e) = subst (Part l) (sym e) (t, s, n)
+part-of l x (reading.Line.says r m k t s n q e) = subst (Part l) (sym e) (t, s, n, r)
 
 -- no line has an LF in it
 abbrev AllNoLF : List (List ℕ) → Type 0
@@ -82,12 +83,12 @@ text-line {s} {d} t = go (t .lines .first) (t .lines .rest) (t .lines .words) (t
         let (l, n, r) = first-content (t .text .parts) (t .says) v (first ++ rest) (t .text .each) (lines-free (t .text .lines)) w in
         (l, v .token, n, subst (λ (x : List ℕ). Part l (content x (v .token))) (sym (t .described ∙ g .0)) r)
 
--- so a description of the language that is UTF-8 is one that comes back
-pub text-described : {s d : List ℕ} {is : List Item} {list : List Entry} → ScaleText s d is list → Utf8 d → Described d
-text-described {s} {d} t u =
+-- so a description of the language is UTF-8 and one line, and one that comes back
+pub text-described : {s d : List ℕ} {is : List Item} {list : List Entry} → ScaleText s d is list → Described d
+text-described {s} {d} t =
     let (l, k, n, r) = text-line t in
     record {
-      utf8 = u;
+      utf8 = trimmed-utf8 l d (r .3) (r .0);
       not-blank = r .1;
       trimmed = left-trimmed l d (r .0);
       no-lf = free-part (inBytes encode (r .0 .before)) d (inBytes encode (r .0 .after)) (subst NoLF (r .0 .whole) n);

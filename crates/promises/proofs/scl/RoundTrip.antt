@@ -32,7 +32,6 @@ use Rattle.sorted.specs.Lent.{ListTable, isList}
 use Rattle.sorting.specs.Entries.{Entry}
 use Rattle.text.specs.Reading.{Meaning}
 use Rattle.text.proofs.LineLanguage.{one-strict-text}
-use Rattle.utf8.specs.Characters.{Utf8}
 use Rattle.writing.proofs.Plain.{selves}
 use Rattle.writing.proofs.Printed.{size-reads}
 use Rattle.promises.specs.scl.Again.{Described, ItemsBack, ComesBack}
@@ -79,8 +78,8 @@ module _ (d : List ℕ) (is : List Item) (list : List Entry) where
       go (a ∷ c ∷ v ∷ vs) rest w g x = absurd (g .1 .1)
 
   -- THE THEOREM: of usable items that the machine holds, and that have a sorted list, and of a description that is UTF-8
-  pub round-trip : Utf8 d → AllHeld is → areUsable is ≡ true → length is ≤ 65535 → scaleOf (implicit ∷ is) ≡ gives list → ScaleText s d is list ↔ ComesBack d is
-  round-trip u f h l o = (λ t. let b = text-described t u in record { described = b; cents = items-came h t b }, comes-back f h l o)
+  pub round-trip : AllHeld is → areUsable is ≡ true → length is ≤ 65535 → scaleOf (implicit ∷ is) ≡ gives list → ScaleText s d is list ↔ ComesBack d is
+  round-trip f h l o = (λ t. let b = text-described t in record { described = b; cents = items-came h t b }, comes-back f h l o)
 
 -- ---- OF THE CALLS: the bytes t that an export gave are read again, into tables with a place for each item and place 0 (`Typed`: what
 -- columns of u32 hold)
@@ -96,7 +95,7 @@ module _ (scl : Scl) (table : ItemTable) (d : List ℕ) (room : ℕ) {t : List �
   export-back =
       let a = export-accepted scl table d room e in
       let h = items-are (scl .count) table .1 (a .0 .items) in
-      rw (a .1 .0) (round-trip d items list (a .0 .description-is) (held-after (itemsIn (scl .count) table) (typed-held table typed (scl .count))) (listed-usable (scl .count) table h) (omega (arith, counted, l)) o)
+      rw (a .1 .0) (round-trip d items list (held-after (itemsIn (scl .count) table) (typed-held table typed (scl .count))) (listed-usable (scl .count) table h) (omega (arith, counted, l)) o)
 
   -- the read accepts them as that scale exactly when it comes back
   pub read-back : (places : ℕ) → scl .count < places → ((readOf places t ≡ gives (scaleRead (scl .count) t)) × ReaderFinds t d items list) ↔ ComesBack d items

@@ -19,7 +19,6 @@ use Rattle.scl_tables.proofs.Beyond.{scale-looks}
 use Rattle.scl_tables.proofs.Theorems.{list-given}
 use Rattle.scl_write.specs.Export.{itemTexts}
 use Rattle.sorting.specs.Entries.{Entry}
-use Rattle.utf8.specs.Characters.{Utf8}
 use Rattle.utf8.specs.Utf8Machine.{leadOf, utf8Step, utf8From}
 use Rattle.utf8.proofs.Utf8Language.{accepts}
 use Rattle.utf8.proofs.Encodings.{enc1}
@@ -69,9 +68,8 @@ words-described =
     no-first e = let z : _≡_ {A = ℕ} 97 33 = cc in omega arith
 
 -- those that a line does not give back
-module _ (d : List ℕ) (u : Utf8 d) where
-  lost : (Described d → ⊥) → Again d fifths → ⊥
-  lost n (list, t) = n (text-described t u)
+lost : {d : List ℕ} → (Described d → ⊥) → Again d fifths → ⊥
+lost n (list, t) = n (text-described t)
 
 pub samples : Back
 unfolding linesText itemTexts areUsable round ofBits le neg negative utf8From utf8Step leadOf
@@ -79,12 +77,12 @@ samples =
     let (list, e) = fifths-sorted in
     record {
       bytes = refl;
-      back = (list, round-trip words fifths list (words-described .utf8) fifths-held fifths-usable (lit≤ tt) e .1 (record { described = words-described; cents = (refl, (tt, (tt, tt))) }));
+      back = (list, round-trip words fifths list fifths-held fifths-usable (lit≤ tt) e .1 (record { described = words-described; cents = (refl, (tt, (tt, tt))) }));
       sixteenth-lost = λ (l, t). no-test (ap (λ (x : Float). le (round binary64 false 1 16) x) (items-came words sixteenth l refl t words-described .0));
-      empty-lost = lost [] (accepts [] .0 refl) (λ b. b .not-blank refl);
-      space-lost = lost (97 ∷ 32 ∷ []) (accepts (97 ∷ 32 ∷ []) .0 refl) (λ b. b .trimmed .ends 32 (97 ∷ []) (inr (inl (omega arith, omega arith))) (ap (λ (l : List ℕ). 97 ∷ l) (sym (enc1 32 (omega arith)))));
-      lf-lost = lost (97 ∷ 10 ∷ 98 ∷ []) (accepts (97 ∷ 10 ∷ 98 ∷ []) .0 refl) (λ b. b .no-lf .1 .0 refl);
-      mark-lost = lost (33 ∷ 97 ∷ []) (accepts (33 ∷ 97 ∷ []) .0 refl) (λ b. b .no-mark (97 ∷ [], refl));
+      empty-lost = lost (λ b. b .not-blank refl);
+      space-lost = lost (λ b. b .trimmed .ends 32 (97 ∷ []) (inr (inl (omega arith, omega arith))) (ap (λ (l : List ℕ). 97 ∷ l) (sym (enc1 32 (omega arith)))));
+      lf-lost = lost (λ b. b .no-lf .1 .0 refl);
+      mark-lost = lost (λ b. b .no-mark (97 ∷ [], refl));
     }
   where
     no-test : false ≡ true → ⊥
