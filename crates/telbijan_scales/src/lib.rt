@@ -10,7 +10,7 @@ ghost use mathlib.Core.Path.{_≡_};
 ghost use mathlib.Core.Bool.{true};
 ghost use lib.ListN.{length};
 ghost use Rattle.base.specs.Tables.{after};
-ghost use Rattle.scl.specs.Items.{isUsable, ratioOf};
+ghost use Rattle.scl.specs.Items.{isUsable, givenRatio};
 ghost use Rattle.scl.specs.Table.{itemOf, itemTable};
 ghost use Rattle.scl.specs.declared.Denom.the-variants.{Given, Lacking};
 ghost use Rattle.scl.specs.declared.Item.the-variants.{Cents, Fraction};
@@ -24,7 +24,7 @@ ghost use Rattle.writing.specs.Fitted.{textLength};
 ghost use Rattle.scl_write.specs.Export.{exportOf, NeverFull};
 ghost use Rattle.telbijan_answers.specs.Interface.{result, kept, fieldOf};
 
-// The ratio of an item, stored: 18 for an unknown kind, and where the ratio lies outside 2^-900..2^900; never for a usable item.
+// The ratio of an item, stored: 10 for an item that cannot be used, one of an unknown kind too.
 #[no_mangle]
 pub extern "C" fn telbijan_item_as_ratio(
     kind: u8,
@@ -33,8 +33,8 @@ pub extern "C" fn telbijan_item_as_ratio(
     denom: u32,
     ratio: &mut f64,
 ) -> u64
-    ensures { λ r. ⌜ r ≡ result (ratioOf (itemOf kind cents numer denom)) ⌝ }
-    ensures { λ _. ⌜ now (ratio .exit) ≡ kept (ratioOf (itemOf kind cents numer denom)) (now (ratio .entry)) ⌝ }
+    ensures { λ r. ⌜ r ≡ result (givenRatio (itemOf kind cents numer denom)) ⌝ }
+    ensures { λ _. ⌜ now (ratio .exit) ≡ kept (givenRatio (itemOf kind cents numer denom)) (now (ratio .entry)) ⌝ }
     ensures { λ r. ⌜ (isUsable (itemOf kind cents numer denom) ≡ true → r ≡ 0) ⌝ }
 {
     telbijan_answers::store_ratio(scl::item_of(kind, cents, numer, denom).as_ratio(), ratio)
