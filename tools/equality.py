@@ -6,14 +6,17 @@
 DATA is a type of values, known by its form (`is_data`); any other premise is a fault. What is asked of a result, `says r ≡ s` or each part of FACT,
 must be what the contract ensures, with the line's variables replaced by terms of what goes in; and what is equated must be the result and all that
 a `&mut` holds after the call. Terms are compared as they are written, but for quotes, the abbreviations of the line's own file and those that stand for a
-relation in the crate's specs; a name is the same where both files import it from one place, under whatever name of its module."""
+relation in the specs of the crate or of a telbijan_ crate below it, or for a lent table there (`short_names`); a name is the same where both files import
+it from one place, under whatever name of its module. A contract is read with these written out (`ensured`), so that what a relation leaves out is missed."""
 import re
 
-TABLES = {"ItemTable": "itemTable", "ListTable": "listTable"}  # records of columns, and what makes them: equal where their columns are
+# records of columns or of stored numbers, and what makes them: equal where these are
+TABLES = {"ItemTable": "itemTable", "ListTable": "listTable", "Kbm": "mappingWith"}
 VALUES = {"ℕ", "ℤ", "Float", "Bool", "Entry", *TABLES}  # and each struct and enum of the sources; lists, answers and functions of these
 ONE = "abbrev pub One : {A B : Type 0} → (A → B) → B → Type 0\nOne {A} {B} says s = (x y : A) → says x ≡ s → says y ≡ s → x ≡ y\n"
 RESULT = "the result"  # what a contract calls `r`, or otherwise
 ONE_OF = "Rattle.base.specs.Said.One"  # where it is imported from
+LENT = "telbijan_answers"  # the crate whose specs have short names for lent tables
 
 
 # ---- names, and what a file takes them from
@@ -39,6 +42,8 @@ def imports(text):
     names, modules = {}, {}
     for path, listed, alias in re.findall(r"^(?:ghost |pub |unfoldable )*use ([^\s{};]+?)(?:\.\{([^}]*)\}| as (\S+?))?;?$", text, re.M):
         path = re.sub(r"^(Rattle·\w+)·\w+", r"\1", path)
+        if path == "denote.Ref":  # a contract has `now` without an import
+            continue
         modules |= {alias: path} if alias else {}
         for name, here in re.findall(r"([^\s,]+)(?: as ([^\s,]+))?", listed):
             names.setdefault((here or name).strip("_"), set()).add(f"{path}.{name}")
@@ -111,6 +116,11 @@ def abbreviations(text, kind="", folder=None):
     """Those of a file that have one equation with plain parameters, and a type that ends so; and the folder that others import them from, if others do."""
     found = re.findall(rf"^( *)abbrev (?:pub )?(\S+) :[^\n]*{kind}\n\1\2((?: \w+)*) =([^\n]*(?:\n\1 +[^\n]*)*)(?=\n(?!\1\2\s)|\Z)", text, re.M)
     return {name: (parameters.split(), parse(body, imports(text)), folder) for _, name, parameters, body in found}
+
+
+def short_names(crate, texts):
+    """What these texts, the specs of a crate, have for short names of relations and of lent tables."""
+    return {name: found for text in texts for name, found in abbreviations(text, "(?:Type 0|Table)" if crate == LENT else "Type 0", f"Rattle.{crate}.specs").items()}
 
 
 def unfolded(term, meant):
@@ -220,6 +230,18 @@ def ensured(contract, text, meant):
         if said:
             facts += [split(factor, "≡") for factor in factors(unfolded(replaced(parse(said, imports(text)), called), meant))]
     return facts
+
+
+def left_in(term):
+    """The names of each `&mut` of which a term of a contract says what it holds after the call."""
+    if not isinstance(term, tuple):
+        return set()
+    return ({term[0]} if term[1:] == (".exit",) else set()).union(*map(left_in, term))
+
+
+def answers(contract):
+    """Whether a contract equates the result with something else."""
+    return any(len(fact) == 2 and fact[0] == RESULT and RESULT not in words(fact[1]) for fact in contract)
 
 
 def outputs(term):

@@ -13,3 +13,4 @@ pub mod Numbers
 pub mod Draws
 pub mod Takes
 pub mod LineTheorems
+pub mod Inside

@@ -1,11 +1,14 @@
--- The detail of a fault is a line of the text, or which required line is missing, or 0. Assumes nothing.
-use mathlib.Core.Path.{_≡_, refl, ap}
+-- The detail of a fault is a line of the text, or of 2 which required line is missing, or 0. Assumes nothing.
+use mathlib.Core.Path.{_≡_, refl, sym, _∙_, ap}
 use mathlib.Core.List.{List, [], _∷_}
+use mathlib.Core.Logic.{_⊎_, inl, inr}
 use Prim.Native.Nat.{ℕ, suc, _+_, _≤_}
 use native.Mathlib.Omega.{arith}
 use lib.ListN.{length, length-append}
+use Rattle.base.specs.Numbers.{line-missing}
+use Rattle.text.proofs.LinesLanguage.{one-lines}
 use Rattle.text.specs.Lines.{Lines}
-use Rattle.text.specs.Reading.{Reading, Meaning, EachLine}
+use Rattle.text.specs.Reading.{Reading, Meaning, EachLine, Says}
 use Rattle.listing.specs.Listing.{Format, Values, Fault}
 
 -- a text has no more lines than bytes, and each line says one thing
@@ -21,9 +24,24 @@ each-one R [] (x ∷ xs) e = absurd e
 each-one R (l ∷ ls) [] e = absurd e
 each-one R (l ∷ ls) (x ∷ xs) e = ap suc (each-one R ls xs (e .1))
 
--- the detail of a fault is a line, or which required line is missing, or 0
+-- so a text says as many things as it has lines
+pub says-lines : {R : Reading} {s : List ℕ} {ms : List Meaning} {ls : List (List ℕ)} → Says R s ms → Lines s ls → length ms ≡ length ls
+says-lines {R} {s} {ms} t l = sym (each-one R (t .parts) ms (t .each)) ∙ ap length (sym (one-lines (t .lines)) ∙ one-lines l)
+
+-- the detail d of a fault with number n, among so many lines: a line or 0; of 2 which of the required lines is missing
+abbrev pub DetailOf : ℕ → ℕ → ℕ → ℕ → Type 0
+DetailOf lines required n d = (d ≤ lines) ⊎ ((n ≡ line-missing) × (1 ≤ d) × (d ≤ required))
+
+pub fault-line : {F : Format} {End : Values F (F .required) → List (F .Entry) → ℕ → Type 0} {room : ℕ} {ms : List Meaning} {n d : ℕ} →
+    Fault F End room ms n d → DetailOf (length ms) (length (F .required)) n d
+fault-line (Fault.at-required before line after e p done f more rq vs b w) = inl (omega (arith, ap length e, p, length-append before (line ∷ after)))
+fault-line (Fault.at-entry before line after e p vs es b f w) = inl (omega (arith, ap length e, p, length-append before (line ∷ after)))
+fault-line (Fault.missing e done f more rq p vs b) = inr (e, omega (arith, p), omega (arith, p, ap length rq, length-append done (f ∷ more)))
+fault-line (Fault.at-end e vs es b f w) = inl (omega (arith, e))
+
+-- and so it is no more than the lines and the required ones together
 pub fault-detail : {F : Format} {End : Values F (F .required) → List (F .Entry) → ℕ → Type 0} {room : ℕ} {ms : List Meaning} {n d : ℕ} → Fault F End room ms n d → d ≤ length ms + (length (F .required) + 1)
-fault-detail (Fault.at-required before line after e p done f more rq vs b w) = omega (arith, ap length e, p, length-append before (line ∷ after))
-fault-detail (Fault.at-entry before line after e p vs es b f w) = omega (arith, ap length e, p, length-append before (line ∷ after))
-fault-detail (Fault.missing e done f more rq p vs b) = omega (arith, p, ap length rq, length-append done (f ∷ more))
-fault-detail (Fault.at-end e vs es b f w) = omega (arith, e)
+fault-detail f = elim (fault-line f) [
+  | inl h ↦ omega (arith, h)
+  | inr h ↦ omega (arith, h .2)
+]

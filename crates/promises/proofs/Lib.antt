@@ -3,3 +3,4 @@ pub mod scl
 pub mod tuning
 pub mod samples
 pub mod equal_steps
+pub mod calls

@@ -15,3 +15,4 @@ pub mod ItemLanguage
 pub mod Takes
 pub mod LineTheorems
 pub mod TokenReads
+pub mod Inside

@@ -1,2 +1,4 @@
 pub mod Interface
+pub mod Calls
+pub mod Lent
 pub mod Details

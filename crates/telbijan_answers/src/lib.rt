@@ -21,7 +21,8 @@ ghost use Rattle.math.specs.Answers.{saysU32};
 ghost use Rattle.pitch.specs.Answers.{saysRatio, saysPitch, saysBool};
 ghost use Rattle.scl.specs.Answers.{saysScl};
 ghost use Rattle.writing.specs.Answers.{saysSize};
-ghost use Rattle.telbijan_answers.specs.Interface.{code, result, kept, fieldOf};
+ghost use Rattle.telbijan_answers.specs.Interface.{code};
+ghost use Rattle.telbijan_answers.specs.Calls.{Stored, StoredPart};
 
 // detail * 256 + number.
 pub fn code_of(refusal: Refusal) -> u64
@@ -33,8 +34,7 @@ pub fn code_of(refusal: Refusal) -> u64
 }
 
 pub fn store_i32(answer: I32Answer, out: &mut i32) -> u64
-    ensures { λ r. ⌜ r ≡ result (saysI32 answer) ⌝ }
-    ensures { λ _. ⌜ now (out .exit) ≡ kept (saysI32 answer) (now (out .entry)) ⌝ }
+    ensures { λ r. ⌜ Stored (saysI32 answer) (now (out .entry)) r (now (out .exit)) ⌝ }
 {
     match answer {
         I32Answer::Is(value) => {
@@ -46,8 +46,7 @@ pub fn store_i32(answer: I32Answer, out: &mut i32) -> u64
 }
 
 pub fn store_u32(answer: U32Answer, out: &mut u32) -> u64
-    ensures { λ r. ⌜ r ≡ result (saysU32 answer) ⌝ }
-    ensures { λ _. ⌜ now (out .exit) ≡ kept (saysU32 answer) (now (out .entry)) ⌝ }
+    ensures { λ r. ⌜ Stored (saysU32 answer) (now (out .entry)) r (now (out .exit)) ⌝ }
 {
     match answer {
         U32Answer::Is(value) => {
@@ -59,8 +58,7 @@ pub fn store_u32(answer: U32Answer, out: &mut u32) -> u64
 }
 
 pub fn store_midi(answer: MidiAnswer, out: &mut u8) -> u64
-    ensures { λ r. ⌜ r ≡ result (saysMidi answer) ⌝ }
-    ensures { λ _. ⌜ now (out .exit) ≡ kept (saysMidi answer) (now (out .entry)) ⌝ }
+    ensures { λ r. ⌜ Stored (saysMidi answer) (now (out .entry)) r (now (out .exit)) ⌝ }
 {
     match answer {
         MidiAnswer::Is(value) => {
@@ -72,8 +70,7 @@ pub fn store_midi(answer: MidiAnswer, out: &mut u8) -> u64
 }
 
 pub fn store_key(answer: KeyAnswer, out: &mut i32) -> u64
-    ensures { λ r. ⌜ r ≡ result (saysKey answer) ⌝ }
-    ensures { λ _. ⌜ now (out .exit) ≡ kept (fieldOf (λ k. k .0) (saysKey answer)) (now (out .entry)) ⌝ }
+    ensures { λ r. ⌜ StoredPart (λ k. k .0) (saysKey answer) (now (out .entry)) r (now (out .exit)) ⌝ }
 {
     match answer {
         KeyAnswer::Is(value) => {
@@ -86,8 +83,7 @@ pub fn store_key(answer: KeyAnswer, out: &mut i32) -> u64
 }
 
 pub fn store_float(answer: FloatAnswer, out: &mut f64) -> u64
-    ensures { λ r. ⌜ r ≡ result (saysFloat answer) ⌝ }
-    ensures { λ _. ⌜ now (out .exit) ≡ kept (saysFloat answer) (now (out .entry)) ⌝ }
+    ensures { λ r. ⌜ Stored (saysFloat answer) (now (out .entry)) r (now (out .exit)) ⌝ }
 {
     match answer {
         FloatAnswer::Is(value) => {
@@ -99,8 +95,7 @@ pub fn store_float(answer: FloatAnswer, out: &mut f64) -> u64
 }
 
 pub fn store_ratio(answer: RatioAnswer, out: &mut f64) -> u64
-    ensures { λ r. ⌜ r ≡ result (saysRatio answer) ⌝ }
-    ensures { λ _. ⌜ now (out .exit) ≡ kept (saysRatio answer) (now (out .entry)) ⌝ }
+    ensures { λ r. ⌜ Stored (saysRatio answer) (now (out .entry)) r (now (out .exit)) ⌝ }
 {
     match answer {
         RatioAnswer::Is(value) => {
@@ -113,8 +108,7 @@ pub fn store_ratio(answer: RatioAnswer, out: &mut f64) -> u64
 }
 
 pub fn store_pitch(answer: PitchAnswer, out: &mut f64) -> u64
-    ensures { λ r. ⌜ r ≡ result (saysPitch answer) ⌝ }
-    ensures { λ _. ⌜ now (out .exit) ≡ kept (saysPitch answer) (now (out .entry)) ⌝ }
+    ensures { λ r. ⌜ Stored (saysPitch answer) (now (out .entry)) r (now (out .exit)) ⌝ }
 {
     match answer {
         PitchAnswer::Is(value) => {
@@ -127,8 +121,7 @@ pub fn store_pitch(answer: PitchAnswer, out: &mut f64) -> u64
 }
 
 pub fn store_bool(answer: BoolAnswer, out: &mut bool) -> u64
-    ensures { λ r. ⌜ r ≡ result (saysBool answer) ⌝ }
-    ensures { λ _. ⌜ now (out .exit) ≡ kept (saysBool answer) (now (out .entry)) ⌝ }
+    ensures { λ r. ⌜ Stored (saysBool answer) (now (out .entry)) r (now (out .exit)) ⌝ }
 {
     match answer {
         BoolAnswer::Is(value) => {
@@ -140,8 +133,7 @@ pub fn store_bool(answer: BoolAnswer, out: &mut bool) -> u64
 }
 
 pub fn store_degree(answer: DegreeAnswer, out: &mut i32) -> u64
-    ensures { λ r. ⌜ r ≡ result (saysDegree answer) ⌝ }
-    ensures { λ _. ⌜ now (out .exit) ≡ kept (saysDegree answer) (now (out .entry)) ⌝ }
+    ensures { λ r. ⌜ Stored (saysDegree answer) (now (out .entry)) r (now (out .exit)) ⌝ }
 {
     match answer {
         DegreeAnswer::Is(value) => {
@@ -155,8 +147,7 @@ pub fn store_degree(answer: DegreeAnswer, out: &mut i32) -> u64
 
 // The count of items of a scale.
 pub fn store_scl(answer: SclAnswer, out: &mut u16) -> u64
-    ensures { λ r. ⌜ r ≡ result (saysScl answer) ⌝ }
-    ensures { λ _. ⌜ now (out .exit) ≡ kept (saysScl answer) (now (out .entry)) ⌝ }
+    ensures { λ r. ⌜ Stored (saysScl answer) (now (out .entry)) r (now (out .exit)) ⌝ }
 {
     match answer {
         SclAnswer::Is(scl) => {
@@ -170,8 +161,7 @@ pub fn store_scl(answer: SclAnswer, out: &mut u16) -> u64
 
 // How many bytes an export has written.
 pub fn store_size(answer: SizeAnswer, out: &mut usize) -> u64
-    ensures { λ r. ⌜ r ≡ result (saysSize answer) ⌝ }
-    ensures { λ _. ⌜ now (out .exit) ≡ kept (saysSize answer) (now (out .entry)) ⌝ }
+    ensures { λ r. ⌜ Stored (saysSize answer) (now (out .entry)) r (now (out .exit)) ⌝ }
 {
     match answer {
         SizeAnswer::Is(size) => {

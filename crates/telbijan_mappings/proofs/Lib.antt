@@ -1,3 +1,5 @@
+pub mod Stored
 pub mod Numbers
 pub mod Theorems
 pub mod Details
+pub mod Readings

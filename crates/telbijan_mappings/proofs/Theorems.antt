@@ -13,6 +13,7 @@ use Rattle.key.specs.Keys.{key}
 use Rattle.kbm.specs.Degree.{scaleDegreeOf}
 use Rattle.kbm.specs.Root.{rootOf}
 use Rattle.kbm.specs.declared.Entry.the-variants.{Mapped, Unmapped}
+use Rattle.kbm.specs.declared.Kbm.{Kbm}
 use Rattle.kbm_build.specs.Builder.{pushed, afterPush, built}
 use Rattle.kbm_read.specs.Reader.{readOf, afterRead}
 use Rattle.writing.specs.Fitted.{textLength}
@@ -44,5 +45,7 @@ push-unmapped-key-one map room count after = (one-result (result (pushed (pushin
 pub build-kbm-one : (map : List ℤ) (room : ℕ) (count : ℕ) (start : ℤ) (end : ℤ) (reference : ℤ) (hz : Float) (offset : ℤ) (given : Bool) (octave : ℤ) (entries : ℕ) (formal : ℤ) → One (λ r. r) (result (built (builderWith room count start end reference hz offset (octaveWith given octave)) map)) × (One (λ r. r) (kept (fieldOf (λ k. k .count) (built (builderWith room count start end reference hz offset (octaveWith given octave)) map)) entries) × One (λ r. r) (kept (fieldOf (λ k. k .octave) (built (builderWith room count start end reference hz offset (octaveWith given octave)) map)) formal))
 build-kbm-one map room count start end reference hz offset given octave entries formal = (one-result (result (built (builderWith room count start end reference hz offset (octaveWith given octave)) map)), (one-result (kept (fieldOf (λ k. k .count) (built (builderWith room count start end reference hz offset (octaveWith given octave)) map)) entries), one-result (kept (fieldOf (λ k. k .octave) (built (builderWith room count start end reference hz offset (octaveWith given octave)) map)) formal)))
 
-pub read-kbm-one : (text : List ℕ) (map : List ℤ) (count : ℕ) (start : ℤ) (end : ℤ) (reference : ℤ) (hz : Float) (offset : ℤ) (octave : ℤ) → One (λ r. r) (result (readOf (length map) text)) × (One (λ r. r) (afterRead text map) × (One (λ r. r) (kept (fieldOf (λ k. k .count) (readOf (length map) text)) count) × (One (λ r. r) (kept (fieldOf (λ k. k .start .0) (readOf (length map) text)) start) × (One (λ r. r) (kept (fieldOf (λ k. k .end .0) (readOf (length map) text)) end) × (One (λ r. r) (kept (fieldOf (λ k. k .root .reference .0) (readOf (length map) text)) reference) × (One (λ r. r) (kept (fieldOf (λ k. k .root .pitch .0) (readOf (length map) text)) hz) × (One (λ r. r) (kept (fieldOf (λ k. k .root .offset) (readOf (length map) text)) offset) × One (λ r. r) (kept (fieldOf (λ k. k .octave) (readOf (length map) text)) octave))))))))
-read-kbm-one text map count start end reference hz offset octave = (one-result (result (readOf (length map) text)), (one-result (afterRead text map), (one-result (kept (fieldOf (λ k. k .count) (readOf (length map) text)) count), (one-result (kept (fieldOf (λ k. k .start .0) (readOf (length map) text)) start), (one-result (kept (fieldOf (λ k. k .end .0) (readOf (length map) text)) end), (one-result (kept (fieldOf (λ k. k .root .reference .0) (readOf (length map) text)) reference), (one-result (kept (fieldOf (λ k. k .root .pitch .0) (readOf (length map) text)) hz), (one-result (kept (fieldOf (λ k. k .root .offset) (readOf (length map) text)) offset), one-result (kept (fieldOf (λ k. k .octave) (readOf (length map) text)) octave)))))))))
+pub read-kbm-one : (text : List ℕ) (map : List ℤ) (old : Kbm) →
+    One (λ r. r) (result (readOf (length map) text)) × One (λ r. r) (afterRead text map) × One (λ r. r) (kept (readOf (length map) text) old)
+read-kbm-one text map old =
+    (one-result (result (readOf (length map) text)), one-result (afterRead text map), one-result (kept (readOf (length map) text) old))

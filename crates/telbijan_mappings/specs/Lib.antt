@@ -1,1 +1,2 @@
 pub mod Mappings
+pub mod Calls

@@ -9,17 +9,11 @@ use kbm_build::Octave;
 use key::PianoKey;
 use pitch::Pitch;
 ghost use mathlib.Core.Path.{_≡_};
-ghost use lib.ListN.{length};
-ghost use Rattle.base.specs.Tables.{after};
 ghost use Rattle.key.specs.Keys.{key};
-ghost use Rattle.kbm.specs.Degree.{scaleDegreeOf};
 ghost use Rattle.kbm.specs.Root.{rootOf};
 ghost use Rattle.kbm.specs.declared.Entry.the-variants.{Mapped, Unmapped};
-ghost use Rattle.kbm_build.specs.Builder.{pushed, afterPush, built};
-ghost use Rattle.kbm_read.specs.Reader.{readOf, afterRead};
-ghost use Rattle.writing.specs.Fitted.{textLength};
-ghost use Rattle.kbm_write.specs.Export.{exportOf};
-ghost use Rattle.telbijan_answers.specs.Interface.{result, kept, fieldOf};
+ghost use Rattle.telbijan_answers.specs.Calls.{Answered};
+ghost use Rattle.telbijan_mappings.specs.Calls.{ScaleDegreeOf, ExportKbm, PushKey, BuildKbm, ReadKbm};
 ghost use Rattle.telbijan_mappings.specs.Mappings.{rootWith, mappingWith, octaveWith, builderWith, pushingWith};
 
 // The root of its numbers.
@@ -73,8 +67,8 @@ pub extern "C" fn telbijan_scale_degree_of(
     number: i32,
     degree: &mut i32,
 ) -> u64
-    ensures { λ r. ⌜ r ≡ result (scaleDegreeOf (mappingWith count start end reference hz offset octave) (now (map .entry)) (key number)) ⌝ }
-    ensures { λ _. ⌜ now (degree .exit) ≡ kept (scaleDegreeOf (mappingWith count start end reference hz offset octave) (now (map .entry)) (key number)) (now (degree .entry)) ⌝ }
+    ensures { λ r. ⌜ ScaleDegreeOf (now (map .entry)) (mappingWith count start end reference hz offset octave) number
+        (now (degree .entry)) r (now (degree .exit)) ⌝ }
 {
     let kbm = mapping_with(count, start, end, reference, hz, offset, octave);
     telbijan_answers::store_degree(kbm::scale_degree_of(kbm, map, PianoKey(number)), degree)
@@ -96,9 +90,8 @@ pub extern "C" fn telbijan_export_kbm(
     out: &mut [u8],
     written: &mut usize,
 ) -> u64
-    ensures { λ r. ⌜ r ≡ result (textLength (exportOf (mappingWith count start end reference hz offset octave) (now (map .entry)) (length (now (out .entry))))) ⌝ }
-    ensures { λ _. ⌜ now (out .exit) ≡ after (exportOf (mappingWith count start end reference hz offset octave) (now (map .entry)) (length (now (out .entry)))) (λ t. t) (now (out .entry)) ⌝ }
-    ensures { λ _. ⌜ now (written .exit) ≡ kept (textLength (exportOf (mappingWith count start end reference hz offset octave) (now (map .entry)) (length (now (out .entry))))) (now (written .entry)) ⌝ }
+    ensures { λ r. ⌜ ExportKbm (now (map .entry)) (mappingWith count start end reference hz offset octave)
+        (now (out .entry)) (now (written .entry)) r (now (out .exit)) (now (written .exit)) ⌝ }
 {
     let kbm = mapping_with(count, start, end, reference, hz, offset, octave);
     telbijan_answers::store_size(kbm_write::export_kbm(kbm, map, out), written)
@@ -107,7 +100,7 @@ pub extern "C" fn telbijan_export_kbm(
 // Whether a mapping's root can be used: 10 for a pitch outside 2^-10..2^20.
 #[no_mangle]
 pub extern "C" fn telbijan_kbm_root(reference: i32, hz: f64, offset: i32) -> u64
-    ensures { λ r. ⌜ r ≡ result (rootOf (key reference) (record { 0 = hz }) offset) ⌝ }
+    ensures { λ r. ⌜ Answered (rootOf (key reference) (record { 0 = hz }) offset) r ⌝ }
 {
     match KbmRoot::new(PianoKey(reference), Pitch(hz), offset) {
         RootAnswer::Is(_) => 0,
@@ -143,9 +136,7 @@ pub extern "C" fn telbijan_push_mapped_key(
     degree: i16,
     after: &mut usize,
 ) -> u64
-    ensures { λ r. ⌜ r ≡ result (pushed (pushingWith room count) (now (map .entry))) ⌝ }
-    ensures { λ _. ⌜ now (map .exit) ≡ afterPush (pushingWith room count) (now (map .entry)) (Mapped degree) ⌝ }
-    ensures { λ _. ⌜ now (after .exit) ≡ kept (fieldOf (λ b. b .count) (pushed (pushingWith room count) (now (map .entry)))) (now (after .entry)) ⌝ }
+    ensures { λ r. ⌜ PushKey (Mapped degree) (now (map .entry)) room count (now (after .entry)) r (now (map .exit)) (now (after .exit)) ⌝ }
 {
     match pushing(room, count).push_mapped_key(map, degree) {
         BuilderAnswer::Is(builder) => {
@@ -165,9 +156,7 @@ pub extern "C" fn telbijan_push_unmapped_key(
     count: usize,
     after: &mut usize,
 ) -> u64
-    ensures { λ r. ⌜ r ≡ result (pushed (pushingWith room count) (now (map .entry))) ⌝ }
-    ensures { λ _. ⌜ now (map .exit) ≡ afterPush (pushingWith room count) (now (map .entry)) Unmapped ⌝ }
-    ensures { λ _. ⌜ now (after .exit) ≡ kept (fieldOf (λ b. b .count) (pushed (pushingWith room count) (now (map .entry)))) (now (after .entry)) ⌝ }
+    ensures { λ r. ⌜ PushKey Unmapped (now (map .entry)) room count (now (after .entry)) r (now (map .exit)) (now (after .exit)) ⌝ }
 {
     match pushing(room, count).push_unmapped_key(map) {
         BuilderAnswer::Is(builder) => {
@@ -208,9 +197,8 @@ pub extern "C" fn telbijan_build_kbm(
     entries: &mut u16,
     formal: &mut i16,
 ) -> u64
-    ensures { λ r. ⌜ r ≡ result (built (builderWith room count start end reference hz offset (octaveWith given octave)) (now (map .entry))) ⌝ }
-    ensures { λ _. ⌜ now (entries .exit) ≡ kept (fieldOf (λ k. k .count) (built (builderWith room count start end reference hz offset (octaveWith given octave)) (now (map .entry)))) (now (entries .entry)) ⌝ }
-    ensures { λ _. ⌜ now (formal .exit) ≡ kept (fieldOf (λ k. k .octave) (built (builderWith room count start end reference hz offset (octaveWith given octave)) (now (map .entry)))) (now (formal .entry)) ⌝ }
+    ensures { λ r. ⌜ BuildKbm (now (map .entry)) (builderWith room count start end reference hz offset (octaveWith given octave))
+        (now (entries .entry)) (now (formal .entry)) r (now (entries .exit)) (now (formal .exit)) ⌝ }
 {
     let builder = KbmBuilder {
         root: KbmRoot {
@@ -251,15 +239,12 @@ pub extern "C" fn telbijan_read_kbm(
     offset: &mut i32,
     octave: &mut i16,
 ) -> u64
-    ensures { λ r. ⌜ r ≡ result (readOf (length (now (map .entry))) (now (text .entry))) ⌝ }
-    ensures { λ _. ⌜ now (map .exit) ≡ afterRead (now (text .entry)) (now (map .entry)) ⌝ }
-    ensures { λ _. ⌜ now (count .exit) ≡ kept (fieldOf (λ k. k .count) (readOf (length (now (map .entry))) (now (text .entry)))) (now (count .entry)) ⌝ }
-    ensures { λ _. ⌜ now (start .exit) ≡ kept (fieldOf (λ k. k .start .0) (readOf (length (now (map .entry))) (now (text .entry)))) (now (start .entry)) ⌝ }
-    ensures { λ _. ⌜ now (end .exit) ≡ kept (fieldOf (λ k. k .end .0) (readOf (length (now (map .entry))) (now (text .entry)))) (now (end .entry)) ⌝ }
-    ensures { λ _. ⌜ now (reference .exit) ≡ kept (fieldOf (λ k. k .root .reference .0) (readOf (length (now (map .entry))) (now (text .entry)))) (now (reference .entry)) ⌝ }
-    ensures { λ _. ⌜ now (hz .exit) ≡ kept (fieldOf (λ k. k .root .pitch .0) (readOf (length (now (map .entry))) (now (text .entry)))) (now (hz .entry)) ⌝ }
-    ensures { λ _. ⌜ now (offset .exit) ≡ kept (fieldOf (λ k. k .root .offset) (readOf (length (now (map .entry))) (now (text .entry)))) (now (offset .entry)) ⌝ }
-    ensures { λ _. ⌜ now (octave .exit) ≡ kept (fieldOf (λ k. k .octave) (readOf (length (now (map .entry))) (now (text .entry)))) (now (octave .entry)) ⌝ }
+    ensures { λ r. ⌜ ReadKbm (now (text .entry)) (now (map .entry))
+        (mappingWith (now (count .entry)) (now (start .entry)) (now (end .entry)) (now (reference .entry)) (now (hz .entry))
+        (now (offset .entry)) (now (octave .entry)))
+        r (now (map .exit))
+        (mappingWith (now (count .exit)) (now (start .exit)) (now (end .exit)) (now (reference .exit)) (now (hz .exit))
+        (now (offset .exit)) (now (octave .exit))) ⌝ }
 {
     match kbm_read::read_kbm(text, map) {
         KbmAnswer::Is(kbm) => {

@@ -5,17 +5,18 @@ use pitch::OrderAnswer;
 use pitch::Pitch;
 use pitch::Ratio;
 ghost use mathlib.Core.Path.{_≡_};
-ghost use Rattle.fraction.specs.NearestFraction.{nearestFraction};
 ghost use Rattle.pitch.specs.Pitches.{fromHz, pitchTimes, pitchOver, betweenPitches};
-ghost use Rattle.pitch.specs.Ratios.{fromFloat, fromOctaves, fromSemitones, fromCents, asOctaves, asSemitones, asCents, stretchedBy, deviationFrom, repeated, dividedInto, stepsOfSize, inverse, absolute, isNegligible, totalCmp};
-ghost use Rattle.telbijan_answers.specs.Interface.{result, kept, fieldOf};
+ghost use Rattle.pitch.specs.Ratios.{fromFloat, fromOctaves, fromSemitones, fromCents, asOctaves, asSemitones, asCents};
+ghost use Rattle.pitch.specs.Ratios.{stretchedBy, deviationFrom, repeated, dividedInto, stepsOfSize, inverse, absolute};
+ghost use Rattle.pitch.specs.Ratios.{isNegligible, totalCmp};
+ghost use Rattle.telbijan_answers.specs.Calls.{Stored, StoredPart};
+ghost use Rattle.telbijan_numbers.specs.Calls.{RatioNearestFraction};
 ghost use Rattle.telbijan_numbers.specs.Orders.{orderNumber};
 
 // The ratio of a number; 10 outside 2^-900..2^900.
 #[no_mangle]
 pub extern "C" fn telbijan_ratio_from_float(value: f64, ratio: &mut f64) -> u64
-    ensures { λ r. ⌜ r ≡ result (fromFloat value) ⌝ }
-    ensures { λ _. ⌜ now (ratio .exit) ≡ kept (fromFloat value) (now (ratio .entry)) ⌝ }
+    ensures { λ r. ⌜ Stored (fromFloat value) (now (ratio .entry)) r (now (ratio .exit)) ⌝ }
 {
     telbijan_answers::store_ratio(Ratio::from_float(value), ratio)
 }
@@ -23,8 +24,7 @@ pub extern "C" fn telbijan_ratio_from_float(value: f64, ratio: &mut f64) -> u64
 // The ratio of so many octaves; 18 outside -900..900.
 #[no_mangle]
 pub extern "C" fn telbijan_ratio_from_octaves(octaves: f64, ratio: &mut f64) -> u64
-    ensures { λ r. ⌜ r ≡ result (fromOctaves octaves) ⌝ }
-    ensures { λ _. ⌜ now (ratio .exit) ≡ kept (fromOctaves octaves) (now (ratio .entry)) ⌝ }
+    ensures { λ r. ⌜ Stored (fromOctaves octaves) (now (ratio .entry)) r (now (ratio .exit)) ⌝ }
 {
     telbijan_answers::store_ratio(Ratio::from_octaves(octaves), ratio)
 }
@@ -32,8 +32,7 @@ pub extern "C" fn telbijan_ratio_from_octaves(octaves: f64, ratio: &mut f64) -> 
 // The ratio of so many semitones; 18.
 #[no_mangle]
 pub extern "C" fn telbijan_ratio_from_semitones(semitones: f64, ratio: &mut f64) -> u64
-    ensures { λ r. ⌜ r ≡ result (fromSemitones semitones) ⌝ }
-    ensures { λ _. ⌜ now (ratio .exit) ≡ kept (fromSemitones semitones) (now (ratio .entry)) ⌝ }
+    ensures { λ r. ⌜ Stored (fromSemitones semitones) (now (ratio .entry)) r (now (ratio .exit)) ⌝ }
 {
     telbijan_answers::store_ratio(Ratio::from_semitones(semitones), ratio)
 }
@@ -41,8 +40,7 @@ pub extern "C" fn telbijan_ratio_from_semitones(semitones: f64, ratio: &mut f64)
 // The ratio of so many cents; 18.
 #[no_mangle]
 pub extern "C" fn telbijan_ratio_from_cents(cents: f64, ratio: &mut f64) -> u64
-    ensures { λ r. ⌜ r ≡ result (fromCents cents) ⌝ }
-    ensures { λ _. ⌜ now (ratio .exit) ≡ kept (fromCents cents) (now (ratio .entry)) ⌝ }
+    ensures { λ r. ⌜ Stored (fromCents cents) (now (ratio .entry)) r (now (ratio .exit)) ⌝ }
 {
     telbijan_answers::store_ratio(Ratio::from_cents(cents), ratio)
 }
@@ -50,8 +48,7 @@ pub extern "C" fn telbijan_ratio_from_cents(cents: f64, ratio: &mut f64) -> u64
 // The ratio from the first pitch to the second; 10, 18.
 #[no_mangle]
 pub extern "C" fn telbijan_ratio_between_pitches(first: f64, second: f64, ratio: &mut f64) -> u64
-    ensures { λ r. ⌜ r ≡ result (betweenPitches first second) ⌝ }
-    ensures { λ _. ⌜ now (ratio .exit) ≡ kept (betweenPitches first second) (now (ratio .entry)) ⌝ }
+    ensures { λ r. ⌜ Stored (betweenPitches first second) (now (ratio .entry)) r (now (ratio .exit)) ⌝ }
 {
     telbijan_answers::store_ratio(Ratio::between_pitches(Pitch(first), Pitch(second)), ratio)
 }
@@ -59,8 +56,7 @@ pub extern "C" fn telbijan_ratio_between_pitches(first: f64, second: f64, ratio:
 // One ratio on top of another; 10, 18.
 #[no_mangle]
 pub extern "C" fn telbijan_ratio_stretched_by(value: f64, stretch: f64, ratio: &mut f64) -> u64
-    ensures { λ r. ⌜ r ≡ result (stretchedBy value stretch) ⌝ }
-    ensures { λ _. ⌜ now (ratio .exit) ≡ kept (stretchedBy value stretch) (now (ratio .entry)) ⌝ }
+    ensures { λ r. ⌜ Stored (stretchedBy value stretch) (now (ratio .entry)) r (now (ratio .exit)) ⌝ }
 {
     telbijan_answers::store_ratio(Ratio(value).stretched_by(Ratio(stretch)), ratio)
 }
@@ -68,8 +64,7 @@ pub extern "C" fn telbijan_ratio_stretched_by(value: f64, stretch: f64, ratio: &
 // How far a ratio is from another; 10, 18.
 #[no_mangle]
 pub extern "C" fn telbijan_ratio_deviation_from(value: f64, reference: f64, ratio: &mut f64) -> u64
-    ensures { λ r. ⌜ r ≡ result (deviationFrom value reference) ⌝ }
-    ensures { λ _. ⌜ now (ratio .exit) ≡ kept (deviationFrom value reference) (now (ratio .entry)) ⌝ }
+    ensures { λ r. ⌜ Stored (deviationFrom value reference) (now (ratio .entry)) r (now (ratio .exit)) ⌝ }
 {
     telbijan_answers::store_ratio(Ratio(value).deviation_from(Ratio(reference)), ratio)
 }
@@ -77,8 +72,7 @@ pub extern "C" fn telbijan_ratio_deviation_from(value: f64, reference: f64, rati
 // So many times the interval; 10, 18.
 #[no_mangle]
 pub extern "C" fn telbijan_ratio_repeated(value: f64, times: f64, ratio: &mut f64) -> u64
-    ensures { λ r. ⌜ r ≡ result (repeated value times) ⌝ }
-    ensures { λ _. ⌜ now (ratio .exit) ≡ kept (repeated value times) (now (ratio .entry)) ⌝ }
+    ensures { λ r. ⌜ Stored (repeated value times) (now (ratio .entry)) r (now (ratio .exit)) ⌝ }
 {
     telbijan_answers::store_ratio(Ratio(value).repeated(times), ratio)
 }
@@ -90,8 +84,7 @@ pub extern "C" fn telbijan_ratio_divided_into_equal_steps(
     steps: f64,
     ratio: &mut f64,
 ) -> u64
-    ensures { λ r. ⌜ r ≡ result (dividedInto value steps) ⌝ }
-    ensures { λ _. ⌜ now (ratio .exit) ≡ kept (dividedInto value steps) (now (ratio .entry)) ⌝ }
+    ensures { λ r. ⌜ Stored (dividedInto value steps) (now (ratio .entry)) r (now (ratio .exit)) ⌝ }
 {
     telbijan_answers::store_ratio(Ratio(value).divided_into_equal_steps(steps), ratio)
 }
@@ -103,8 +96,7 @@ pub extern "C" fn telbijan_ratio_num_equal_steps_of_size(
     step: f64,
     count: &mut f64,
 ) -> u64
-    ensures { λ r. ⌜ r ≡ result (stepsOfSize value step) ⌝ }
-    ensures { λ _. ⌜ now (count .exit) ≡ kept (stepsOfSize value step) (now (count .entry)) ⌝ }
+    ensures { λ r. ⌜ Stored (stepsOfSize value step) (now (count .entry)) r (now (count .exit)) ⌝ }
 {
     telbijan_answers::store_float(Ratio(value).num_equal_steps_of_size(Ratio(step)), count)
 }
@@ -112,8 +104,7 @@ pub extern "C" fn telbijan_ratio_num_equal_steps_of_size(
 // The octaves of a ratio; 10.
 #[no_mangle]
 pub extern "C" fn telbijan_ratio_as_octaves(value: f64, octaves: &mut f64) -> u64
-    ensures { λ r. ⌜ r ≡ result (asOctaves value) ⌝ }
-    ensures { λ _. ⌜ now (octaves .exit) ≡ kept (asOctaves value) (now (octaves .entry)) ⌝ }
+    ensures { λ r. ⌜ Stored (asOctaves value) (now (octaves .entry)) r (now (octaves .exit)) ⌝ }
 {
     telbijan_answers::store_float(Ratio(value).as_octaves(), octaves)
 }
@@ -121,8 +112,7 @@ pub extern "C" fn telbijan_ratio_as_octaves(value: f64, octaves: &mut f64) -> u6
 // The semitones of a ratio; 10.
 #[no_mangle]
 pub extern "C" fn telbijan_ratio_as_semitones(value: f64, semitones: &mut f64) -> u64
-    ensures { λ r. ⌜ r ≡ result (asSemitones value) ⌝ }
-    ensures { λ _. ⌜ now (semitones .exit) ≡ kept (asSemitones value) (now (semitones .entry)) ⌝ }
+    ensures { λ r. ⌜ Stored (asSemitones value) (now (semitones .entry)) r (now (semitones .exit)) ⌝ }
 {
     telbijan_answers::store_float(Ratio(value).as_semitones(), semitones)
 }
@@ -130,8 +120,7 @@ pub extern "C" fn telbijan_ratio_as_semitones(value: f64, semitones: &mut f64) -
 // The cents of a ratio; 10.
 #[no_mangle]
 pub extern "C" fn telbijan_ratio_as_cents(value: f64, cents: &mut f64) -> u64
-    ensures { λ r. ⌜ r ≡ result (asCents value) ⌝ }
-    ensures { λ _. ⌜ now (cents .exit) ≡ kept (asCents value) (now (cents .entry)) ⌝ }
+    ensures { λ r. ⌜ Stored (asCents value) (now (cents .entry)) r (now (cents .exit)) ⌝ }
 {
     telbijan_answers::store_float(Ratio(value).as_cents(), cents)
 }
@@ -139,8 +128,7 @@ pub extern "C" fn telbijan_ratio_as_cents(value: f64, cents: &mut f64) -> u64
 // The interval turned over; 10.
 #[no_mangle]
 pub extern "C" fn telbijan_ratio_inv(value: f64, ratio: &mut f64) -> u64
-    ensures { λ r. ⌜ r ≡ result (inverse value) ⌝ }
-    ensures { λ _. ⌜ now (ratio .exit) ≡ kept (inverse value) (now (ratio .entry)) ⌝ }
+    ensures { λ r. ⌜ Stored (inverse value) (now (ratio .entry)) r (now (ratio .exit)) ⌝ }
 {
     telbijan_answers::store_ratio(Ratio(value).inv(), ratio)
 }
@@ -148,8 +136,7 @@ pub extern "C" fn telbijan_ratio_inv(value: f64, ratio: &mut f64) -> u64
 // The interval upwards; 10.
 #[no_mangle]
 pub extern "C" fn telbijan_ratio_abs(value: f64, ratio: &mut f64) -> u64
-    ensures { λ r. ⌜ r ≡ result (absolute value) ⌝ }
-    ensures { λ _. ⌜ now (ratio .exit) ≡ kept (absolute value) (now (ratio .entry)) ⌝ }
+    ensures { λ r. ⌜ Stored (absolute value) (now (ratio .entry)) r (now (ratio .exit)) ⌝ }
 {
     telbijan_answers::store_ratio(Ratio(value).abs(), ratio)
 }
@@ -157,8 +144,7 @@ pub extern "C" fn telbijan_ratio_abs(value: f64, ratio: &mut f64) -> u64
 // The pitch of a number in Hz; 10 outside 2^-900..2^900.
 #[no_mangle]
 pub extern "C" fn telbijan_pitch_from_hz(value: f64, hz: &mut f64) -> u64
-    ensures { λ r. ⌜ r ≡ result (fromHz value) ⌝ }
-    ensures { λ _. ⌜ now (hz .exit) ≡ kept (fromHz value) (now (hz .entry)) ⌝ }
+    ensures { λ r. ⌜ Stored (fromHz value) (now (hz .entry)) r (now (hz .exit)) ⌝ }
 {
     telbijan_answers::store_pitch(Pitch::from_hz(value), hz)
 }
@@ -166,8 +152,7 @@ pub extern "C" fn telbijan_pitch_from_hz(value: f64, hz: &mut f64) -> u64
 // The pitch that much higher; 10, 18.
 #[no_mangle]
 pub extern "C" fn telbijan_pitch_times_ratio(value: f64, ratio: f64, hz: &mut f64) -> u64
-    ensures { λ r. ⌜ r ≡ result (pitchTimes value ratio) ⌝ }
-    ensures { λ _. ⌜ now (hz .exit) ≡ kept (pitchTimes value ratio) (now (hz .entry)) ⌝ }
+    ensures { λ r. ⌜ Stored (pitchTimes value ratio) (now (hz .entry)) r (now (hz .exit)) ⌝ }
 {
     telbijan_answers::store_pitch(Pitch(value).times(Ratio(ratio)), hz)
 }
@@ -175,8 +160,7 @@ pub extern "C" fn telbijan_pitch_times_ratio(value: f64, ratio: f64, hz: &mut f6
 // The pitch that much lower; 10, 18.
 #[no_mangle]
 pub extern "C" fn telbijan_pitch_over_ratio(value: f64, ratio: f64, hz: &mut f64) -> u64
-    ensures { λ r. ⌜ r ≡ result (pitchOver value ratio) ⌝ }
-    ensures { λ _. ⌜ now (hz .exit) ≡ kept (pitchOver value ratio) (now (hz .entry)) ⌝ }
+    ensures { λ r. ⌜ Stored (pitchOver value ratio) (now (hz .entry)) r (now (hz .exit)) ⌝ }
 {
     telbijan_answers::store_pitch(Pitch(value).over(Ratio(ratio)), hz)
 }
@@ -184,8 +168,7 @@ pub extern "C" fn telbijan_pitch_over_ratio(value: f64, ratio: f64, hz: &mut f64
 // Whether a ratio is as good as a unison; 10.
 #[no_mangle]
 pub extern "C" fn telbijan_ratio_is_negligible(value: f64, negligible: &mut bool) -> u64
-    ensures { λ r. ⌜ r ≡ result (isNegligible value) ⌝ }
-    ensures { λ _. ⌜ now (negligible .exit) ≡ kept (isNegligible value) (now (negligible .entry)) ⌝ }
+    ensures { λ r. ⌜ Stored (isNegligible value) (now (negligible .entry)) r (now (negligible .exit)) ⌝ }
 {
     telbijan_answers::store_bool(Ratio(value).is_negligible(), negligible)
 }
@@ -204,8 +187,7 @@ fn order_number(order: Order) -> i32
 // Whether a ratio is lower than another (-1), the same (0) or higher (1); 10.
 #[no_mangle]
 pub extern "C" fn telbijan_ratio_total_cmp(value: f64, other: f64, order: &mut i32) -> u64
-    ensures { λ r. ⌜ r ≡ result (totalCmp value other) ⌝ }
-    ensures { λ _. ⌜ now (order .exit) ≡ kept (fieldOf orderNumber (totalCmp value other)) (now (order .entry)) ⌝ }
+    ensures { λ r. ⌜ StoredPart orderNumber (totalCmp value other) (now (order .entry)) r (now (order .exit)) ⌝ }
 {
     match Ratio(value).total_cmp(Ratio(other)) {
         OrderAnswer::Is(answer) => {
@@ -227,11 +209,9 @@ pub extern "C" fn telbijan_ratio_nearest_fraction(
     deviation: &mut f64,
     octaves: &mut i32,
 ) -> u64
-    ensures { λ r. ⌜ r ≡ result (nearestFraction value limit) ⌝ }
-    ensures { λ _. ⌜ now (numer .exit) ≡ kept (fieldOf (λ f. f .numer) (nearestFraction value limit)) (now (numer .entry)) ⌝ }
-    ensures { λ _. ⌜ now (denom .exit) ≡ kept (fieldOf (λ f. f .denom) (nearestFraction value limit)) (now (denom .entry)) ⌝ }
-    ensures { λ _. ⌜ now (deviation .exit) ≡ kept (fieldOf (λ f. f .deviation .0) (nearestFraction value limit)) (now (deviation .entry)) ⌝ }
-    ensures { λ _. ⌜ now (octaves .exit) ≡ kept (fieldOf (λ f. f .«num_octaves») (nearestFraction value limit)) (now (octaves .entry)) ⌝ }
+    ensures { λ r. ⌜ RatioNearestFraction value limit
+        (now (numer .entry)) (now (denom .entry)) (now (deviation .entry)) (now (octaves .entry)) r
+        (now (numer .exit)) (now (denom .exit)) (now (deviation .exit)) (now (octaves .exit)) ⌝ }
 {
     match fraction::nearest_fraction(Ratio(value), limit) {
         NearestAnswer::Is(answer) => {

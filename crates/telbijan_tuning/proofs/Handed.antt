@@ -6,11 +6,13 @@ use lib.Ieee.{Float}
 use Rattle.base.specs.Said.{Said}
 use Rattle.searching.specs.declared.approximation.Approximation.{Approximation}
 use Rattle.telbijan_answers.specs.Interface.{result, kept, fieldOf}
+use Rattle.telbijan_tuning.specs.Calls.{Searched}
 
 pub handed-both :
     {X : Type 0} (says : X → Said Approximation) (x : X) {s : Said Approximation} {n : ℕ} {v : ℤ} {w : Float} (number : ℤ) (deviation : Float) →
-    says x ≡ s →
-    (n ≡ result (says x)) × ((v ≡ kept (fieldOf (λ a. a .«approx_value») (says x)) number) × (w ≡ kept (fieldOf (λ a. a .deviation) (says x)) deviation)) →
-    (n ≡ result s) × ((v ≡ kept (fieldOf (λ a. a .«approx_value») s) number) × (w ≡ kept (fieldOf (λ a. a .deviation) s) deviation))
-handed-both says x number deviation told e =
-    (e .0 ∙ ap result told, (e .1 .0 ∙ ap (λ t. kept (fieldOf (λ a. a .«approx_value») t) number) told, e .1 .1 ∙ ap (λ t. kept (fieldOf (λ a. a .deviation) t) deviation) told))
+    says x ≡ s → Searched (says x) number deviation n v w → Searched s number deviation n v w
+handed-both says x number deviation told e = (
+  e .0 ∙ ap result told,
+  e .1 ∙ ap (λ t. kept (fieldOf (λ a. a .«approx_value») t) number) told,
+  e .2 ∙ ap (λ t. kept (fieldOf (λ a. a .deviation) t) deviation) told,
+)

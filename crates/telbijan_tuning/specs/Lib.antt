@@ -1,2 +1,3 @@
 pub mod Tunings
 pub mod Searches
+pub mod Calls

@@ -5,15 +5,14 @@ use key::Degree;
 use key::PianoKey;
 use scl::Scl;
 use tuning::key_pitches::RunAnswer;
-ghost use mathlib.Core.Path.{_≡_};
-ghost use lib.ListN.{length};
 ghost use Rattle.key.specs.Keys.{key};
-ghost use Rattle.tuning.specs.Run.{saysRun, keyPitches, runOf, afterHz, afterNumbers};
-ghost use Rattle.scl.specs.Table.{itemTable, itemsIn};
-ghost use Rattle.sorted.specs.Lent.{listTable};
-ghost use Rattle.telbijan_answers.specs.Interface.{result, kept};
+ghost use Rattle.tuning.specs.Run.{saysRun};
+ghost use Rattle.telbijan_answers.specs.Calls.{Answered, Stored};
+ghost use Rattle.telbijan_answers.specs.Lent.{itemsBefore, listBefore};
 ghost use Rattle.telbijan_mappings.specs.Mappings.{rootWith, mappingWith};
-ghost use Rattle.telbijan_tuning.specs.Tunings.{periodSaid, relativeSaid, sortedRelativeSaid, pitchSaid, keyPitchSaid, sortedPitchSaid, maybePitchSaid, maybeDegreePitchSaid};
+ghost use Rattle.telbijan_tuning.specs.Calls.{PitchesOf};
+ghost use Rattle.telbijan_tuning.specs.Tunings.{periodSaid, relativeSaid, sortedRelativeSaid, pitchSaid, keyPitchSaid};
+ghost use Rattle.telbijan_tuning.specs.Tunings.{sortedPitchSaid, maybePitchSaid, maybeDegreePitchSaid};
 
 // The period of a scale, the ratio of its last item, stored; of a scale without items that of place 0. 10 for items that cannot be used.
 #[no_mangle]
@@ -25,8 +24,7 @@ pub extern "C" fn telbijan_period(
     count: u16,
     period: &mut f64,
 ) -> u64
-    ensures { λ r. ⌜ r ≡ result (periodSaid count (itemTable (now (kind .entry)) (now (cents .entry)) (now (numer .entry)) (now (denom .entry)))) ⌝ }
-    ensures { λ _. ⌜ now (period .exit) ≡ kept (periodSaid count (itemTable (now (kind .entry)) (now (cents .entry)) (now (numer .entry)) (now (denom .entry)))) (now (period .entry)) ⌝ }
+    ensures { λ r. ⌜ Stored (periodSaid count (itemsBefore kind cents numer denom)) (now (period .entry)) r (now (period .exit)) ⌝ }
 {
     let scl = Scl { count };
     telbijan_answers::store_ratio(relative::period(scl, kind, cents, numer, denom), period)
@@ -43,8 +41,8 @@ pub extern "C" fn telbijan_relative_pitch_of(
     degree: i32,
     relative: &mut f64,
 ) -> u64
-    ensures { λ r. ⌜ r ≡ result (relativeSaid count (itemTable (now (kind .entry)) (now (cents .entry)) (now (numer .entry)) (now (denom .entry))) degree) ⌝ }
-    ensures { λ _. ⌜ now (relative .exit) ≡ kept (relativeSaid count (itemTable (now (kind .entry)) (now (cents .entry)) (now (numer .entry)) (now (denom .entry))) degree) (now (relative .entry)) ⌝ }
+    ensures { λ r. ⌜ Stored (relativeSaid count (itemsBefore kind cents numer denom) degree)
+        (now (relative .entry)) r (now (relative .exit)) ⌝ }
 {
     let scl = Scl { count };
     telbijan_answers::store_ratio(
@@ -67,8 +65,8 @@ pub extern "C" fn telbijan_sorted_relative_pitch_of(
     degree: i32,
     relative: &mut f64,
 ) -> u64
-    ensures { λ r. ⌜ r ≡ result (sortedRelativeSaid count (itemTable (now (kind .entry)) (now (cents .entry)) (now (numer .entry)) (now (denom .entry))) (listTable (now (place .entry)) (now (ratio .entry)) (now (wraps .entry))) degree) ⌝ }
-    ensures { λ _. ⌜ now (relative .exit) ≡ kept (sortedRelativeSaid count (itemTable (now (kind .entry)) (now (cents .entry)) (now (numer .entry)) (now (denom .entry))) (listTable (now (place .entry)) (now (ratio .entry)) (now (wraps .entry))) degree) (now (relative .entry)) ⌝ }
+    ensures { λ r. ⌜ Stored (sortedRelativeSaid count (itemsBefore kind cents numer denom) (listBefore place ratio wraps) degree)
+        (now (relative .entry)) r (now (relative .exit)) ⌝ }
 {
     let scl = Scl { count };
     telbijan_answers::store_ratio(
@@ -102,8 +100,8 @@ pub extern "C" fn telbijan_pitch_of(
     degree: i32,
     pitch: &mut f64,
 ) -> u64
-    ensures { λ r. ⌜ r ≡ result (pitchSaid count (itemTable (now (kind .entry)) (now (cents .entry)) (now (numer .entry)) (now (denom .entry))) (rootWith reference hz offset) degree) ⌝ }
-    ensures { λ _. ⌜ now (pitch .exit) ≡ kept (pitchSaid count (itemTable (now (kind .entry)) (now (cents .entry)) (now (numer .entry)) (now (denom .entry))) (rootWith reference hz offset) degree) (now (pitch .entry)) ⌝ }
+    ensures { λ r. ⌜ Stored (pitchSaid count (itemsBefore kind cents numer denom) (rootWith reference hz offset) degree)
+        (now (pitch .entry)) r (now (pitch .exit)) ⌝ }
 {
     let scl = Scl { count };
     let root = telbijan_mappings::root_with(reference, hz, offset);
@@ -128,8 +126,8 @@ pub extern "C" fn telbijan_pitch_of_key(
     number: i32,
     pitch: &mut f64,
 ) -> u64
-    ensures { λ r. ⌜ r ≡ result (keyPitchSaid count (itemTable (now (kind .entry)) (now (cents .entry)) (now (numer .entry)) (now (denom .entry))) (rootWith reference hz offset) (key number)) ⌝ }
-    ensures { λ _. ⌜ now (pitch .exit) ≡ kept (keyPitchSaid count (itemTable (now (kind .entry)) (now (cents .entry)) (now (numer .entry)) (now (denom .entry))) (rootWith reference hz offset) (key number)) (now (pitch .entry)) ⌝ }
+    ensures { λ r. ⌜ Stored (keyPitchSaid count (itemsBefore kind cents numer denom) (rootWith reference hz offset) (key number))
+        (now (pitch .entry)) r (now (pitch .exit)) ⌝ }
 {
     let scl = Scl { count };
     let root = telbijan_mappings::root_with(reference, hz, offset);
@@ -156,8 +154,8 @@ pub extern "C" fn telbijan_sorted_pitch_of(
     degree: i32,
     pitch: &mut f64,
 ) -> u64
-    ensures { λ r. ⌜ r ≡ result (sortedPitchSaid count (itemTable (now (kind .entry)) (now (cents .entry)) (now (numer .entry)) (now (denom .entry))) (listTable (now (place .entry)) (now (ratio .entry)) (now (wraps .entry))) (rootWith reference hz offset) degree) ⌝ }
-    ensures { λ _. ⌜ now (pitch .exit) ≡ kept (sortedPitchSaid count (itemTable (now (kind .entry)) (now (cents .entry)) (now (numer .entry)) (now (denom .entry))) (listTable (now (place .entry)) (now (ratio .entry)) (now (wraps .entry))) (rootWith reference hz offset) degree) (now (pitch .entry)) ⌝ }
+    ensures { λ r. ⌜ Stored (sortedPitchSaid count (itemsBefore kind cents numer denom) (listBefore place ratio wraps)
+        (rootWith reference hz offset) degree) (now (pitch .entry)) r (now (pitch .exit)) ⌝ }
 {
     let scl = Scl { count };
     let root = telbijan_mappings::root_with(reference, hz, offset);
@@ -198,8 +196,9 @@ pub extern "C" fn telbijan_maybe_pitch_of(
     number: i32,
     pitch: &mut f64,
 ) -> u64
-    ensures { λ r. ⌜ r ≡ result (maybePitchSaid count (itemTable (now (kind .entry)) (now (cents .entry)) (now (numer .entry)) (now (denom .entry))) (mappingWith size start end reference hz offset octave) (now (map .entry)) (key number)) ⌝ }
-    ensures { λ _. ⌜ now (pitch .exit) ≡ kept (maybePitchSaid count (itemTable (now (kind .entry)) (now (cents .entry)) (now (numer .entry)) (now (denom .entry))) (mappingWith size start end reference hz offset octave) (now (map .entry)) (key number)) (now (pitch .entry)) ⌝ }
+    ensures { λ r. ⌜ Stored (maybePitchSaid count (itemsBefore kind cents numer denom)
+        (mappingWith size start end reference hz offset octave) (now (map .entry)) (key number))
+        (now (pitch .entry)) r (now (pitch .exit)) ⌝ }
 {
     let scl = Scl { count };
     let kbm = telbijan_mappings::mapping_with(size, start, end, reference, hz, offset, octave);
@@ -228,8 +227,9 @@ pub extern "C" fn telbijan_maybe_pitch_of_degree(
     degree: i32,
     pitch: &mut f64,
 ) -> u64
-    ensures { λ r. ⌜ r ≡ result (maybeDegreePitchSaid count (itemTable (now (kind .entry)) (now (cents .entry)) (now (numer .entry)) (now (denom .entry))) (mappingWith size start end reference hz offset octave) (now (map .entry)) degree) ⌝ }
-    ensures { λ _. ⌜ now (pitch .exit) ≡ kept (maybeDegreePitchSaid count (itemTable (now (kind .entry)) (now (cents .entry)) (now (numer .entry)) (now (denom .entry))) (mappingWith size start end reference hz offset octave) (now (map .entry)) degree) (now (pitch .entry)) ⌝ }
+    ensures { λ r. ⌜ Stored (maybeDegreePitchSaid count (itemsBefore kind cents numer denom)
+        (mappingWith size start end reference hz offset octave) (now (map .entry)) degree)
+        (now (pitch .entry)) r (now (pitch .exit)) ⌝ }
 {
     let scl = Scl { count };
     let kbm = telbijan_mappings::mapping_with(size, start, end, reference, hz, offset, octave);
@@ -241,7 +241,7 @@ pub extern "C" fn telbijan_maybe_pitch_of_degree(
 
 // The result of a run of keys.
 fn code_of_run(said: RunAnswer) -> u64
-    ensures { λ r. ⌜ r ≡ result (saysRun said) ⌝ }
+    ensures { λ r. ⌜ Answered (saysRun said) r ⌝ }
 {
     match said {
         RunAnswer::Done => 0,
@@ -272,9 +272,8 @@ pub extern "C" fn telbijan_pitches_of(
     pitches: &mut [f64],
     numbers: &mut [u32],
 ) -> u64
-    ensures { λ r. ⌜ r ≡ result (runOf count (itemTable (now (kind .entry)) (now (cents .entry)) (now (numer .entry)) (now (denom .entry))) (mappingWith size start end reference hz offset octave) (now (map .entry)) keys (length (now (pitches .entry))) (length (now (numbers .entry)))) ⌝ }
-    ensures { λ _. ⌜ now (pitches .exit) ≡ afterHz (runOf count (itemTable (now (kind .entry)) (now (cents .entry)) (now (numer .entry)) (now (denom .entry))) (mappingWith size start end reference hz offset octave) (now (map .entry)) keys (length (now (pitches .entry))) (length (now (numbers .entry)))) (keyPitches (itemsIn count (itemTable (now (kind .entry)) (now (cents .entry)) (now (numer .entry)) (now (denom .entry)))) (mappingWith size start end reference hz offset octave) (now (map .entry)) (key first)) keys (now (pitches .entry)) ⌝ }
-    ensures { λ _. ⌜ now (numbers .exit) ≡ afterNumbers (runOf count (itemTable (now (kind .entry)) (now (cents .entry)) (now (numer .entry)) (now (denom .entry))) (mappingWith size start end reference hz offset octave) (now (map .entry)) keys (length (now (pitches .entry))) (length (now (numbers .entry)))) (keyPitches (itemsIn count (itemTable (now (kind .entry)) (now (cents .entry)) (now (numer .entry)) (now (denom .entry)))) (mappingWith size start end reference hz offset octave) (now (map .entry)) (key first)) keys (now (numbers .entry)) ⌝ }
+    ensures { λ r. ⌜ PitchesOf count (itemsBefore kind cents numer denom) (mappingWith size start end reference hz offset octave)
+        (now (map .entry)) first keys (now (pitches .entry)) (now (numbers .entry)) r (now (pitches .exit)) (now (numbers .exit)) ⌝ }
 {
     let scl = Scl { count };
     let kbm = telbijan_mappings::mapping_with(size, start, end, reference, hz, offset, octave);

@@ -4,19 +4,16 @@ use pitch::Ratio;
 use scl::Scl;
 use searching::approximation::DegreeSearch;
 use searching::approximation::KeySearch;
-ghost use mathlib.Core.Path.{_≡_};
 ghost use Rattle.searching.specs.DegreeAnswers.{saysDegreeSearch, saysKeySearch};
-ghost use Rattle.scl.specs.Table.{itemTable};
-ghost use Rattle.sorted.specs.Lent.{listTable};
-ghost use Rattle.telbijan_answers.specs.Interface.{result, kept, fieldOf};
+ghost use Rattle.telbijan_answers.specs.Lent.{itemsBefore, listBefore};
 ghost use Rattle.telbijan_mappings.specs.Mappings.{rootWith};
+ghost use Rattle.telbijan_tuning.specs.Calls.{Searched};
 ghost use Rattle.telbijan_tuning.specs.Searches.{findSaid, findSortedSaid, findPitchSaid, findPitchSortedSaid, findKeySaid};
 
 // Stores the degree that was found, and the deviation.
 fn store_degree(answer: DegreeSearch, number: &mut i32, deviation: &mut f64) -> u64
-    ensures { λ r. ⌜ r ≡ result (saysDegreeSearch answer) ⌝ }
-    ensures { λ _. ⌜ now (number .exit) ≡ kept (fieldOf (λ a. a .«approx_value») (saysDegreeSearch answer)) (now (number .entry)) ⌝ }
-    ensures { λ _. ⌜ now (deviation .exit) ≡ kept (fieldOf (λ a. a .deviation) (saysDegreeSearch answer)) (now (deviation .entry)) ⌝ }
+    ensures { λ r. ⌜ Searched (saysDegreeSearch answer)
+        (now (number .entry)) (now (deviation .entry)) r (now (number .exit)) (now (deviation .exit)) ⌝ }
 {
     match answer {
         DegreeSearch::Degree(found) => {
@@ -32,9 +29,8 @@ fn store_degree(answer: DegreeSearch, number: &mut i32, deviation: &mut f64) -> 
 
 // Stores the key that was found, and the deviation.
 fn store_key(answer: KeySearch, number: &mut i32, deviation: &mut f64) -> u64
-    ensures { λ r. ⌜ r ≡ result (saysKeySearch answer) ⌝ }
-    ensures { λ _. ⌜ now (number .exit) ≡ kept (fieldOf (λ a. a .«approx_value») (saysKeySearch answer)) (now (number .entry)) ⌝ }
-    ensures { λ _. ⌜ now (deviation .exit) ≡ kept (fieldOf (λ a. a .deviation) (saysKeySearch answer)) (now (deviation .entry)) ⌝ }
+    ensures { λ r. ⌜ Searched (saysKeySearch answer)
+        (now (number .entry)) (now (deviation .entry)) r (now (number .exit)) (now (deviation .exit)) ⌝ }
 {
     match answer {
         KeySearch::Key(found) => {
@@ -66,9 +62,8 @@ pub extern "C" fn telbijan_find_by_relative_pitch(
     degree: &mut i32,
     deviation: &mut f64,
 ) -> u64
-    ensures { λ r. ⌜ r ≡ result (findSaid count (itemTable (now (kind .entry)) (now (cents .entry)) (now (numer .entry)) (now (denom .entry))) (listTable (now (place .entry)) (now (ratio .entry)) (now (wraps .entry))) target) ⌝ }
-    ensures { λ _. ⌜ now (degree .exit) ≡ kept (fieldOf (λ a. a .«approx_value») (findSaid count (itemTable (now (kind .entry)) (now (cents .entry)) (now (numer .entry)) (now (denom .entry))) (listTable (now (place .entry)) (now (ratio .entry)) (now (wraps .entry))) target)) (now (degree .entry)) ⌝ }
-    ensures { λ _. ⌜ now (deviation .exit) ≡ kept (fieldOf (λ a. a .deviation) (findSaid count (itemTable (now (kind .entry)) (now (cents .entry)) (now (numer .entry)) (now (denom .entry))) (listTable (now (place .entry)) (now (ratio .entry)) (now (wraps .entry))) target)) (now (deviation .entry)) ⌝ }
+    ensures { λ r. ⌜ Searched (findSaid count (itemsBefore kind cents numer denom) (listBefore place ratio wraps) target)
+        (now (degree .entry)) (now (deviation .entry)) r (now (degree .exit)) (now (deviation .exit)) ⌝ }
 {
     let scl = Scl { count };
     store_degree(
@@ -103,9 +98,8 @@ pub extern "C" fn telbijan_find_by_relative_pitch_sorted(
     degree: &mut i32,
     deviation: &mut f64,
 ) -> u64
-    ensures { λ r. ⌜ r ≡ result (findSortedSaid count (itemTable (now (kind .entry)) (now (cents .entry)) (now (numer .entry)) (now (denom .entry))) (listTable (now (place .entry)) (now (ratio .entry)) (now (wraps .entry))) target) ⌝ }
-    ensures { λ _. ⌜ now (degree .exit) ≡ kept (fieldOf (λ a. a .«approx_value») (findSortedSaid count (itemTable (now (kind .entry)) (now (cents .entry)) (now (numer .entry)) (now (denom .entry))) (listTable (now (place .entry)) (now (ratio .entry)) (now (wraps .entry))) target)) (now (degree .entry)) ⌝ }
-    ensures { λ _. ⌜ now (deviation .exit) ≡ kept (fieldOf (λ a. a .deviation) (findSortedSaid count (itemTable (now (kind .entry)) (now (cents .entry)) (now (numer .entry)) (now (denom .entry))) (listTable (now (place .entry)) (now (ratio .entry)) (now (wraps .entry))) target)) (now (deviation .entry)) ⌝ }
+    ensures { λ r. ⌜ Searched (findSortedSaid count (itemsBefore kind cents numer denom) (listBefore place ratio wraps) target)
+        (now (degree .entry)) (now (deviation .entry)) r (now (degree .exit)) (now (deviation .exit)) ⌝ }
 {
     let scl = Scl { count };
     store_degree(
@@ -145,9 +139,9 @@ pub extern "C" fn telbijan_find_by_pitch(
     degree: &mut i32,
     deviation: &mut f64,
 ) -> u64
-    ensures { λ r. ⌜ r ≡ result (findPitchSaid count (itemTable (now (kind .entry)) (now (cents .entry)) (now (numer .entry)) (now (denom .entry))) (listTable (now (place .entry)) (now (ratio .entry)) (now (wraps .entry))) (rootWith reference hz offset) pitch) ⌝ }
-    ensures { λ _. ⌜ now (degree .exit) ≡ kept (fieldOf (λ a. a .«approx_value») (findPitchSaid count (itemTable (now (kind .entry)) (now (cents .entry)) (now (numer .entry)) (now (denom .entry))) (listTable (now (place .entry)) (now (ratio .entry)) (now (wraps .entry))) (rootWith reference hz offset) pitch)) (now (degree .entry)) ⌝ }
-    ensures { λ _. ⌜ now (deviation .exit) ≡ kept (fieldOf (λ a. a .deviation) (findPitchSaid count (itemTable (now (kind .entry)) (now (cents .entry)) (now (numer .entry)) (now (denom .entry))) (listTable (now (place .entry)) (now (ratio .entry)) (now (wraps .entry))) (rootWith reference hz offset) pitch)) (now (deviation .entry)) ⌝ }
+    ensures { λ r. ⌜ Searched (findPitchSaid count (itemsBefore kind cents numer denom) (listBefore place ratio wraps)
+        (rootWith reference hz offset) pitch)
+        (now (degree .entry)) (now (deviation .entry)) r (now (degree .exit)) (now (deviation .exit)) ⌝ }
 {
     let scl = Scl { count };
     let root = telbijan_mappings::root_with(reference, hz, offset);
@@ -187,9 +181,9 @@ pub extern "C" fn telbijan_find_by_pitch_sorted(
     degree: &mut i32,
     deviation: &mut f64,
 ) -> u64
-    ensures { λ r. ⌜ r ≡ result (findPitchSortedSaid count (itemTable (now (kind .entry)) (now (cents .entry)) (now (numer .entry)) (now (denom .entry))) (listTable (now (place .entry)) (now (ratio .entry)) (now (wraps .entry))) (rootWith reference hz offset) pitch) ⌝ }
-    ensures { λ _. ⌜ now (degree .exit) ≡ kept (fieldOf (λ a. a .«approx_value») (findPitchSortedSaid count (itemTable (now (kind .entry)) (now (cents .entry)) (now (numer .entry)) (now (denom .entry))) (listTable (now (place .entry)) (now (ratio .entry)) (now (wraps .entry))) (rootWith reference hz offset) pitch)) (now (degree .entry)) ⌝ }
-    ensures { λ _. ⌜ now (deviation .exit) ≡ kept (fieldOf (λ a. a .deviation) (findPitchSortedSaid count (itemTable (now (kind .entry)) (now (cents .entry)) (now (numer .entry)) (now (denom .entry))) (listTable (now (place .entry)) (now (ratio .entry)) (now (wraps .entry))) (rootWith reference hz offset) pitch)) (now (deviation .entry)) ⌝ }
+    ensures { λ r. ⌜ Searched (findPitchSortedSaid count (itemsBefore kind cents numer denom) (listBefore place ratio wraps)
+        (rootWith reference hz offset) pitch)
+        (now (degree .entry)) (now (deviation .entry)) r (now (degree .exit)) (now (deviation .exit)) ⌝ }
 {
     let scl = Scl { count };
     let root = telbijan_mappings::root_with(reference, hz, offset);
@@ -230,9 +224,9 @@ pub extern "C" fn telbijan_find_key_by_pitch(
     number: &mut i32,
     deviation: &mut f64,
 ) -> u64
-    ensures { λ r. ⌜ r ≡ result (findKeySaid count (itemTable (now (kind .entry)) (now (cents .entry)) (now (numer .entry)) (now (denom .entry))) (listTable (now (place .entry)) (now (ratio .entry)) (now (wraps .entry))) (rootWith reference hz offset) pitch) ⌝ }
-    ensures { λ _. ⌜ now (number .exit) ≡ kept (fieldOf (λ a. a .«approx_value») (findKeySaid count (itemTable (now (kind .entry)) (now (cents .entry)) (now (numer .entry)) (now (denom .entry))) (listTable (now (place .entry)) (now (ratio .entry)) (now (wraps .entry))) (rootWith reference hz offset) pitch)) (now (number .entry)) ⌝ }
-    ensures { λ _. ⌜ now (deviation .exit) ≡ kept (fieldOf (λ a. a .deviation) (findKeySaid count (itemTable (now (kind .entry)) (now (cents .entry)) (now (numer .entry)) (now (denom .entry))) (listTable (now (place .entry)) (now (ratio .entry)) (now (wraps .entry))) (rootWith reference hz offset) pitch)) (now (deviation .entry)) ⌝ }
+    ensures { λ r. ⌜ Searched (findKeySaid count (itemsBefore kind cents numer denom) (listBefore place ratio wraps)
+        (rootWith reference hz offset) pitch)
+        (now (number .entry)) (now (deviation .entry)) r (now (number .exit)) (now (deviation .exit)) ⌝ }
 {
     let scl = Scl { count };
     let root = telbijan_mappings::root_with(reference, hz, offset);

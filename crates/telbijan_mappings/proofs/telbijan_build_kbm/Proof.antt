@@ -37,10 +37,8 @@ returns c =
     let call = c .before .before .before .before in
     let is = c .before .before .kbm .given .1 in (
       accepted saysKbm (told call) is refl,
-      (
-        stored-part saysKbm (told call) is (λ k. k .count) (now (call .before .before .args .entries)) refl refl,
-        stored-part saysKbm (told call) is (λ k. k .octave) (now (call .before .before .args .formal)) refl (toZ-ofZ {w = w16} (search needs)),
-      ),
+      stored-part saysKbm (told call) is (λ k. k .count) (now (call .before .before .args .entries)) refl refl,
+      stored-part saysKbm (told call) is (λ k. k .octave) (now (call .before .before .args .formal)) refl (toZ-ofZ {w = w16} (search needs)),
     )
 
 returns-2 : tie.Need-returns-2
@@ -48,10 +46,8 @@ returns-2 c =
     let call = c .before .before .before .before in
     let is = c .before .before .refusal .given .1 in (
       refused saysKbm (told call) is _ refl (c .code-of .ensures),
-      (
-        stays-part saysKbm (told call) is (λ k. k .count) _ (now (call .before .before .args .entries)) refl,
-        stays-part saysKbm (told call) is (λ k. k .octave) _ (now (call .before .before .args .formal)) refl,
-      ),
+      stays-part saysKbm (told call) is (λ k. k .count) _ (now (call .before .before .args .entries)) refl,
+      stays-part saysKbm (told call) is (λ k. k .octave) _ (now (call .before .before .args .formal)) refl,
     )
 
 pub telbijan-build-kbm-spec : {M : Type 1} → statement M

@@ -41,7 +41,7 @@ returns : tie.Need-returns
 returns c =
     let call = c .before .before .before .before in
     let handed = handed-on saysSize (λ s. kept s (now (call .before .before .before .before .args .written))) (call .export-kbm .result) (told call) (c .store-size .ensures) in
-    (handed .0, (told-bytes call, handed .1))
+    (handed .0, told-bytes call, handed .1)
 
 pub telbijan-export-kbm-spec : {M : Type 1} → statement M
 telbijan-export-kbm-spec =

@@ -7,7 +7,10 @@ use mir.Facts.{toZ-ofZ}
 use mir.Syntax.{w16, w32}
 use Rattle.kbm.specs.Answers.{saysKbm}
 use Rattle.kbm_read.specs.Reader.{readOf}
-use Rattle.telbijan_answers.proofs.Interface.{accepted, refused, stays-part, stored-part}
+use Rattle.kbm.specs.declared.Kbm.{Kbm}
+use Rattle.telbijan_answers.proofs.Interface.{accepted, refused, stays, stored}
+use Rattle.telbijan_mappings.specs.Mappings.{mappingWith}
+use Rattle.telbijan_mappings.proofs.Stored.{same-numbers}
 use Rattle.telbijan_mappings.proofs.telbijan_read_kbm.Statement.{statement}
 use Rattle.telbijan_mappings.proofs.telbijan_read_kbm.Tie as tie
 
@@ -33,63 +36,27 @@ same-length-2 c = search needs
 told : (c : tie.After-read-kbm) → saysKbm (c .read-kbm .result) ≡ readOf (length (now (c .before .before .before .args .map))) (now (c .before .before .before .args .text))
 told c = c .read-kbm .ensures .0
 
+-- the mapping of the numbers that stand behind the pointers before the call
+abbrev old : tie.Start → Kbm
+old s = mappingWith (now (s .args .count)) (now (s .args .start)) (now (s .args .end)) (now (s .args .reference)) (now (s .args .hz))
+    (now (s .args .offset)) (now (s .args .octave))
+
 returns : tie.Need-returns
 returns c =
     let call = c .before .before .before .before .before .before .before .before .before .before .before .before .before .before in
     let is = c .before .before .before .before .before .before .before .before .before .before .before .kbm .given .1 in (
       accepted saysKbm (told call) is refl,
-      (
-        call .read-kbm .ensures .1,
-        (
-          stored-part saysKbm (told call) is (λ k. k .count) (now (call .before .before .before .args .count)) refl refl,
-          (
-            stored-part saysKbm (told call) is (λ k. k .start .0) (now (call .before .before .before .args .start)) refl (toZ-ofZ {w = w32} (search needs)),
-            (
-              stored-part saysKbm (told call) is (λ k. k .end .0) (now (call .before .before .before .args .end)) refl (toZ-ofZ {w = w32} (search needs)),
-              (
-                stored-part saysKbm (told call) is (λ k. k .root .reference .0) (now (call .before .before .before .args .reference)) refl (toZ-ofZ {w = w32} (search needs)),
-                (
-                  stored-part saysKbm (told call) is (λ k. k .root .pitch .0) (now (call .before .before .before .args .hz)) refl refl,
-                  (
-                    stored-part saysKbm (told call) is (λ k. k .root .offset) (now (call .before .before .before .args .offset)) refl (toZ-ofZ {w = w32} (search needs)),
-                    stored-part saysKbm (told call) is (λ k. k .octave) (now (call .before .before .before .args .octave)) refl (toZ-ofZ {w = w16} (search needs)),
-                  ),
-                ),
-              ),
-            ),
-          ),
-        ),
-      ),
+      call .read-kbm .ensures .1,
+      stored saysKbm (told call) is (old (call .before .before .before)) refl (same-numbers refl (toZ-ofZ {w = w32} (search needs)) (toZ-ofZ {w = w32} (search needs))
+          (toZ-ofZ {w = w32} (search needs)) refl (toZ-ofZ {w = w32} (search needs)) (toZ-ofZ {w = w16} (search needs))),
     )
 
 returns-2 : tie.Need-returns-2
 returns-2 c =
-    let call = c .before .before .before .before .before in
-    let is = c .before .before .refusal .given .1 in (
-      refused saysKbm (told call) is _ refl (c .code-of .ensures),
-      (
-        call .read-kbm .ensures .1,
-        (
-          stays-part saysKbm (told call) is (λ k. k .count) _ (now (call .before .before .before .args .count)) refl,
-          (
-            stays-part saysKbm (told call) is (λ k. k .start .0) _ (now (call .before .before .before .args .start)) refl,
-            (
-              stays-part saysKbm (told call) is (λ k. k .end .0) _ (now (call .before .before .before .args .end)) refl,
-              (
-                stays-part saysKbm (told call) is (λ k. k .root .reference .0) _ (now (call .before .before .before .args .reference)) refl,
-                (
-                  stays-part saysKbm (told call) is (λ k. k .root .pitch .0) _ (now (call .before .before .before .args .hz)) refl,
-                  (
-                    stays-part saysKbm (told call) is (λ k. k .root .offset) _ (now (call .before .before .before .args .offset)) refl,
-                    stays-part saysKbm (told call) is (λ k. k .octave) _ (now (call .before .before .before .args .octave)) refl,
-                  ),
-                ),
-              ),
-            ),
-          ),
-        ),
-      ),
-    )
+    let call : tie.After-read-kbm = search in
+    let start : tie.Start = search in
+    let is = c .before .before .refusal .given .1 in
+    (refused saysKbm (told call) is _ refl (c .code-of .ensures), call .read-kbm .ensures .1, stays saysKbm (told call) is _ (old start) refl)
 
 pub telbijan-read-kbm-spec : {M : Type 1} → statement M
 telbijan-read-kbm-spec =

@@ -25,7 +25,7 @@ returns : tie.Need-returns
 returns c =
     let call = c .before .before .before .before .before in
     let told = (rw (call .before .before .before .mapping-with .ensures, toZ-ofZ (call .before .before .before .before .before .before .before .before .before .before .fits .start), toZ-ofZ (call .before .before .before .before .before .before .before .before .before .before .fits .end), toZ-ofZ (call .before .before .before .before .before .before .before .before .before .before .fits .reference), toZ-ofZ (call .before .before .before .before .before .before .before .before .before .before .fits .offset), toZ-ofZ (call .before .before .before .before .before .before .before .before .before .before .fits .octave), toZ-ofZ (call .before .before .before .before .before .before .before .before .before .before .fits .first)) at (call .pitches-of .ensures)) in
-    (c .code-of-run .ensures ∙ ap result (told .0), told .1)
+    (c .code-of-run .ensures ∙ ap result (told .0), told .1 .0, told .1 .1)
 
 pub telbijan-pitches-of-spec : {M : Type 1} → statement M
 telbijan-pitches-of-spec =

@@ -29,14 +29,20 @@ told c = rw (toZ-ofZ (c .before .fits .numer)) at (c .i32-dr-u .ensures)
 returns : tie.Need-returns
 returns c =
     let call = c .before .before .before .before in
-    let is = c .before .before .division .given .1 in
-    (accepted saysDivision (told call) is refl, (stored-part saysDivision (told call) is (λ p. p .quotient) (now (call .before .args .quotient)) refl (toZ-ofZ {w = w32} (search needs)), stored-part saysDivision (told call) is (λ p. p .remainder) (now (call .before .args .remainder)) refl refl))
+    let is = c .before .before .division .given .1 in (
+      accepted saysDivision (told call) is refl,
+      stored-part saysDivision (told call) is (λ p. p .quotient) (now (call .before .args .quotient)) refl (toZ-ofZ {w = w32} (search needs)),
+      stored-part saysDivision (told call) is (λ p. p .remainder) (now (call .before .args .remainder)) refl refl,
+    )
 
 returns-2 : tie.Need-returns-2
 returns-2 c =
     let call = c .before .before .before .before in
-    let is = c .before .before .refusal .given .1 in
-    (refused saysDivision (told call) is _ refl (c .code-of .ensures), (stays-part saysDivision (told call) is (λ p. p .quotient) _ (now (call .before .args .quotient)) refl, stays-part saysDivision (told call) is (λ p. p .remainder) _ (now (call .before .args .remainder)) refl))
+    let is = c .before .before .refusal .given .1 in (
+      refused saysDivision (told call) is _ refl (c .code-of .ensures),
+      stays-part saysDivision (told call) is (λ p. p .quotient) _ (now (call .before .args .quotient)) refl,
+      stays-part saysDivision (told call) is (λ p. p .remainder) _ (now (call .before .args .remainder)) refl,
+    )
 
 pub telbijan-i32-dr-u-spec : {M : Type 1} → statement M
 telbijan-i32-dr-u-spec =

@@ -31,16 +31,10 @@ returns c =
     let call = c .before .before .before .before .before in
     let is = c .before .before .before .answer .given .1 in (
       accepted saysNearest (told call) is refl,
-      (
-        stored-part saysNearest (told call) is (λ f. f .numer) (now (call .before .args .numer)) refl refl,
-        (
-          stored-part saysNearest (told call) is (λ f. f .denom) (now (call .before .args .denom)) refl refl,
-          (
-            stored-part saysNearest (told call) is (λ f. f .deviation .0) (now (call .before .args .deviation)) refl refl,
-            stored-part saysNearest (told call) is (λ f. f .«num_octaves») (now (call .before .args .octaves)) refl (toZ-ofZ {w = w32} (search needs)),
-          ),
-        ),
-      ),
+      stored-part saysNearest (told call) is (λ f. f .numer) (now (call .before .args .numer)) refl refl,
+      stored-part saysNearest (told call) is (λ f. f .denom) (now (call .before .args .denom)) refl refl,
+      stored-part saysNearest (told call) is (λ f. f .deviation .0) (now (call .before .args .deviation)) refl refl,
+      stored-part saysNearest (told call) is (λ f. f .«num_octaves») (now (call .before .args .octaves)) refl (toZ-ofZ {w = w32} (search needs)),
     )
 
 returns-2 : tie.Need-returns-2
@@ -48,16 +42,10 @@ returns-2 c =
     let call = c .before .before .before .before in
     let is = c .before .before .refusal .given .1 in (
       refused saysNearest (told call) is _ refl (c .code-of .ensures),
-      (
-        stays-part saysNearest (told call) is (λ f. f .numer) _ (now (call .before .args .numer)) refl,
-        (
-          stays-part saysNearest (told call) is (λ f. f .denom) _ (now (call .before .args .denom)) refl,
-          (
-            stays-part saysNearest (told call) is (λ f. f .deviation .0) _ (now (call .before .args .deviation)) refl,
-            stays-part saysNearest (told call) is (λ f. f .«num_octaves») _ (now (call .before .args .octaves)) refl,
-          ),
-        ),
-      ),
+      stays-part saysNearest (told call) is (λ f. f .numer) _ (now (call .before .args .numer)) refl,
+      stays-part saysNearest (told call) is (λ f. f .denom) _ (now (call .before .args .denom)) refl,
+      stays-part saysNearest (told call) is (λ f. f .deviation .0) _ (now (call .before .args .deviation)) refl,
+      stays-part saysNearest (told call) is (λ f. f .«num_octaves») _ (now (call .before .args .octaves)) refl,
     )
 
 pub telbijan-ratio-nearest-fraction-spec : {M : Type 1} → statement M

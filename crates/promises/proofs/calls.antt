@@ -1,0 +1,3 @@
+-- Calls for C, one after another: what the contracts of two of them say together.
+pub mod ReadDegree
+pub mod ExportRead

@@ -1,0 +1,29 @@
+-- The lent tables of a scale in a contract: what stands behind the references, before the call and after it. An `ensures` says
+-- `itemsBefore kind cents numer denom` and, of columns that the call may write, `itemsAfter ..`; so for the list. Assumes nothing.
+use mathlib.Core.List.{List}
+use Prim.Native.Nat.{ℕ}
+use lib.IntN.{ℤ}
+use lib.Ieee.{Float}
+use denote.Ref.{RefT, now}
+use denote.Triple.Both.{Both}
+use Rattle.scl.specs.Table.{ItemTable, itemTable}
+use Rattle.sorted.specs.Lent.{ListTable, listTable}
+
+-- a parameter that is a column of A
+abbrev pub Column : Type 0 → Type 0
+Column A = Both (RefT (List A)) (RefT (List A))
+
+-- ---- items
+abbrev pub itemsBefore : Column ℕ → Column Float → Column ℕ → Column ℕ → ItemTable
+itemsBefore kind cents numer denom =
+    itemTable (now (kind .entry)) (now (cents .entry)) (now (numer .entry)) (now (denom .entry))
+
+abbrev pub itemsAfter : Column ℕ → Column Float → Column ℕ → Column ℕ → ItemTable
+itemsAfter kind cents numer denom = itemTable (now (kind .exit)) (now (cents .exit)) (now (numer .exit)) (now (denom .exit))
+
+-- ---- the sorted list
+abbrev pub listBefore : Column ℕ → Column Float → Column ℤ → ListTable
+listBefore place ratio wraps = listTable (now (place .entry)) (now (ratio .entry)) (now (wraps .entry))
+
+abbrev pub listAfter : Column ℕ → Column Float → Column ℤ → ListTable
+listAfter place ratio wraps = listTable (now (place .exit)) (now (ratio .exit)) (now (wraps .exit))
