@@ -1,6 +1,7 @@
--- SAMPLES OF LISTS AND SEARCHES that tell apart what is easily exchanged: the declared degree and the ascending one; a period below 1, whose
--- turned-over entry takes place 0; the lowest of repeated entries and the first declared; the two sides of the tolerance. Document 01,
--- "Scales and searches". Lists and degrees are those that the given Rust answers with E and L in place of exp2 and log2. Assumes nothing.
+-- SAMPLES OF LISTS AND SEARCHES that tell apart what is easily exchanged: the declared degree and the ascending one; a period below 1,
+-- whose turned-over entry takes place 0; the lowest of repeated entries and the first declared; the two sides of the tolerance. Lists
+-- and degrees are those that the given Rust answers with E and L in place of exp2 and log2. Document 01, "Scales and searches".
+-- Assumes nothing.
 use mathlib.Core.Path.{_≡_}
 use mathlib.Core.Bool.{true, false}
 use mathlib.Core.List.{List, [], _∷_}

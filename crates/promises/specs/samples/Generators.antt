@@ -41,7 +41,8 @@ pub record Generators : Type 0 where
   -- generator 1.5, twice up and once down, period 0.5: "sorted ascending", so the highest note and not the period comes last
   pub rank-two : temperamentOf fifth 2 1 half ≡ gives ascendingNotes
   -- harmonics 27 to 54 divided into 12: 29/27, 30/27, .. 54/27
-  pub divided : harmonicsOf Otonal 27 27 (divisions.Into 12) ≡ gives (over 27 (29 ∷ 30 ∷ 32 ∷ 34 ∷ 36 ∷ 38 ∷ 40 ∷ 43 ∷ 45 ∷ 48 ∷ 51 ∷ 54 ∷ []))
+  pub divided : harmonicsOf Otonal 27 27 (divisions.Into 12) ≡
+      gives (over 27 (29 ∷ 30 ∷ 32 ∷ 34 ∷ 36 ∷ 38 ∷ 40 ∷ 43 ∷ 45 ∷ 48 ∷ 51 ∷ 54 ∷ []))
   -- the nearer harmonic as a ratio: 2.4914.. is nearer to 3 by its ratio, to 2 by its difference; upwards and downwards
   pub nearer-up : harmonicsOf Otonal 2 4 (divisions.Into 5) ≡ gives (over 2 (3 ∷ 3 ∷ 4 ∷ 5 ∷ 6 ∷ []))
   pub nearer-down : harmonicsOf Utonal 2 4 (divisions.Into 5) ≡ gives (under 6 (5 ∷ 4 ∷ 3 ∷ 3 ∷ 2 ∷ []))
