@@ -13,3 +13,5 @@ pub mod Numbers
 pub mod Draws
 pub mod Takes
 pub mod LineTheorems
+pub mod Refusals
+pub mod EachSaid

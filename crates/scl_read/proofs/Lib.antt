@@ -15,3 +15,5 @@ pub mod ItemLanguage
 pub mod Takes
 pub mod LineTheorems
 pub mod TokenReads
+pub mod Refusals
+pub mod EachSaid
