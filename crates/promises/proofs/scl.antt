@@ -9,3 +9,4 @@ pub mod Agree
 pub mod Limits
 pub mod Both
 pub mod Parting
+pub mod OneMeaning
