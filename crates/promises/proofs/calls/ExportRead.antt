@@ -18,7 +18,7 @@ use Rattle.kbm_write.specs.Again.{ComesBack}
 use Rattle.kbm_write.specs.Export.{exportOf, exportText}
 use Rattle.kbm_write.specs.Typed.{TypedKbm, OfTypes}
 use Rattle.kbm_write.proofs.Bound.{export-accepted}
-use Rattle.kbm_write.proofs.TypedKbm.{typed}
+use Rattle.kbm_write.proofs.Typed.{typed}
 use Rattle.telbijan_answers.specs.Interface.{result, kept}
 use Rattle.telbijan_answers.proofs.Interface.{zero-accepted, written-text}
 use Rattle.telbijan_mappings.specs.Calls.{ExportKbm, ReadKbm}
