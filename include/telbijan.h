@@ -175,7 +175,7 @@ uint64_t telbijan_log2(double x, double *logarithm);
 
 /* ---- Scales for C: seven lent columns, the items' four and the sorted list's three, and beside them the count of items. */
 
-/* The ratio of an item, stored: 18 for an unknown kind, and where the ratio lies outside 2^-900..2^900; never for a usable item. */
+/* The ratio of an item, stored: 10 for an item that cannot be used, one of an unknown kind too. */
 uint64_t telbijan_item_as_ratio(uint8_t kind, double cents, uint32_t numer, uint32_t denom, double *ratio);
 
 /* A scale file, read: its items go to the places after place 0, which gets the implicit 0.0 cents, and their sorted list to the
@@ -293,9 +293,9 @@ uint64_t telbijan_pitches_of(const uint8_t *kind, size_t kind_length, const doub
 /* ---- Searches for C: the degree or key that comes nearest to a ratio or a pitch, over a scale's lent columns. */
 
 /* The degree whose relative pitch comes nearest to a ratio, and how far the ratio lies above it, a ratio, both stored: 10 for items or a
-   list that cannot be used and for a ratio outside 2^-64..2^64; 18 in a scale of one item with period 1.0, and where a step leaves
-   2^-900..2^900, which in a list that was built or read none does; 11 where the degree passes 32 bits. Of two that come equally near,
-   within 0.999999, it is the lower one. A scale without items answers degree 0 with the ratio itself. */
+   list that cannot be used and for a ratio outside 2^-64..2^64; 18 in a scale of one item with period 1.0, and, in a list that was
+   neither built nor read, where a ratio that is computed on the way lies outside 2^-900..2^900; 11 where the degree passes 32 bits. Of
+   two that come equally near, within 0.999999, it is the lower one. A scale without items answers degree 0 with the ratio itself. */
 uint64_t telbijan_find_by_relative_pitch(const uint8_t *kind, size_t kind_length, const double *cents, size_t cents_length, const uint32_t *numer, size_t numer_length, const uint32_t *denom, size_t denom_length, const uint32_t *place, size_t place_length, const double *ratio, size_t ratio_length, const int32_t *wraps, size_t wraps_length, uint16_t count, double target, int32_t *degree, double *deviation);
 
 /* The same, the degree counted in ascending order. */
@@ -309,7 +309,8 @@ uint64_t telbijan_find_by_pitch(const uint8_t *kind, size_t kind_length, const d
 /* The same, the degree counted in ascending order. */
 uint64_t telbijan_find_by_pitch_sorted(const uint8_t *kind, size_t kind_length, const double *cents, size_t cents_length, const uint32_t *numer, size_t numer_length, const uint32_t *denom, size_t denom_length, const uint32_t *place, size_t place_length, const double *ratio, size_t ratio_length, const int32_t *wraps, size_t wraps_length, uint16_t count, int32_t reference, double hz, int32_t offset, double pitch, int32_t *degree, double *deviation);
 
-/* The key whose pitch comes nearest, that degree above the reference key, in the same way; 11 where the key passes 32 bits too. */
+/* The key whose pitch comes nearest, that degree above the reference key, in the same way; 11 where the key passes 32 bits too. Each key
+   counts as one degree: no mapping plays a part, so that a key which a mapping leaves out or gives another degree may be found. */
 uint64_t telbijan_find_key_by_pitch(const uint8_t *kind, size_t kind_length, const double *cents, size_t cents_length, const uint32_t *numer, size_t numer_length, const uint32_t *denom, size_t denom_length, const uint32_t *place, size_t place_length, const double *ratio, size_t ratio_length, const int32_t *wraps, size_t wraps_length, uint16_t count, int32_t reference, double hz, int32_t offset, double pitch, int32_t *number, double *deviation);
 
 /* ==== The same calls on structs ====================================================================================================
@@ -425,6 +426,37 @@ typedef struct telbijan_mapping_builder {
 #define TELBIJAN_ROOT(r) (r).reference, (r).hz, (r).offset
 #define TELBIJAN_MAPPING(m) (m)->map, (m)->room, (m)->count, (m)->start, (m)->end, TELBIJAN_ROOT((m)->root), (m)->octave
 
+/* A scale in constant tables, as those in read-only memory are, to be kept as a `const telbijan_scale`: a call that takes one so writes nothing
+ * to its tables. */
+static inline telbijan_scale telbijan_scale_lent(const uint8_t *kind, const double *cents, const uint32_t *numer, const uint32_t *denom,
+    const uint32_t *place, const double *ratio, const int32_t *wraps, size_t room, uint16_t count) {
+    telbijan_scale scale;
+    scale.kind = (uint8_t *)(uintptr_t)kind;
+    scale.cents = (double *)(uintptr_t)cents;
+    scale.numer = (uint32_t *)(uintptr_t)numer;
+    scale.denom = (uint32_t *)(uintptr_t)denom;
+    scale.place = (uint32_t *)(uintptr_t)place;
+    scale.ratio = (double *)(uintptr_t)ratio;
+    scale.wraps = (int32_t *)(uintptr_t)wraps;
+    scale.room = room;
+    scale.count = count;
+    return scale;
+}
+
+/* A mapping in a constant table, to be kept as a `const telbijan_mapping`, in the same way. */
+static inline telbijan_mapping telbijan_mapping_lent(const int32_t *map, size_t room, uint16_t count, int32_t start, int32_t end,
+    telbijan_root root, int16_t octave) {
+    telbijan_mapping mapping;
+    mapping.map = (int32_t *)(uintptr_t)map;
+    mapping.room = room;
+    mapping.count = count;
+    mapping.start = start;
+    mapping.end = end;
+    mapping.root = root;
+    mapping.octave = octave;
+    return mapping;
+}
+
 /* Lent bytes as the calls above take them, which want an address even of 0 bytes: of these the one that is given, NULL or any other, is not
  * handed on, but that of something real. */
 static inline const uint8_t *telbijan_bytes(const char *bytes, size_t length) {
@@ -465,7 +497,7 @@ static inline telbijan_refusal telbijan_scale_rank2(telbijan_scale *scale, doubl
     return telbijan_refusal_of(telbijan_create_rank2_temperament_scale(generator, positive, negative, period, TELBIJAN_COLUMNS(scale), &scale->count));
 }
 
-/* The ratio of the last item, by telbijan_period: 10. */
+/* The ratio of the last item, by telbijan_period: 10. Of a scale without items it is that of place 0, which a read or built scale has as 1.0. */
 static inline telbijan_refusal telbijan_scale_period(const telbijan_scale *scale, double *period) {
     return telbijan_refusal_of(telbijan_period(TELBIJAN_ITEMS(scale), scale->count, period));
 }
@@ -493,7 +525,7 @@ static inline telbijan_refusal telbijan_scale_find_sorted(const telbijan_scale *
 /* ---- A scale, built: begin, push, build. `scale` lends the columns; what it holds is lost. */
 
 /* Nothing is pushed yet; place 0 of the columns is written, by telbijan_new_scl: 12 where there is no place. */
-static inline telbijan_refusal telbijan_scale_begin(telbijan_scale_builder *builder, const telbijan_scale *scale) {
+static inline telbijan_refusal telbijan_scale_begin(telbijan_scale_builder *builder, telbijan_scale *scale) {
     size_t room = 0;
     uint64_t result = telbijan_new_scl(TELBIJAN_COLUMNS(scale), &room);
     if (result == TELBIJAN_ACCEPTED) {
@@ -555,7 +587,7 @@ static inline telbijan_refusal telbijan_mapping_degree_of(const telbijan_mapping
 /* ---- A mapping, built: `mapping` lends the table, and has root and range; its count and octave do not matter. */
 
 /* Nothing is pushed yet, and nothing written: 10 for a root whose pitch cannot be used (telbijan_kbm_root). */
-static inline telbijan_refusal telbijan_mapping_begin(telbijan_mapping_builder *builder, const telbijan_mapping *mapping) {
+static inline telbijan_refusal telbijan_mapping_begin(telbijan_mapping_builder *builder, telbijan_mapping *mapping) {
     uint64_t result = telbijan_kbm_root(TELBIJAN_ROOT(mapping->root));
     if (result == TELBIJAN_ACCEPTED) {
         builder->mapping = *mapping;

@@ -1,5 +1,5 @@
-/* Calls every function of the header, and each call on structs beside the flat one, in two worlds of the same memory: the same result, the
- * same values, the same bytes. Rooms are full to the last place or one short of it, and places behind them are watched; every value that
+/* Makes each call on structs beside the flat one (tests/flat_calls.c has these by themselves), in two worlds of the same memory: the same result,
+ * the same values, the same bytes. Rooms are full to the last place or one short of it, and places behind them are watched; every value that
  * a call may set holds 0x5a bytes before it; a refused call leaves its world as it was. Silent and 0 where all is well. */
 #include "worlds.h"
 
@@ -31,57 +31,6 @@ static void filled(const char *scale, size_t room, size_t table) {
         memset(&w->out, 0x5a, sizeof w->out);
     }
     BOTH(scale.room, room), BOTH(mapping.room, table);
-}
-
-/* ---- The flat calls on numbers. */
-
-static void numbers(void) {
-    int32_t z = 7;
-    uint32_t n = 7;
-    uint8_t midi = 7;
-    SAME(telbijan_i32_div_u(-6, 5, &z), 0), SAME(z, -2), z = 7;
-    SAME(telbijan_i32_rem_u(-6, 5, &n), 0), SAME(n, 4), n = 7;
-    SAME(telbijan_i32_dr_u(-6, 5, &z, &n), 0), SAME(z, -2), SAME(n, 4);
-    SAME(telbijan_odd_factors_u16(24), 3);
-    SAME(telbijan_checked_midi_number(64, &midi), 0), SAME(midi, 64);
-    SAME(telbijan_num_keys_before(62, 67, &z), 0), SAME(z, 5);
-    SAME(telbijan_plus_steps(62, 5, &z), 0), SAME(z, 67);
-    SAME(telbijan_i32_dr_u(1, 0, &z, &n), 10), SAME(z, 67), SAME(n, 4);
-}
-
-/* A call that stores y in x. */
-#define STORES(call, y) (x = 7, SAME(call, 0), NEAR(x, y))
-
-static void pitches(void) {
-    double x;
-    bool small = true;
-    int32_t z = 7;
-    uint16_t numer = 7, denom = 7;
-    STORES(telbijan_exp2(3, &x), 8);
-    STORES(telbijan_log2(8, &x), 3);
-    STORES(telbijan_ratio_from_float(1.5, &x), 1.5);
-    STORES(telbijan_ratio_from_octaves(3, &x), 8);
-    STORES(telbijan_ratio_from_semitones(24, &x), 4);
-    STORES(telbijan_ratio_from_cents(1200, &x), 2);
-    STORES(telbijan_ratio_between_pitches(330, 440, &x), 4.0 / 3);
-    STORES(telbijan_ratio_stretched_by(2, 1.5, &x), 3);
-    STORES(telbijan_ratio_deviation_from(3, 1.5, &x), 2);
-    STORES(telbijan_ratio_repeated(2, 3, &x), 8);
-    STORES(telbijan_ratio_divided_into_equal_steps(8, 3, &x), 2);
-    STORES(telbijan_ratio_num_equal_steps_of_size(8, 2, &x), 3);
-    STORES(telbijan_ratio_as_octaves(2, &x), 1);
-    STORES(telbijan_ratio_as_semitones(2, &x), 12);
-    STORES(telbijan_ratio_as_cents(2, &x), 1200);
-    STORES(telbijan_ratio_inv(4, &x), 0.25);
-    STORES(telbijan_ratio_abs(0.5, &x), 2);
-    STORES(telbijan_pitch_from_hz(440, &x), 440);
-    STORES(telbijan_pitch_times_ratio(220, 1.5, &x), 330);
-    STORES(telbijan_pitch_over_ratio(330, 1.5, &x), 220);
-    STORES(telbijan_item_as_ratio(1, 0, 3, 2, &x), 1.5);
-    STORES(telbijan_ratio_nearest_fraction(0.75, 11, &numer, &denom, &x, &z), 1), SAME(numer, 3), SAME(denom, 2), SAME(z, -1);
-    SAME(telbijan_ratio_is_negligible(1.5, &small), 0), SAME(small, false);
-    SAME(telbijan_ratio_total_cmp(1.5, 2, &z), 0), SAME(z, -1), z = 7;
-    SAME(telbijan_ratio_total_cmp(-1, 2, &z), 10), SAME(z, 7);
 }
 
 /* ---- What writes a scale or a mapping: with just enough places, and with one less. */
@@ -312,6 +261,23 @@ static void unusable(void) {
     filled(SCALE, 5, 4), BOTH(mapping.root.hz, 0), searches_by_pitch(10), run_of_keys(4, 10), export_mapping(ROOM_OF_TEXT), SAID(10, 0);
 }
 
+/* ---- Constant tables: each pointer and number in its place, and looked at as any others are. */
+
+static void constants(void) {
+    const telbijan_scale *s = &ours.scale;
+    const telbijan_mapping *m = &ours.mapping;
+    filled(SCALE, 5, 4);
+    {
+        const telbijan_scale scale = telbijan_scale_lent(s->kind, s->cents, s->numer, s->denom, s->place, s->ratio, s->wraps, 5, 4);
+        const telbijan_mapping mapping = telbijan_mapping_lent(m->map, 4, 3, 5, 91, m->root, 7);
+        SAME(same_scale(scale, ours.scale), true), SAME(scale.room, 5u), SAME(scale.count, 4);
+        SAME(mapping.map, m->map), SAME(mapping.room, 4u), SAME(mapping.count, 3), SAME(mapping.start, 5), SAME(mapping.end, 91);
+        SAME(mapping.root.reference, 67), SAME(mapping.root.hz, 300.5), SAME(mapping.root.offset, -6), SAME(mapping.octave, 7);
+        SAME(telbijan_scale_period(&scale, &ours.out.x).number, 0u), SAME(telbijan_mapping_degree_of(&mapping, 67, &ours.out.degree).number, 0u);
+        SAME(ours.out.degree, 1);
+    }
+}
+
 /* ---- The header's own names. */
 
 static const char *const REASONS[] = {
@@ -342,8 +308,6 @@ static void names(void) {
 }
 
 int main(void) {
-    numbers();
-    pitches();
     readers();
     generators();
     exports();
@@ -357,6 +321,7 @@ int main(void) {
     lookups(SCALE, 5, 3, 0, 10);
     ends_of_runs();
     unusable();
+    constants();
     names();
     return faults != 0;
 }

@@ -1,24 +1,8 @@
 /* Two worlds for tests/every_call.c: in one of them a call on structs is made, in the other the flat call, and both are compared with each
  * other and with what they were. */
 #include <inttypes.h>
-#include <math.h>
-#include <stdio.h>
-#include <string.h>
 
-#include "telbijan.h"
-
-static int faults;
-
-static void check(bool good, const char *what, int line) {
-    if (!good) {
-        printf("every_call: line %d: %s\n", line, what);
-        faults++;
-    }
-}
-
-#define SAME(a, b) check((a) == (b), #a " == " #b, __LINE__)
-#define NEAR(x, y) check(fabs((x) - (y)) < 1e-9, #x " near " #y, __LINE__)
-#define TEXT(a, b) check(strcmp((a), (b)) == 0, #a " is " #b, __LINE__)
+#include "checks.h"
 
 #define PLACES 16
 #define ROOM_OF_TEXT 256

@@ -88,6 +88,7 @@ fn files() -> Vec<Row> {
         row("scale", "item `1/1` alone: place and ratio of the list", || theirs(b"d\n1\n1/1\n", ratios), "0: 1.0, 0: 1.0", || ours(b"d\n1\n1/1\n", 9, ratios), "0: 1.0, 0: 1.0"),
         row("scale", "items `3/2`, `2/1`: place and ratio of the list", || theirs(b"d\n2\n3/2\n2/1\n", ratios), "0: 1.0, 1: 1.5, 2: 2.0", || ours(b"d\n2\n3/2\n2/1\n", 9, ratios), "0: 1.0, 1: 1.4999999999999998, 2: 2.0"),
         row("scale", "items `5/3`, `80/3`, `2/1`: place and ratio of the list", || theirs(b"d\n3\n5/3\n80/3\n2/1\n", ratios), "0: 1.0, 1: 1.6666666666666667, 1: 1.6666666666666667, 3: 2.0", || ours(b"d\n3\n5/3\n80/3\n2/1\n", 9, ratios), "0: 1.0, 2: 1.666666666666666, 2: 1.666666666666666, 3: 2.0"),
+        row("scale", "items `25/9`, `5/3`, the first the period twice: place and ratio of the list", || theirs(b"d\n2\n25/9\n5/3\n", ratios), "0: 1.0, 1: 1.6666666666666665, 1: 1.6666666666666665", || ours(b"d\n2\n25/9\n5/3\n", 9, ratios), "0: 1.0, 0: 1.0, 2: 1.6666666666666667"),
         row("scale", "items `1331/27`, `11/3`: place and ratio of the list", || theirs(b"d\n2\n1331/27\n11/3\n", ratios), "0: 1.0, 1: 3.666666666666666, 1: 3.666666666666666", || ours(b"d\n2\n1331/27\n11/3\n", 9, ratios), "0: 1.0, 1: 3.666666666666666, 1: 3.666666666666666"),
         row("Scala: an empty description", "an empty line, `1`, `2/1`", || theirs(b"\n1\n2/1\n", items), "its error for 3 at line 3", || ours(b"\n1\n2/1\n", 9, items), "3 at line 3"),
         row("Scala: comments", "` ! text` as the first line: description", || theirs(b" ! text\nd\n0\n", description), "`d`", || ours(b" ! text\nd\n0\n", 9, description), "`d`"),
@@ -137,6 +138,11 @@ fn their_ratio(push: Push) -> String {
     rust(|| rust_scl::pushes(&[push]).build_with_description("").unwrap().period().as_float())
 }
 
+/// Whether the Rust's ratio of so many cents is above 2^33.
+fn their_ratio_above(cents: f64) -> String {
+    rust(|| rust_scl::pushes(&[Push::Cents(cents)]).build_with_description("").unwrap().period().as_float() > 2f64.powi(33))
+}
+
 fn our_ratio(kind: u8, cents: f64, numer: u32, denom: u32) -> String {
     match ffi_scl::item_as_ratio(kind, cents, numer, denom) {
         (Code::ACCEPTED, Float::Is(bits)) => format!("{:?}", f64::from_bits(bits)),
@@ -146,10 +152,11 @@ fn our_ratio(kind: u8, cents: f64, numer: u32, denom: u32) -> String {
 
 fn builders() -> Vec<Row> {
     vec![
-        row("`as_ratio` of an item", "fraction 0/1", || their_ratio(Push::Fraction(0, 1)), "0.0", || our_ratio(1, 0.0, 0, 1), "18"),
-        row("`as_ratio` of an item", "fraction 1/0", || their_ratio(Push::Fraction(1, 0)), "inf", || our_ratio(1, 0.0, 1, 0), "18"),
-        row("`as_ratio` of an item", "cents NaN", || their_ratio(Push::Cents(f64::NAN)), "NaN", || our_ratio(0, f64::NAN, 0, 0), "18"),
-        row("`as_ratio` of an item", "kind 3", || CANNOT_BE.to_string(), CANNOT_BE, || our_ratio(3, 0.0, 1, 1), "18"),
+        row("`as_ratio` of an item", "fraction 0/1", || their_ratio(Push::Fraction(0, 1)), "0.0", || our_ratio(1, 0.0, 0, 1), "10"),
+        row("`as_ratio` of an item", "fraction 1/0", || their_ratio(Push::Fraction(1, 0)), "inf", || our_ratio(1, 0.0, 1, 0), "10"),
+        row("`as_ratio` of an item", "cents NaN", || their_ratio(Push::Cents(f64::NAN)), "NaN", || our_ratio(0, f64::NAN, 0, 0), "10"),
+        row("`as_ratio` of an item", "cents 40000: is it above 2^33", || their_ratio_above(40_000.0), "true", || our_ratio(0, 40_000.0, 0, 0), "10"),
+        row("`as_ratio` of an item", "kind 3", || CANNOT_BE.to_string(), CANNOT_BE, || our_ratio(3, 0.0, 1, 1), "10"),
         row("`Scl::builder`", "columns with no place: items", || their_items(&[]), "0", || here(ffi_scl::new_scl(&mut Columns::new([0; 7]))), "12"),
         row("`push_cents`", "38400.1: items", || their_items(&[Push::Cents(38_400.1)]), "1", || our_push(9, 0, Push::Cents(38_400.1)), "10"),
         row("`push_cents`", "NaN: items", || their_items(&[Push::Cents(f64::NAN)]), "1", || our_push(9, 0, Push::Cents(f64::NAN)), "10"),

@@ -22,6 +22,8 @@ const fn row(call: &'static str, input: &'static str, rust: fn() -> String, rust
 const OCTAVE: &[Push] = &[Push::Int(2)];
 const JUST: &[Push] = &[Push::Fraction(9, 8), Push::Fraction(5, 4), Push::Int(2)];
 const REPEATS: &[Push] = &[Push::Int(1), Push::Int(1), Push::Int(1), Push::Int(1), Push::Int(1), Push::Int(2)];
+/// An item that is the period twice.
+const TWICE: &[Push] = &[Push::Fraction(25, 9), Push::Fraction(5, 3)];
 const ROOT: Root = Root { reference: 69, hz: 440.0, offset: -9 };
 const UNTURNED: Root = Root { offset: i32::MIN, ..ROOT };
 
@@ -110,6 +112,7 @@ fn pitches() -> Vec<Row> {
     vec![
         row("`Scl::relative_pitch_of`", "`2/1`, degree 901", || rust(|| scl(OCTAVE).relative_pitch_of(901).as_float()), "1.6905424996341288e271", || float(ffi::relative_pitch_of(&built(OCTAVE).columns, 1, 901)), "18"),
         row("`Scl::sorted_relative_pitch_of`", "`2/1`, degree -901", || rust(|| scl(OCTAVE).sorted_relative_pitch_of(-901).as_float()), "5.915260930833874e-272", || float(ffi::sorted_relative_pitch_of(&built(OCTAVE).columns, 1, -901)), "18"),
+        row("`Scl::sorted_relative_pitch_of`", "`25/9`, `5/3`, degree 1: the first item is the period twice", || rust(|| scl(TWICE).sorted_relative_pitch_of(1).as_float()), "1.6666666666666665", || float(ffi::sorted_relative_pitch_of(&built(TWICE).columns, 2, 1)), "1.0"),
         row("`Scl::period`", "an item of kind 3", cannot_be, CANNOT_BE, || float(ffi::period(&unkind(), 3)), "10"),
         row("`Scl::relative_pitch_of`", "an item of kind 3", cannot_be, CANNOT_BE, || float(ffi::relative_pitch_of(&unkind(), 3, 1)), "10"),
         row("`Scl::sorted_relative_pitch_of`", "a list whose ratios fall", cannot_be, CANNOT_BE, || float(ffi::sorted_relative_pitch_of(&falling(), 3, 1)), "10"),

@@ -88,13 +88,13 @@ fn reads(list: &mut List) {
 /// An item as the program reads it: kind, cents, numerator, denominator.
 fn ratios(list: &mut List) {
     let mut random = Random::new(108);
-    let items = [Item::cents(0.0), Item::cents(-38_400.0), Item::cents(1_080_000.1), Item::cents(-0.0), Item::Fraction(0, Some(1)), Item::Fraction(1, Some(0)), Item::Fraction(u32::MAX, None), Item::Fraction(0, None)];
+    let items = [Item::cents(0.0), Item::cents(-38_400.0), Item::cents(1_080_000.1), Item::cents(40_000.0), Item::cents(38_400.0), Item::cents(-38_400.1), Item::cents(-0.0), Item::Fraction(0, Some(1)), Item::Fraction(1, Some(0)), Item::Fraction(u32::MAX, None), Item::Fraction(0, None)];
     let more: Vec<Item> = (0..24).map(|k| if k % 2 == 0 { Item::cents((random.unit() - 0.5) * 2400.0) } else { Item::Fraction(random.u32(), Some(random.u32())) }).collect();
     for item in items.into_iter().chain(more) {
         let (kind, cents, numer, denom) = item.row();
         list.push(&format!("ratio {kind} {cents:016x} {numer} {denom}"), scl_build::as_ratio(item), written);
     }
-    list.push(&format!("ratio 3 {} 1 1", float(0.0)), Said::refused(Who::Rules, 18, 0, crate::lent::Float::Untouched), written);
+    list.push(&format!("ratio 3 {} 1 1", float(0.0)), Said::refused(Who::Rules, 10, 0, crate::lent::Float::Untouched), written);
 }
 
 /// The four fields of a step: 0 a new builder, 1 cents, 2 a ratio, 3 an integer, 4 a fraction. What a step does not take is 0.

@@ -268,8 +268,11 @@ fn states(tally: &mut Tally) {
     tally.same("a list of NaNs", (code, (items, columns)), built(&old, &[Push::Fraction(3, 2), Push::Int(2)]));
 }
 
-/// An item's ratio: the Rust's is the period of a scale of that item alone, on the second E.
+/// An item's ratio, or 10 where it cannot be used: the Rust's is the period of a scale of that item alone, on the second E.
 pub fn as_ratio(item: Item) -> Said<Float> {
+    if !rules_scl::usable(item) {
+        return Said::refused(Who::Rules, 10, 0, Float::Untouched);
+    }
     let push = match item {
         Item::Cents(bits) => Push::Cents(f64::from_bits(bits)),
         Item::Fraction(numer, None) => Push::Int(numer),
@@ -277,9 +280,8 @@ pub fn as_ratio(item: Item) -> Said<Float> {
     };
     let period = rust_scl::pushes(&[push]).build_with_description("").unwrap().period().as_float();
     match rules_scl::ratio(item) {
-        None => Said::refused(Who::Rules, 18, 0, Float::Untouched),
         Some(ratio) if ratio.to_bits() == period.to_bits() => Said::gives(Who::Second, Float::of(period)),
-        Some(_) => Said::fault(Float::Untouched),
+        _ => Said::fault(Float::Untouched),
     }
 }
 
@@ -297,12 +299,12 @@ fn ratios(tally: &mut Tally) {
         tally.same(n, ffi_scl::item_as_ratio(2, f64::NAN, n, d), as_ratio(Item::Fraction(n, None)));
     }
     for kind in 3..=255 {
-        tally.same(kind, ffi_scl::item_as_ratio(kind, 100.0, 3, 2), Said::refused(Who::Rules, 18, 0, Float::Untouched));
+        tally.same(kind, ffi_scl::item_as_ratio(kind, 100.0, 3, 2), Said::refused(Who::Rules, 10, 0, Float::Untouched));
     }
 }
 
 pub fn compare(all: &mut Report) {
-    all.function("PitchValue::as_ratio", &[18], ratios);
+    all.function("PitchValue::as_ratio", &[10], ratios);
     all.function("SclBuilder, pushes", &[10, 12], pushes);
     all.function("SclBuilder::build", &[10, 13, 18], builds);
 }

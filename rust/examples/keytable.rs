@@ -3,7 +3,8 @@
 //!
 //!     cargo run --manifest-path rust/Cargo.toml --example keytable -- examples/just.scl examples/linear.kbm
 
-use std::io::{self, BufWriter, Write};
+use std::fs::File;
+use std::io::{self, BufWriter, Read, Write};
 use std::process::ExitCode;
 use telbijan::{number, ratio, Mapping, Refusal, Scale};
 
@@ -18,7 +19,9 @@ const SCALE_LINES: [&str; 2] = ["the description", "the number of notes"];
 const MAPPING_LINES: [&str; 7] = ["the size", "the first key", "the last key", "the middle key", "the reference key", "the reference pitch", "the formal octave"];
 
 fn read<T>(name: &str, required: &[&str], parse: impl FnOnce(&[u8]) -> Result<T, Refusal>) -> Result<T, String> {
-    let text = std::fs::read(name).map_err(|_| format!("{name}: cannot be opened"))?;
+    let mut text = Vec::new();
+    let mut file = File::open(name).map_err(|_| format!("{name}: cannot be opened"))?;
+    file.read_to_end(&mut text).map_err(|_| format!("{name}: cannot be read"))?;
     parse(&text).map_err(|refusal| match refusal.line() {
         Some(line) => format!("{name}:{line}: {}", refusal.reason()),
         None if refusal.number() == number::LINE_MISSING => format!("{name}: {} is missing", required[refusal.detail() as usize - 1]),

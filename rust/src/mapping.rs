@@ -121,7 +121,8 @@ impl Tuning<'_> {
     }
 
     /// The pitches of a run of keys, as many as `hz` has places, and beside each 0 or the number of its refusal; the pitch of a refused key
-    /// stays as it was. The tables are tested once. 10 where they cannot be used, 12 where `numbers` has fewer places than `hz`.
+    /// stays as it was. The tables are tested once. 10 where they cannot be used, 12 where `numbers` has fewer places than `hz`; before
+    /// both, 12 where `hz` has over 4,294,967,295 places.
     pub fn pitches_of(self, first: i32, hz: &mut [f64], numbers: &mut [u32]) -> Result<(), Refusal> {
         let (s, (a, b, c, d, e, f, g, h, i)) = (self.items(), mapping!(self.mapping));
         let Ok(keys) = u32::try_from(hz.len()) else { return Refusal::of(u64::from(number::NO_ROOM)) };

@@ -52,7 +52,10 @@ static void pitches(const columns *c, telbijan_root r, bool even) {
     uint64_t result;
     int32_t degree = draw_key();
     double *x = OUT(double, 0);
+    const telbijan_scale s = telbijan_scale_lent(c->s.kind, c->s.cents, c->s.numer, c->s.denom, c->s.place, c->s.ratio, c->s.wraps,
+        c->s.room, c->s.count);
     FLOAT(telbijan_period(ITEMS(*c), c->s.count, x), telbijan_scale_period(&c->s, &also));
+    FLOAT(telbijan_period(ITEMS(*c), c->s.count, x), telbijan_scale_period(&s, &also));
     FLOAT(telbijan_relative_pitch_of(ITEMS(*c), c->s.count, degree, x), telbijan_scale_relative_pitch_of(&c->s, degree, &also));
     FLOAT(telbijan_sorted_relative_pitch_of(COLUMNS(*c), c->s.count, degree, x), telbijan_scale_sorted_relative_pitch_of(&c->s, degree, &also));
     FLOAT(telbijan_pitch_of(ITEMS(*c), c->s.count, TELBIJAN_ROOT(r), degree, x), telbijan_tuning_pitch_of(&c->s, r, degree, &also));
@@ -92,8 +95,10 @@ static void mapped(const columns *c, telbijan_mapping m, bool even) {
     uint64_t result;
     int32_t key = draw_key(), *z = OUT(int32_t, 1), degree;
     double *x = OUT(double, 0);
+    const telbijan_mapping constant = telbijan_mapping_lent(m.map, m.room, m.count, m.start, m.end, m.root, m.octave);
     CALL(telbijan_scale_degree_of(MAPPING(m), key, z)), ONLY_VALUES();
     degree = *z;
+    SAME(telbijan_mapping_degree_of(&constant, key, &degree), result), MUST(degree == *z);
     SAME(telbijan_mapping_degree_of(&m, key, &degree), result), MUST(degree == *z);
     FLOAT(telbijan_maybe_pitch_of(ITEMS(*c), c->s.count, MAPPING(m), key, x), telbijan_tuning_maybe_pitch_of(&c->s, &m, key, &also));
     FLOAT(telbijan_maybe_pitch_of_degree(ITEMS(*c), c->s.count, MAPPING(m), key, x), telbijan_tuning_maybe_pitch_of_degree(&c->s, &m, key, &also));

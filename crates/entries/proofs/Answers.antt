@@ -30,7 +30,7 @@ use Rattle.searching.specs.declared.Found.{Found}
 use Rattle.searching.proofs.Given.{clamped-in}
 use Rattle.searching.proofs.Opened.{pickedAt, nearest-told, search-none}
 use Rattle.searching.specs.declared.approximation.Approximation.{Approximation}
-use Rattle.entries.specs.Entries.{asEntry, asEntries, columnsIn, noEntry}
+use Rattle.entries.specs.Entries.{asEntry, asEntries, columnsIn, noSortedEntry}
 use Rattle.entries.specs.declared.SortedEntry.{SortedEntry}
 use Rattle.entries.specs.Columns.{degreeBy, columnSearch}
 use Rattle.entries.specs.Scans.{Aims, Starts, scanPlaces, scanned, Comparable, Ready, chosenBy, nearestBy, foundBy, answerOf}
@@ -48,12 +48,12 @@ first-listed (suc n) (e ∷ l) = ap (λ (m : List Entry). asEntry e ∷ m) (firs
 pub listed : (count : ℕ) (l : List SortedEntry) → listIn count (columnsIn l) ≡ asEntries (take (count + 1) l)
 listed count l = first-listed (count + 1) l
 
-entry-at : (l : List SortedEntry) (i : ℕ) → getD (asEntries l) i scales.noEntry ≡ asEntry (getD l i noEntry)
+entry-at : (l : List SortedEntry) (i : ℕ) → getD (asEntries l) i scales.noEntry ≡ asEntry (getD l i noSortedEntry)
 entry-at [] i = refl
 entry-at (e ∷ l) zero = refl
 entry-at (e ∷ l) (suc i) = entry-at l i
 
-ratio-at : (l : List SortedEntry) (i : ℕ) → getD (ratiosOf (asEntries l)) i nan ≡ getD l i noEntry .ratio
+ratio-at : (l : List SortedEntry) (i : ℕ) → getD (ratiosOf (asEntries l)) i nan ≡ getD l i noSortedEntry .ratio
 ratio-at [] i = refl
 ratio-at (e ∷ l) zero = refl
 ratio-at (e ∷ l) (suc i) = ratio-at l i
@@ -130,7 +130,7 @@ module _ (es : List SortedEntry) (f : Scan) (ends : Ends es f) (reach : AllInRea
       let n = length-map es asEntry in
       (omega (arith, e, c .0), omega (arith, e, c .1, n, size))
 
-  reach-at : (i : ℕ) → i < length es → inReach (getD es i noEntry .ratio) ≡ true
+  reach-at : (i : ℕ) → i < length es → inReach (getD es i noSortedEntry .ratio) ≡ true
   reach-at i h = subst (λ (x : Float). inReach x ≡ true) (ratio-at es i) (reach i (let n = ratios-size es in omega (arith, n, h)))
 
   near-of : Comparable f
@@ -234,7 +234,7 @@ module _ (count : ℕ) (t : ItemTable) (ys : List SortedEntry) (x : Float) (s : 
             ∙ ap (λ (a : Aim). pick (a .beyond) (refuses beyond-reach 0) (nearestOf (asEntries es) (a .periods) (a .target))) (run-aim es s 0)
             ∙ sym (aims .search (asEntries es))
 
-      upper-first : (l : List SortedEntry) → length l ≡ 1 → run s l 0 .upper ≡ getD l 0 noEntry
+      upper-first : (l : List SortedEntry) → length l ≡ 1 → run s l 0 .upper ≡ getD l 0 noSortedEntry
       upper-first [] n = absurd (omega (arith, n))
       upper-first (a ∷ []) n = refl
       upper-first (a ∷ b ∷ l) n = absurd (omega (arith, n))

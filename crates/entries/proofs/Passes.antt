@@ -13,7 +13,7 @@ use Rattle.base.specs.Said.{pick}
 use Rattle.sorting.proofs.Order.{clash}
 use Rattle.sorted.specs.Lent.{placesOf, ratiosOf, mayFollow, usableAfter, areWithin, firstNotBelow}
 use Rattle.searching.specs.Search.{clamped, upperOf}
-use Rattle.entries.specs.Entries.{asEntry, asEntries, noEntry}
+use Rattle.entries.specs.Entries.{asEntry, asEntries, noSortedEntry}
 use Rattle.entries.specs.declared.SortedEntry.{SortedEntry}
 use Rattle.entries.specs.Scans.{goesUp, scanStep, scanned}
 use Rattle.entries.specs.declared.search.Aim.{Aim}
@@ -25,14 +25,14 @@ abbrev pub run : Scan → List SortedEntry → ℕ → Scan
 run s [] i = s
 run s (e ∷ l) i = run (scanStep s e i) l (suc i)
 
-run-last : (l : List SortedEntry) (s : Scan) (i n k : ℕ) → n < length l → i + n ≡ k → run s (take (suc n) l) i ≡ scanStep (run s (take n l) i) (getD l n noEntry) k
+run-last : (l : List SortedEntry) (s : Scan) (i n k : ℕ) → n < length l → i + n ≡ k → run s (take (suc n) l) i ≡ scanStep (run s (take n l) i) (getD l n noSortedEntry) k
 run-last [] s i n k h e = absurd (not-suc-le-zero h)
 run-last (x ∷ l) s i zero k h e = let z : i ≡ k = omega (arith, e) in ap (scanStep s x) z
 run-last (x ∷ l) s i (suc n) k h e = run-last l (scanStep s x i) (suc i) n k (le-of-suc-le-suc h) (omega (arith, e))
 
 pub scanned-is : (s : Scan) (l : List SortedEntry) (n : ℕ) → n ≤ length l → scanned s l n ≡ run s (take n l) 0
 scanned-is s l zero h = refl
-scanned-is s l (suc n) h = ap (λ (t : Scan). scanStep t (getD l n noEntry) n) (scanned-is s l n (omega (arith, h))) ∙ sym (run-last l s 0 n n h (omega arith))
+scanned-is s l (suc n) h = ap (λ (t : Scan). scanStep t (getD l n noSortedEntry) n) (scanned-is s l n (omega (arith, h))) ∙ sym (run-last l s 0 n n h (omega arith))
 
 -- ---- what stays, and what is tested
 pub run-count : (l : List SortedEntry) (s : Scan) (i : ℕ) → run s l i .count ≡ s .count
@@ -66,7 +66,7 @@ run-usable (e ∷ l) s i =
 
 -- ---- the neighbours: from the place i on the upper one goes up by j places
 abbrev UpBy : Scan → List SortedEntry → Scan → ℕ → Type 0
-UpBy s l f j = (f .at ≡ s .at + j) × (f .upper ≡ getD (s .upper ∷ l) j noEntry) × (f .lower ≡ getD (s .lower ∷ s .upper ∷ l) j noEntry)
+UpBy s l f j = (f .at ≡ s .at + j) × (f .upper ≡ getD (s .upper ∷ l) j noSortedEntry) × (f .lower ≡ getD (s .lower ∷ s .upper ∷ l) j noSortedEntry)
 
 abbrev up : Scan → List SortedEntry → ℕ
 up s l = min (firstNotBelow (s .upper .ratio ∷ ratiosOf (asEntries l)) (s .aim .target)) (length l)
@@ -121,7 +121,7 @@ clamp-some last n h = ap (λ (b : Bool). pick b 1 (pick (ltb last n) last n)) (n
 
 -- where the pass ends in a list: at the first entry not below the target, but not at the first of all and not behind the last
 abbrev pub Ends : List SortedEntry → Scan → Type 0
-Ends es f = (f .at ≡ upperOf (asEntries es) (f .aim .target)) × (f .upper ≡ getD es (f .at) noEntry) × (f .lower ≡ getD es (f .at - 1) noEntry)
+Ends es f = (f .at ≡ upperOf (asEntries es) (f .aim .target)) × (f .upper ≡ getD es (f .at) noSortedEntry) × (f .lower ≡ getD es (f .at - 1) noSortedEntry)
 
 pub run-ends : (s : Scan) (a b : SortedEntry) (l : List SortedEntry) → (lt (a .ratio) (s .aim .target) ≡ false → lt (b .ratio) (s .aim .target) ≡ false) → Ends (a ∷ b ∷ l) (run s (a ∷ b ∷ l) 0)
 run-ends s a b l falls =
@@ -130,8 +130,8 @@ run-ends s a b l falls =
     let f = run s (a ∷ b ∷ l) 0 in
     let d : f .at - 1 ≡ j = omega (arith, e) in (
       e ∙ sym (place (lt (a .ratio) target) refl) ∙ ap (λ (x : Float). upperOf (asEntries (a ∷ b ∷ l)) x) (sym (ap (λ (m : Aim). m .target) (run-aim (a ∷ b ∷ l) s 0))),
-      c .1 ∙ ap (λ (n : ℕ). getD (a ∷ b ∷ l) n noEntry) (sym e),
-      c .2 ∙ ap (λ (n : ℕ). getD (a ∷ b ∷ l) n noEntry) (sym d),
+      c .1 ∙ ap (λ (n : ℕ). getD (a ∷ b ∷ l) n noSortedEntry) (sym e),
+      c .2 ∙ ap (λ (n : ℕ). getD (a ∷ b ∷ l) n noSortedEntry) (sym d),
     )
   where
     target : Float

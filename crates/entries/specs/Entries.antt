@@ -27,8 +27,8 @@ firstOf n t = zip (take n (t .places)) (take n (t .ratios)) (take n (t .wraps))
 
 -- ---- what the code writes
 -- what stands past the end
-abbrev pub noEntry : SortedEntry
-noEntry = record { place = 0; ratio = nan; wraps = pos 0 }
+abbrev pub noSortedEntry : SortedEntry
+noSortedEntry = record { place = 0; ratio = nan; wraps = pos 0 }
 
 -- what three columns have at a place
 abbrev pub sortedEntryAt : List ℕ → List Float → List ℤ → ℕ → SortedEntry

@@ -21,7 +21,7 @@ use Rattle.searching.specs.Search.{chosenOf, indexOf, foundAt, nearestOf, searc
 use Rattle.searching.specs.declared.Choice.{Choice}
 use Rattle.searching.specs.declared.Found.{Found}
 use Rattle.searching.specs.declared.approximation.Approximation.{Approximation}
-use Rattle.entries.specs.Entries.{asEntry, noEntry}
+use Rattle.entries.specs.Entries.{asEntry, noSortedEntry}
 use Rattle.entries.specs.declared.SortedEntry.{SortedEntry}
 use Rattle.entries.specs.Columns.{degreeBy}
 use Rattle.entries.specs.declared.search.Aim.{Aim}
@@ -75,7 +75,7 @@ scanStep s e i = record {
 -- what the first entries of a list give
 abbrev pub scanned : Scan → List SortedEntry → ℕ → Scan
 scanned s l zero = s
-scanned s l (suc i) = scanStep (scanned s l i) (getD l i noEntry) i
+scanned s l (suc i) = scanStep (scanned s l i) (getD l i noSortedEntry) i
 
 -- ---- the end
 -- the neighbours can be compared with the target

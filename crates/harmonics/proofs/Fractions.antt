@@ -6,7 +6,7 @@ use native.Mathlib.Omega.{arith}
 use lib.Ieee.{Float, binary64, div, lt, neg, toUnsigned}
 use Rattle.base.specs.Said.{pick}
 use Rattle.floats.specs.Floats.{floor}
-use Rattle.harmonics.specs.Segment.{ceil, harmonicOf, fraction}
+use Rattle.harmonics.specs.Segment.{ceil, harmonicOf, itemFraction}
 use Rattle.harmonics.specs.declared.segment.Fraction.{Fraction}
 
 module _ (h : Float) {low high : Float} (l : low ≡ floor h) (u : high ≡ ceil h) where

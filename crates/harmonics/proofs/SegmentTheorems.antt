@@ -5,7 +5,7 @@ use Prim.Native.Nat.{ℕ}
 use Rattle.base.specs.Said.{Said, One}
 use Rattle.base.proofs.Said.{Split, one-result, one-plain}
 use Rattle.harmonics.specs.Answers.{saysFraction, saysSteps}
-use Rattle.harmonics.specs.Segment.{fraction, wholeAt, fractionAt, stepsOf, segmentCount}
+use Rattle.harmonics.specs.Segment.{itemFraction, wholeAt, fractionAt, stepsOf, segmentCount}
 use Rattle.harmonics.specs.declared.segment.Divisions.{Divisions}
 use Rattle.harmonics.specs.declared.segment.Fraction.{Fraction}
 use Rattle.harmonics.specs.declared.segment.FractionAnswer.the-variants as OfFraction
@@ -15,7 +15,7 @@ use Rattle.harmonics.specs.declared.segment.Steps.{Steps}
 use Rattle.harmonics.specs.declared.segment.StepsAnswer.the-variants as OfSteps
 
 -- 9:10:11:12:13:14:15:16 and 16/(16:15:14:13:12:11:10:9), as the Rust's example has them: the first and the last item
-pub nine-to-sixteen : (wholeAt Otonal 9 7 1 ≡ fraction 10 9) × (wholeAt Otonal 9 7 7 ≡ fraction 16 9) × (wholeAt Utonal 9 7 1 ≡ fraction 16 15) × (wholeAt Utonal 9 7 7 ≡ fraction 16 9)
+pub nine-to-sixteen : (wholeAt Otonal 9 7 1 ≡ itemFraction 10 9) × (wholeAt Otonal 9 7 7 ≡ itemFraction 16 9) × (wholeAt Utonal 9 7 1 ≡ itemFraction 16 15) × (wholeAt Utonal 9 7 7 ≡ itemFraction 16 9)
 nine-to-sixteen = (refl, refl, refl, refl)
 
 -- ---- two results of one input are equal

@@ -25,18 +25,18 @@ candidateOf h = pick (lt (div binary64 h (floor h)) (div binary64 (ceil h) h)) (
 unfoldable pub harmonicOf : Float → ℕ
 harmonicOf h = toUnsigned 32 (candidateOf h)
 
-abbrev pub fraction : ℕ → ℕ → Fraction
-fraction numer denom = record { numer = numer; denom = denom }
+abbrev pub itemFraction : ℕ → ℕ → Fraction
+itemFraction numer denom = record { numer = numer; denom = denom }
 
 -- without divisions: the harmonics after the first one over it, the last one over those before it
 abbrev pub wholeAt : SegmentType → ℕ → ℕ → ℕ → Fraction
-wholeAt Otonal start size j = fraction (start + j) start
-wholeAt Utonal start size j = fraction (start + size) (start + size - j)
+wholeAt Otonal start size j = itemFraction (start + j) start
+wholeAt Utonal start size j = itemFraction (start + size) (start + size - j)
 
 -- the same of the harmonic near a ratio
 abbrev pub nearAt : SegmentType → ℕ → ℕ → Float → Fraction
-nearAt Otonal start size ratio = fraction (harmonicOf (mul binary64 ratio (float start))) start
-nearAt Utonal start size ratio = fraction (start + size) (harmonicOf (div binary64 (float (start + size)) ratio))
+nearAt Otonal start size ratio = itemFraction (harmonicOf (mul binary64 ratio (float start))) start
+nearAt Utonal start size ratio = itemFraction (start + size) (harmonicOf (div binary64 (float (start + size)) ratio))
 
 -- the j-th fraction: `step_size.repeated(j)` where the segment is divided
 abbrev pub fractionAt : SegmentType → ℕ → ℕ → Steps → ℕ → Said Fraction

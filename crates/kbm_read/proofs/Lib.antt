@@ -14,3 +14,5 @@ pub mod Draws
 pub mod Takes
 pub mod LineTheorems
 pub mod Inside
+pub mod Refusals
+pub mod EachSaid

@@ -27,7 +27,7 @@ use Rattle.writing.proofs.Lines.{lines-cons}
 use Rattle.writing.proofs.Room.{fitted-gives}
 use Rattle.writing.proofs.Widths.{line-under, size-line, three-under}
 use Rattle.kbm_write.specs.Export.{lastKeyOf, middleKeyOf, entryText, entryTexts, exportText, exportOf, Writable}
-use Rattle.kbm_write.specs.Typed.{Typed, OfTypes}
+use Rattle.kbm_write.specs.Typed.{TypedKbm, OfTypes}
 use Rattle.kbm_write.proofs.Lines.{five-length}
 use Rattle.kbm_write.proofs.Printed.{pitch-few}
 use Rattle.kbm_write.proofs.Room.{four-length}
@@ -59,7 +59,7 @@ entry-lines (Mapped z ∷ es) d = omega (arith, lines-cons (entryText (Mapped z)
 entry-lines (Unmapped ∷ es) d = omega (arith, lines-cons (entryText Unmapped) (entryTexts es), entry-lines es (d .1))
 
 -- the seven lines have 6, 12, 12, 12, 12, 12 and 7 bytes
-pub export-short : (kbm : Kbm) (es : List Entry) → Typed kbm es → length (exportText kbm es) ≤ 73 + 7 * kbm .count
+pub export-short : (kbm : Kbm) (es : List Entry) → TypedKbm kbm es → length (exportText kbm es) ≤ 73 + 7 * kbm .count
 export-short kbm es y =
     let size = wholeText (pos (kbm .count)) in
     let first = wholeText (kbm .start .0) in

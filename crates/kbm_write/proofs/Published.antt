@@ -21,7 +21,7 @@ use Rattle.kbm.specs.declared.Kbm.{Kbm}
 use Rattle.kbm.proofs.Entries.{mag-i16}
 use Rattle.kbm_write.specs.Export.{lastKeyOf, middleKeyOf, entryTexts, exportText}
 use Rattle.kbm_write.specs.Published as P
-use Rattle.kbm_write.specs.Typed.{Typed}
+use Rattle.kbm_write.specs.Typed.{TypedKbm}
 use Rattle.kbm_write.proofs.ExportLines.{exportTexts, export-lines, export-words}
 use Rattle.kbm_write.proofs.Lines.{pitch-limited}
 
@@ -59,7 +59,7 @@ degrees (Unmapped ∷ es) d = ((120 ∷ [], alone (120 ∷ []), P.Degree.cross r
 
 -- the bytes that the export of a mapping of its types writes are a text of the published format, and say the mapping's numbers, its pitch to
 -- three decimals, and its entries
-pub export-published : (kbm : Kbm) (es : List Entry) → Typed kbm es → P.PublishedText (exportText kbm es) (P.publishedOf kbm es)
+pub export-published : (kbm : Kbm) (es : List Entry) → TypedKbm kbm es → P.PublishedText (exportText kbm es) (P.publishedOf kbm es)
 export-published kbm es y =
     record {
       l1 = wholeText (pos (kbm .count));

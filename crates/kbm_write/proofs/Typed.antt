@@ -14,12 +14,12 @@ use Rattle.kbm.specs.Table.{inI16, areEntries, tableOf}
 use Rattle.kbm.specs.declared.Kbm.{Kbm}
 use Rattle.kbm.proofs.Table.{length-entries, entries-typed}
 use Rattle.kbm_write.specs.Export.{Writable}
-use Rattle.kbm_write.specs.Typed.{Typed}
+use Rattle.kbm_write.specs.Typed.{TypedKbm}
 use Rattle.kbm_write.proofs.Room.{table-fits}
 
 -- what a writable mapping of the program's types is
 pub typed : (kbm : Kbm) (map : List ℤ) → Writable kbm map → inI32 (kbm .start .0) ≡ true → inI32 (kbm .end .0) ≡ true → inI32 (kbm .root .reference .0) ≡ true
-    → inI16 (kbm .octave) ≡ true → kbm .count ≤ 65535 → Typed kbm (tableOf (kbm .count) map)
+    → inI16 (kbm .octave) ≡ true → kbm .count ≤ 65535 → TypedKbm kbm (tableOf (kbm .count) map)
 typed kbm map w s e r o c =
     let h = table-fits (kbm .count) map (w .table) in
     let n : length (take (kbm .count) map) ≡ kbm .count = simp length-take (omega (arith, h)) in

@@ -13,7 +13,7 @@ use Rattle.kbm.specs.declared.Kbm.{Kbm}
 use Rattle.kbm_write.specs.Export.{lastKeyOf, middleKeyOf}
 
 -- keys and octave are of their types, the pitch is usable, last and middle key are keys, and the entries are as many as the count
-pub record Typed (kbm : Kbm) (es : List Entry) : Type 0 where
+pub record TypedKbm (kbm : Kbm) (es : List Entry) : Type 0 where
   pub start : inI32 (kbm .start .0) ≡ true
   pub end : inI32 (kbm .end .0) ≡ true
   pub reference : inI32 (kbm .root .reference .0) ≡ true

@@ -9,6 +9,9 @@ mod keys;
 mod reasons;
 mod tables;
 
+// The longest name of a file that is taken: no argument of Linux with pages of 4,096 bytes is longer.
+const NAME: usize = 131072;
+
 // Says that standard output failed, where it did.
 fn finish(written: bool) {
     if !written {
@@ -42,9 +45,9 @@ fn main() {
         io::write_all(STDERR_FILENO, b"usage: keytable SCL KBM\n");
         return;
     }
-    let mut scl_name = io::buffer();
+    let mut scl_name = [0u8; NAME];
     let scl_bytes = os::arg(1, &mut scl_name);
-    let mut kbm_name = io::buffer();
+    let mut kbm_name = [0u8; NAME];
     let kbm_bytes = os::arg(2, &mut kbm_name);
     print_files(&scl_name[..scl_bytes], &kbm_name[..kbm_bytes]);
 }

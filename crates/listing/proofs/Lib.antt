@@ -5,3 +5,4 @@ pub mod Language
 pub mod Given
 pub mod Details
 pub mod Ample
+pub mod Refusals

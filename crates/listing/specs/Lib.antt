@@ -1,3 +1,4 @@
 pub mod Listing
 pub mod Reader
 pub mod Drawn
+pub mod Refusals

@@ -10,3 +10,4 @@ pub mod Agree
 pub mod Limits
 pub mod Both
 pub mod Parting
+pub mod OneMeaning

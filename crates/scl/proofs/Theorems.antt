@@ -10,7 +10,7 @@ use Rattle.base.proofs.Said.{Split, one-result, one-answer}
 use Rattle.pitch.specs.Answers.{saysRatio}
 use Rattle.pitch.proofs.Theorems.{ratio-one}
 use Rattle.scl.specs.Answers.{saysScl}
-use Rattle.scl.specs.Items.{isUsableCents, isUsable, denomOf, ratioOf, Reached, Held}
+use Rattle.scl.specs.Items.{isUsableCents, isUsable, denomOf, ratioOf, givenRatio, Reached, Held}
 use Rattle.scl.specs.Table.{ItemTable, itemOf, isItems}
 use Rattle.scl.specs.declared.Denom.{Denom}
 use Rattle.scl.specs.declared.Item.{Item}
@@ -39,8 +39,8 @@ denom-of-one d = one-result (denomOf d)
 pub is-usable-one : (i : Item) → One (λ r. r) (isUsable i)
 is-usable-one i = one-result (isUsable i)
 
-pub as-ratio-one : (i : Item) → One saysRatio (ratioOf i)
-as-ratio-one i = ratio-one (ratioOf i)
+pub as-ratio-one : (i : Item) → One saysRatio (givenRatio i)
+as-ratio-one i = ratio-one (givenRatio i)
 
 pub item-of-one : (kind : ℕ) (cents : Float) (numer denom : ℕ) → One (λ r. r) (itemOf kind cents numer denom)
 item-of-one kind cents numer denom = one-result (itemOf kind cents numer denom)

@@ -7,7 +7,8 @@ use Prim.Native.Nat.{ℕ, _^_, _<_}
 use lib.Dec.{ltb}
 use lib.IntN.{pos}
 use lib.Ieee.{Float, binary64, div, neg, ofInt, ofBits}
-use Rattle.base.specs.Said.{Said, gives}
+use Rattle.base.specs.Numbers.{unusable}
+use Rattle.base.specs.Said.{Said, gives, refuses, pick}
 use Rattle.floats.specs.Ranges.{within, inGenerator}
 use Rattle.pitch.specs.Given.{computed}
 use Rattle.pitch.specs.Ratios.{fromCents}
@@ -42,6 +43,10 @@ denomOf Lacking = 1
 abbrev pub ratioOf : Item → Said Float
 ratioOf (Cents c) = fromCents c
 ratioOf (Fraction n d) = computed (div binary64 (ofInt binary64 (pos n)) (ofInt binary64 (pos (denomOf d))))
+
+-- the ratio of an item that is given to a call: 10 where it cannot be used
+abbrev pub givenRatio : Item → Said Float
+givenRatio i = pick (isUsable i) (ratioOf i) (refuses unusable 0)
 
 -- a ratio is said, and lies in 2^-32..2^32
 pub record Reached (s : Said Float) : Type 0 where

@@ -12,7 +12,7 @@ ghost use Prim.Native.Nat.{_≤_, _<_};
 ghost use lib.ListN.{length, take, getD};
 ghost use lib.Ieee.{nan};
 ghost use Rattle.pitch.specs.Answers.{saysRatio};
-ghost use Rattle.scl.specs.Items.{isUsableCents, isUsableDenom, isUsable, denomOf, ratioOf, Reached};
+ghost use Rattle.scl.specs.Items.{isUsableCents, isUsableDenom, isUsable, denomOf, ratioOf, givenRatio, Reached};
 ghost use Rattle.scl.specs.Table.{itemOf, itemsOf, itemTable, areUsable, isItems};
 
 // A scale, beside its tables: `count` items after place 0.
@@ -97,7 +97,7 @@ impl Item {
     }
 
     // The item as a ratio; 18 where that is out of reach, never for an item that can be used.
-    pub fn as_ratio(self) -> RatioAnswer
+    fn ratio(self) -> RatioAnswer
         ensures { λ r. ⌜ saysRatio r ≡ ratioOf self ⌝ }
         ensures { λ r. ⌜ (isUsable self ≡ true → Reached (saysRatio r)) ⌝ }
     {
@@ -106,6 +106,18 @@ impl Item {
             Item::Fraction(numer, denom) => {
                 pitch::checked_ratio((numer as f64) / (denom_of(denom) as f64))
             }
+        }
+    }
+
+    // The item as a ratio; 10 for an item that cannot be used, and never another refusal.
+    pub fn as_ratio(self) -> RatioAnswer
+        ensures { λ r. ⌜ saysRatio r ≡ givenRatio self ⌝ }
+        ensures { λ r. ⌜ (isUsable self ≡ true → Reached (saysRatio r)) ⌝ }
+    {
+        if self.is_usable() {
+            self.ratio()
+        } else {
+            RatioAnswer::Refused(NOT_USABLE)
         }
     }
 }

@@ -38,7 +38,7 @@ written-fits b t place i f = record {
 }
 
 -- what a push leaves, by what is said of it
-left-by : (b : SclBuilder) (t : ItemTable) (i : Item) {s : Said SclBuilder} → pushed b t i ≡ s → afterOne (beside b t) i ≡ beside (builderAfter b s) (writtenWhere s t (b .count + 1) i)
+pub left-by : (b : SclBuilder) (t : ItemTable) (i : Item) {s : Said SclBuilder} → pushed b t i ≡ s → afterOne (beside b t) i ≡ beside (builderAfter b s) (writtenWhere s t (b .count + 1) i)
 left-by b t i e = ap (λ (s : Said SclBuilder). beside (builderAfter b s) (writtenWhere s t (b .count + 1) i)) e
 
 none-appended : (b : SclBuilder) (t : ItemTable) → fitsItems b t ≡ true → Appended (beside b t) [] (beside b t)
@@ -51,13 +51,13 @@ module _ (b : SclBuilder) (t : ItemTable) (i : Item) (f : Fit b t) (h : b .count
   abbrev written : ItemTable
   written = writtenAt t (b .count + 1) i
 
-  next-fits : fitsItems next written ≡ true
+  pub next-fits : fitsItems next written ≡ true
   next-fits =
       let w = written-fits b t (b .count + 1) i f in
       says-fit next written (record { inside = h; kinds = w .kinds; cents = w .cents; numers = w .numers; denoms = w .denoms })
 
   -- one item more
-  next-items : itemsIn (b .count + 1) written ≡ itemsIn (b .count) t ++ (i ∷ [])
+  pub next-items : itemsIn (b .count + 1) written ≡ itemsIn (b .count) t ++ (i ∷ [])
   next-items = rw add-one (first-written (b .count + 1) t i (record { kinds = omega (arith, f .kinds, h); cents = omega (arith, f .cents, h); numers = omega (arith, f .numers, h); denoms = omega (arith, f .denoms, h) }))
 
   appended-next : {is : List Item} {left : Built} → Appended (beside next written) is left → Appended (beside b t) (i ∷ is) left

@@ -4,3 +4,4 @@ pub mod Appends
 pub mod Numbers
 pub mod Theorems
 pub mod Comes
+pub mod Calls

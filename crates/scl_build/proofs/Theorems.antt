@@ -38,13 +38,13 @@ use Rattle.scl_build.proofs.Builds.{ready, ready-items, ready-count, to
 use Rattle.scl_build.proofs.Pushes.{Fit, fit-says, says-fit, says-fit-list}
 
 -- ---- from a new builder on
-implicit-usable : isUsable implicit ≡ true
+pub implicit-usable : isUsable implicit ≡ true
 unfolding le lt eq neg ofBits
 implicit-usable = refl
 
 module _ (t : ItemTable) (l : ListTable) (some : 0 < roomOf t l) where
   -- "place 0 holds the implicit 0.0 cents"
-  new-table : afterNew t l ≡ writtenAt t 0 implicit
+  pub new-table : afterNew t l ≡ writtenAt t 0 implicit
   new-table = rw (lt-ltb 0 (roomOf t l) some)
 
   fit-old : Fit (state (roomOf t l) 0) t

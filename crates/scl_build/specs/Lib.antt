@@ -1,2 +1,3 @@
 pub mod Builder
 pub mod Answers
+pub mod Calls

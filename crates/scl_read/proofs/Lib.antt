@@ -16,3 +16,5 @@ pub mod Takes
 pub mod LineTheorems
 pub mod TokenReads
 pub mod Inside
+pub mod Refusals
+pub mod EachSaid

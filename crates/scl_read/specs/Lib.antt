@@ -3,3 +3,4 @@ pub mod Reader
 pub mod ItemText
 pub mod Steps
 pub mod Tokens
+pub mod Refusals

@@ -11,7 +11,7 @@ use Rattle.base.specs.Numbers.{unusable, no-room}
 use Rattle.base.specs.Said.{gives, refuses, pick, Numbered, One}
 use Rattle.base.specs.Tables.{after}
 use Rattle.base.proofs.Said.{one-result, no-value, numbered-pick}
-use Rattle.utf8.specs.Utf8Machine.{utf8From, fresh}
+use Rattle.utf8.specs.Utf8Machine.{utf8From, noneDue}
 use Rattle.utf8.proofs.Utf8Language.{accepts}
 use Rattle.writing.specs.Answers.{saysSize}
 use Rattle.writing.specs.Fitted.{fitted, textLength}
@@ -35,13 +35,13 @@ module _ (scl : Scl) (table : ItemTable) (description : List ℕ) where
   text = exportText scl table description
 
   abbrev tests : Bool
-  tests = isItems (scl .count) table && utf8From fresh description
+  tests = isItems (scl .count) table && utf8From noneDue description
 
   -- the tests of the code say that the scale can be written
   pub tested : (tests ≡ true) ↔ Writable scl table description
   tested = (
     (λ e.
-        let t = both (isItems (scl .count) table) (utf8From fresh description) e in
+        let t = both (isItems (scl .count) table) (utf8From noneDue description) e in
         record { items = items-are (scl .count) table .0 (t .0); description-is = accepts description .0 (t .1) }),
     (λ w. rw (items-are (scl .count) table .1 (w .items), accepts description .1 (w .description-is))),
   )

@@ -12,7 +12,7 @@ use Rattle.base.specs.Numbers.{unusable, no-room}
 use Rattle.base.specs.Said.{Said, refuses, pick}
 use Rattle.printing.specs.PrintText.{textOf, wholeText}
 use Rattle.utf8.specs.Characters.{Utf8}
-use Rattle.utf8.specs.Utf8Machine.{utf8From, fresh}
+use Rattle.utf8.specs.Utf8Machine.{utf8From, noneDue}
 use Rattle.writing.specs.Fitted.{fitted}
 use Rattle.writing.specs.Lines.{linesText, numberText}
 use Rattle.scl.specs.Table.{ItemTable, Items, itemOf, itemsIn, isItems}
@@ -54,7 +54,7 @@ exportText scl table description = scaleText description (listedIn (scl .count) 
 -- what an export writes into so many bytes: 10 for unusable items or a description that is not UTF-8, before 12
 unfoldable pub exportOf : Scl → ItemTable → List ℕ → ℕ → Said (List ℕ)
 exportOf scl table description room =
-    pick (isItems (scl .count) table && utf8From fresh description) (fitted room (exportText scl table description)) (refuses unusable 0)
+    pick (isItems (scl .count) table && utf8From noneDue description) (fitted room (exportText scl table description)) (refuses unusable 0)
 
 -- so many bytes are enough: with them 12 is not said
 abbrev pub NeverFull : Scl → List ℕ → ℕ → Said ℕ → Type 0

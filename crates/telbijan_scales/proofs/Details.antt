@@ -6,7 +6,7 @@ use lib.ListN.{length}
 use lib.Ieee.{Float}
 use Rattle.base.specs.Said.{Said}
 use Rattle.sorted.specs.Lent.{ListTable}
-use Rattle.scl.specs.Items.{ratioOf}
+use Rattle.scl.specs.Items.{givenRatio}
 use Rattle.scl.specs.Table.{ItemTable, itemOf}
 use Rattle.scl.specs.declared.Item.{Item}
 use Rattle.scl_tables.specs.Build.{entriesFrom, sortedOf, scaleOf, sizedOf}
@@ -44,8 +44,8 @@ unfolding scaleOf
 sized-undetailed is = search (floats, sorted-undetailed) depth 12
 
 -- ---- scales that are built and written
-pub item-as-ratio-undetailed : (kind : ℕ) (cents : Float) (numer denom : ℕ) → Undetailed (ratioOf (itemOf kind cents numer denom))
-item-as-ratio-undetailed kind cents numer denom = as-ratio-undetailed (itemOf kind cents numer denom)
+pub item-as-ratio-undetailed : (kind : ℕ) (cents : Float) (numer denom : ℕ) → Undetailed (givenRatio (itemOf kind cents numer denom))
+item-as-ratio-undetailed kind cents numer denom = search (steps, as-ratio-undetailed)
 
 pub new-scl-undetailed : (items : ItemTable) (list : ListTable) → Undetailed (builderOf items list)
 new-scl-undetailed items list = search steps

@@ -8,11 +8,11 @@ use mathlib.Core.Bool.{Bool}
 use Rattle.base.specs.Said.{Numbered}
 use Rattle.base.proofs.Said.{numbered-then}
 use Rattle.sorted.specs.Lent.{ListTable}
-use Rattle.scl.specs.Items.{ratioOf}
+use Rattle.scl.specs.Items.{givenRatio}
 use Rattle.scl.specs.Table.{ItemTable, itemOf}
 use Rattle.scl.specs.declared.Denom.the-variants.{Given, Lacking}
 use Rattle.scl.specs.declared.Item.the-variants.{Cents, Fraction}
-use Rattle.scl.proofs.Numbers.{as-ratio-numbered}
+use Rattle.scl.proofs.Numbers.{given-ratio-numbered}
 use Rattle.scl_tables.specs.Room.{roomOf}
 use Rattle.scl_build.specs.Builder.{state, builderOf, pushed, pushedRatio, built, counted}
 use Rattle.scl_build.proofs.Numbers as building
@@ -29,8 +29,8 @@ use Rattle.rank2.proofs.Numbers as rank2
 use Rattle.telbijan_scales.specs.Generators.{segmentWith, divisionsWith}
 
 -- ---- scales that are built, read and written
-pub item-as-ratio-numbered : (kind : ℕ) (cents : Float) (numer denom : ℕ) → Numbered (ratioOf (itemOf kind cents numer denom))
-item-as-ratio-numbered kind cents numer denom = as-ratio-numbered (itemOf kind cents numer denom)
+pub item-as-ratio-numbered : (kind : ℕ) (cents : Float) (numer denom : ℕ) → Numbered (givenRatio (itemOf kind cents numer denom))
+item-as-ratio-numbered kind cents numer denom = given-ratio-numbered (itemOf kind cents numer denom)
 
 pub read-scl-numbered : (text : List ℕ) (items : ItemTable) (list : ListTable) → Numbered (readOf (roomOf items list) text)
 read-scl-numbered text items list = reading.read-scl-numbered (roomOf items list) text

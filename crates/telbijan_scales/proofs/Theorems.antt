@@ -8,7 +8,7 @@ use mathlib.Core.Bool.{Bool}
 use Rattle.base.specs.Said.{One}
 use Rattle.base.proofs.Said.{one-result}
 use Rattle.base.specs.Tables.{after}
-use Rattle.scl.specs.Items.{ratioOf}
+use Rattle.scl.specs.Items.{givenRatio}
 use Rattle.scl.specs.Table.{ItemTable, itemOf}
 use Rattle.scl.specs.declared.Denom.the-variants.{Given, Lacking}
 use Rattle.scl.specs.declared.Item.the-variants.{Cents, Fraction}
@@ -29,8 +29,8 @@ use Rattle.rank2.specs.Rank2.{madeRank2}
 use Rattle.telbijan_scales.specs.Generators.{segmentWith, divisionsWith}
 
 -- ---- scales that are built, read and written
-pub item-as-ratio-one : (kind : ℕ) (cents : Float) (numer denom : ℕ) (ratio : Float) → One (λ r. r) (result (ratioOf (itemOf kind cents numer denom))) × One (λ r. r) (kept (ratioOf (itemOf kind cents numer denom)) ratio)
-item-as-ratio-one kind cents numer denom ratio = (one-result (result (ratioOf (itemOf kind cents numer denom))), one-result (kept (ratioOf (itemOf kind cents numer denom)) ratio))
+pub item-as-ratio-one : (kind : ℕ) (cents : Float) (numer denom : ℕ) (ratio : Float) → One (λ r. r) (result (givenRatio (itemOf kind cents numer denom))) × One (λ r. r) (kept (givenRatio (itemOf kind cents numer denom)) ratio)
+item-as-ratio-one kind cents numer denom ratio = (one-result (result (givenRatio (itemOf kind cents numer denom))), one-result (kept (givenRatio (itemOf kind cents numer denom)) ratio))
 
 pub read-scl-one : (text : List ℕ) (items : ItemTable) (list : ListTable) (old : SclRead) →
     One (λ r. r) (result (readOf (roomOf items list) text)) × One (λ r. r) (afterItems text items list) × One (λ r. r) (afterSorted text items list)

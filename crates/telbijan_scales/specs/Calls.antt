@@ -1,10 +1,12 @@
 -- The contracts of this crate's calls: what is lent, r the result, what is left. Assumes nothing.
 use mathlib.Core.Path.{_≡_}
+use mathlib.Core.Bool.{true}
 use mathlib.Core.List.{List}
 use Prim.Native.Nat.{ℕ}
 use lib.Ieee.{Float}
 use lib.ListN.{length}
 use Rattle.base.specs.Said.{Said}
+use Rattle.scl.specs.Items.{isUsable, givenRatio}
 use Rattle.scl.specs.Table.{ItemTable}
 use Rattle.scl.specs.declared.Item.{Item}
 use Rattle.scl.specs.declared.Scl.{Scl}
@@ -18,7 +20,11 @@ use Rattle.writing.specs.Fitted.{textLength}
 use Rattle.scl_write.specs.Export.{exportOf, NeverFull}
 use Rattle.generate.specs.Generated.{countedOf, itemsLeft, listLeft}
 use Rattle.telbijan_answers.specs.Interface.{result, kept, fieldOf}
-use Rattle.telbijan_answers.specs.Calls.{Written}
+use Rattle.telbijan_answers.specs.Calls.{Stored, Written}
+
+-- the ratio of an item is stored; each item that can be used has one
+abbrev pub ItemAsRatio : Item → Float → ℕ → Float → Type 0
+ItemAsRatio item old r ratio = (Stored (givenRatio item) old r ratio) × (isUsable item ≡ true → r ≡ 0)
 
 -- the three numbers of a read: the count of items, and where the description starts and ends
 abbrev pub readWith : ℕ → ℕ → ℕ → SclRead

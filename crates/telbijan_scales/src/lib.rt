@@ -6,20 +6,16 @@ use scl::Scl;
 use scl_build::SclBuilder;
 use scl_build::SclBuilderAnswer;
 use scl_read::SclReadAnswer;
-ghost use mathlib.Core.Path.{_≡_};
-ghost use mathlib.Core.Bool.{true};
-ghost use Rattle.scl.specs.Items.{isUsable, ratioOf};
 ghost use Rattle.scl.specs.Table.{itemOf};
 ghost use Rattle.scl.specs.declared.Denom.the-variants.{Given, Lacking};
 ghost use Rattle.scl.specs.declared.Item.the-variants.{Cents, Fraction};
 ghost use Rattle.scl_build.specs.Answers.{saysBuilder};
 ghost use Rattle.scl_read.specs.Reader.{saysRead};
-ghost use Rattle.telbijan_answers.specs.Interface.{result, kept};
 ghost use Rattle.telbijan_answers.specs.Calls.{Stored, StoredPart};
 ghost use Rattle.telbijan_answers.specs.Lent.{itemsBefore, itemsAfter, listBefore, listAfter};
-ghost use Rattle.telbijan_scales.specs.Calls.{readWith, ReadScl, NewScl, PushItem, PushRatio, BuildScl, ExportScl};
+ghost use Rattle.telbijan_scales.specs.Calls.{ItemAsRatio, readWith, ReadScl, NewScl, PushItem, PushRatio, BuildScl, ExportScl};
 
-// The ratio of an item, stored: 18 for an unknown kind, and where the ratio lies outside 2^-900..2^900; never for a usable item.
+// The ratio of an item, stored: 10 for an item that cannot be used, one of an unknown kind too.
 #[no_mangle]
 pub extern "C" fn telbijan_item_as_ratio(
     kind: u8,
@@ -28,9 +24,7 @@ pub extern "C" fn telbijan_item_as_ratio(
     denom: u32,
     ratio: &mut f64,
 ) -> u64
-    ensures { λ r. ⌜ r ≡ result (ratioOf (itemOf kind cents numer denom)) ⌝ }
-    ensures { λ _. ⌜ now (ratio .exit) ≡ kept (ratioOf (itemOf kind cents numer denom)) (now (ratio .entry)) ⌝ }
-    ensures { λ r. ⌜ (isUsable (itemOf kind cents numer denom) ≡ true → r ≡ 0) ⌝ }
+    ensures { λ r. ⌜ ItemAsRatio (itemOf kind cents numer denom) (now (ratio .entry)) r (now (ratio .exit)) ⌝ }
 {
     telbijan_answers::store_ratio(scl::item_of(kind, cents, numer, denom).as_ratio(), ratio)
 }

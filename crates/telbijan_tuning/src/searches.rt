@@ -45,9 +45,9 @@ fn store_key(answer: KeySearch, number: &mut i32, deviation: &mut f64) -> u64
 }
 
 // The degree whose relative pitch comes nearest to a ratio, and how far the ratio lies above it, a ratio, both stored: 10 for items or a
-// list that cannot be used and for a ratio outside 2^-64..2^64; 18 in a scale of one item with period 1.0, and where a step leaves
-// 2^-900..2^900, which in a list that was built or read none does; 11 where the degree passes 32 bits. Of two that come equally near,
-// within 0.999999, it is the lower one. A scale without items answers degree 0 with the ratio itself.
+// list that cannot be used and for a ratio outside 2^-64..2^64; 18 in a scale of one item with period 1.0, and, in a list that was
+// neither built nor read, where a ratio that is computed on the way lies outside 2^-900..2^900; 11 where the degree passes 32 bits. Of
+// two that come equally near, within 0.999999, it is the lower one. A scale without items answers degree 0 with the ratio itself.
 #[no_mangle]
 pub extern "C" fn telbijan_find_by_relative_pitch(
     kind: &[u8],
@@ -205,7 +205,8 @@ pub extern "C" fn telbijan_find_by_pitch_sorted(
     )
 }
 
-// The key whose pitch comes nearest, that degree above the reference key, in the same way; 11 where the key passes 32 bits too.
+// The key whose pitch comes nearest, that degree above the reference key, in the same way; 11 where the key passes 32 bits too. Each key
+// counts as one degree: no mapping plays a part, so that a key which a mapping leaves out or gives another degree may be found.
 #[no_mangle]
 pub extern "C" fn telbijan_find_key_by_pitch(
     kind: &[u8],

@@ -10,7 +10,7 @@ use Rattle.text.specs.Cut.{lines}
 use Rattle.text.specs.Part.{part}
 use Rattle.text.specs.Reading.{Meaning, invalid, blank, comment, content}
 use Rattle.white.specs.Trim.{front, back, run, trimBy}
-use Rattle.utf8.specs.Utf8Machine.{fresh, utf8From}
+use Rattle.utf8.specs.Utf8Machine.{noneDue, utf8From}
 use Rattle.text.specs.declared.line.LineSays.{LineSays}
 use Rattle.text.specs.declared.line.LineSays.the-variants.{NotUtf8, Blank, Comment, Content}
 
@@ -31,7 +31,7 @@ pub record Way : Type 0 where
 
 -- document 01's reading
 abbrev pub strictly : Way
-strictly = record { valid = utf8From fresh; ahead = front; behind = back }
+strictly = record { valid = utf8From noneDue; ahead = front; behind = back }
 
 -- what the trimmed part m says
 abbrev pub partMeaning : List ℕ → Meaning

@@ -10,42 +10,42 @@ use Rattle.utf8.specs.declared.Step.{Step}
 use Rattle.utf8.specs.declared.Step.the-variants.{Go, Stop}
 
 -- so many bytes are due, the next of them from l to h
-abbrev pub state : ℕ → ℕ → ℕ → State
-state n l h = record { need = n; lo = l; hi = h }
+abbrev pub asking : ℕ → ℕ → ℕ → State
+asking n l h = record { need = n; lo = l; hi = h }
 
 -- none is due: between two characters
-abbrev pub fresh : State
-fresh = state 0 128 191
+abbrev pub noneDue : State
+noneDue = asking 0 128 191
 
 -- what a first byte below a number asks, where no earlier entry holds it
-pub record Entry : Type 0 where
+pub record LeadRow : Type 0 where
   pub below : ℕ
   pub asks : Step
 
-abbrev pub entry : ℕ → Step → Entry
-entry n s = record { below = n; asks = s }
+abbrev pub leadRow : ℕ → Step → LeadRow
+leadRow n s = record { below = n; asks = s }
 
 -- what the first entry that b is below asks
-abbrev pub lookup : List Entry → ℕ → Step
+abbrev pub lookup : List LeadRow → ℕ → Step
 lookup [] b = Stop
 lookup (r ∷ rs) b = pick (ltb b (r .below)) (r .asks) (lookup rs b)
 
 -- the well-formed byte sequences (The Unicode Standard, table 3-7), by the first byte
-abbrev pub entries : List Entry
-entries =
-    entry 128 (Go (state 0 128 191)) ∷ entry 194 Stop ∷ entry 224 (Go (state 1 128 191)) ∷ entry 225 (Go (state 2 160 191)) ∷
-    entry 237 (Go (state 2 128 191)) ∷ entry 238 (Go (state 2 128 159)) ∷ entry 240 (Go (state 2 128 191)) ∷
-    entry 241 (Go (state 3 144 191)) ∷ entry 244 (Go (state 3 128 191)) ∷ entry 245 (Go (state 3 128 143)) ∷ []
+abbrev pub leadRows : List LeadRow
+leadRows =
+    leadRow 128 (Go (asking 0 128 191)) ∷ leadRow 194 Stop ∷ leadRow 224 (Go (asking 1 128 191)) ∷ leadRow 225 (Go (asking 2 160 191)) ∷
+    leadRow 237 (Go (asking 2 128 191)) ∷ leadRow 238 (Go (asking 2 128 159)) ∷ leadRow 240 (Go (asking 2 128 191)) ∷
+    leadRow 241 (Go (asking 3 144 191)) ∷ leadRow 244 (Go (asking 3 128 191)) ∷ leadRow 245 (Go (asking 3 128 143)) ∷ []
 
 -- what the first byte of a character asks
 unfoldable pub leadOf : ℕ → Step
-leadOf b = lookup entries b
+leadOf b = lookup leadRows b
 
 -- the state after one more byte
 unfoldable pub utf8Step : State → ℕ → Step
 utf8Step st b =
     pick (eqb (st .need) 0) (leadOf b)
-    (pick (ltb b (st .lo)) Stop (pick (ltb (st .hi) b) Stop (Go (state (st .need - 1) 128 191))))
+    (pick (ltb b (st .lo)) Stop (pick (ltb (st .hi) b) Stop (Go (asking (st .need - 1) 128 191))))
 
 -- a state goes on; where there is none the text is no UTF-8
 abbrev pub onward : Step → (State → Bool) → Bool

@@ -3,7 +3,7 @@ pub mod eights;
 
 use crate::eights::pass;
 ghost use mathlib.Core.Path.{_≡_};
-ghost use Rattle.utf8.specs.Utf8Machine.{leadOf, utf8Step, utf8From, fresh};
+ghost use Rattle.utf8.specs.Utf8Machine.{leadOf, utf8Step, utf8From, noneDue};
 
 // The last byte that is a character by itself.
 const ASCII_END: u8 = 127;
@@ -86,7 +86,7 @@ fn advance(st: State, b: u8) -> Step
 
 // Whether `s` is UTF-8.
 pub fn is_utf8(s: &[u8]) -> bool
-    ensures { λ r. ⌜ r ≡ utf8From fresh (now (s .entry)) ⌝ }
+    ensures { λ r. ⌜ r ≡ utf8From noneDue (now (s .entry)) ⌝ }
 {
     let mut st = State {
         need: 0,

@@ -54,7 +54,7 @@ use denote.Triple.Table.{entered, cited}
 use denote.Triple.Walked.{says, needs, Stays, stay-slice, stay-none-slice, stay-none, walkOf, goes-slice, goes-none-slice, goes-none, Walks, ends-at, walked, walk-meets}
 use denote.Exit.{yes}
 use Rattle.entries.specs.declared.SortedEntry.{SortedEntry}
-use Rattle.entries.specs.Entries.{noEntry, sortedEntryAt, filled}
+use Rattle.entries.specs.Entries.{noSortedEntry, sortedEntryAt, filled}
 use Rattle.entries.proofs.Stored.{length-filled, filled-is}
 use Rattle.entries.proofs.SortedEntry as T
 use Rattle.entries.proofs.SortedEntry.Laws as T′
@@ -226,7 +226,7 @@ module _ {M : Type 1} (𝓤 : URA M) (H : Heap 𝓤) (A : Atoms 𝓤) (W : Given
         assigns ! (bin ! (load ! (from ! (stop !)) (look ! 11 refl)) (lit ! tt) (record { fits = bytes })) (from ! (stop !)) (init ! 5 refl (tt, record { fits = bytes })) $
         assigns ! (bin ! (load ! (from ! (fld ! refl (stop !))) (look-in ! 21 (sub ! 0 refl (whole !)))) (load ! (from ! (stop !)) (look ! 5 refl)) tt) (from ! (stop !)) (init ! 3 refl (tt, tt)) $
         rewrite ! 3 (λ (p : ℕ). ‵ (fat fullShare tyPtr l₁₀ 0 (vptr b p))) (sym (place-is 24 o (i .0))) refl $
-        move ! (25 ∷ []) $ elem-out ! T.the-row (Is T.the-row) (shows 𝓤 H A T.the-row) (LL.vals T.the-type T′.the-laws) (LL.tells T.the-type T′.the-laws) fullShare (filled at (i .0) ys) (i .0) noEntry b o inside (λ _.
+        move ! (25 ∷ []) $ elem-out ! T.the-row (Is T.the-row) (shows 𝓤 H A T.the-row) (LL.vals T.the-type T′.the-laws) (LL.tells T.the-type T′.the-laws) fullShare (filled at (i .0) ys) (i .0) noSortedEntry b o inside (λ _.
         -- [list[i]; what it owned; the others; what the new entry owns; the tokens; Lent; _10; …]
         assigns ! (of-opd ! (load ! (from ! (stop !)) (look ! 10 refl))) (from ! (hop ! (look ! 6 refl) (stop !))) (store-raw ! 0 refl (LL.lawful T.the-type T′.the-laws 𝓤 H A W .typed r (u ∷ []) is .0)) $
         move ! (0 ∷ 3 ∷ 2 ∷ []) $ elem-put ! T.the-row fullShare (filled at (i .0) ys) (i .0) r (u ∷ []) b o inside $

@@ -16,7 +16,7 @@ use Rattle.kbm_read.specs.Reader.{readOf}
 use Rattle.kbm_read.proofs.Numbers.{read-kbm-numbered}
 use Rattle.kbm_write.specs.Again.{ComesBack}
 use Rattle.kbm_write.specs.Export.{exportOf, exportText}
-use Rattle.kbm_write.specs.Typed.{Typed, OfTypes}
+use Rattle.kbm_write.specs.Typed.{TypedKbm, OfTypes}
 use Rattle.kbm_write.proofs.Bound.{export-accepted}
 use Rattle.kbm_write.proofs.Typed.{typed}
 use Rattle.telbijan_answers.specs.Interface.{result, kept}
@@ -32,7 +32,7 @@ module _ (map : List ℤ) (kbm : Kbm) (types : OfTypes kbm) (out : List ℕ) (si
   es = tableOf (kbm .count) map
 
   abbrev Exported : Type 0
-  Exported = Typed kbm es × (take written bytes ≡ exportText kbm es)
+  Exported = TypedKbm kbm es × (take written bytes ≡ exportText kbm es)
 
   exported : Exported
   exported =

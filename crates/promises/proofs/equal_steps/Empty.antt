@@ -31,7 +31,7 @@ use Rattle.scl.specs.Table.{ItemTable, implicit}
 use Rattle.scl.specs.declared.Item.{Item}
 use Rattle.scl_tables.specs.Build.{lastOf}
 use Rattle.scl_tables.specs.Room.{roomOf}
-use Rattle.harmonics.specs.Segment.{harmonicOf, fraction, nearAt, intervalOf}
+use Rattle.harmonics.specs.Segment.{harmonicOf, itemFraction, nearAt, intervalOf}
 use Rattle.harmonics.specs.declared.segment.Divisions.the-variants.{Into}
 use Rattle.harmonics.specs.declared.segment.Fraction.{Fraction}
 use Rattle.harmonics.specs.declared.segment.SegmentType.{SegmentType}
@@ -139,32 +139,32 @@ module _ (start n : ℕ) (some : 0 < start) (s-small : start < 2 ^ 16) (pos-n : 
   repeated-one : repeated One (float n) ≡ gives One
   repeated-one = ap (λ (s : Said Float). andThen s (λ o. fromOctaves (mul binary64 o (float n)))) one-octaves ∙ ap fromOctaves (none-times n few) ∙ zero-power
 
-  near-one : (type : SegmentType) → nearAt type start 0 One ≡ fraction start start
+  near-one : (type : SegmentType) → nearAt type start 0 One ≡ itemFraction start start
   unfolding ofInt
   near-one Otonal =
       let z : 1 * up (pos 0) * start ≡ start = ap (λ (k : ℕ). k * start) (one-mul (up (pos 0))) ∙ one-mul start in
       let h : mul binary64 One (float start) ≡ round binary64 false start 1 = times false 1 (pos 0) start (omega (arith, s-small)) ∙ ap (λ (k : ℕ). round binary64 false k 1) z in
-      ap (λ (x : Float). fraction (harmonicOf x) start) h ∙ ap (λ (k : ℕ). fraction k start) (harmonic-whole start (omega (arith, s-small)) (round binary64 false start 1) whole)
+      ap (λ (x : Float). itemFraction (harmonicOf x) start) h ∙ ap (λ (k : ℕ). itemFraction k start) (harmonic-whole start (omega (arith, s-small)) (round binary64 false start 1) whole)
   near-one Utonal =
       let z : start + 0 ≡ start = omega arith in
       let h : div binary64 (round binary64 false start 1) One ≡ round binary64 false start 1 = quotient start 1 (round binary64 false start 1) One whole (refl, refl) (lit< tt) in
-      ap (λ (k : ℕ). fraction k (harmonicOf (div binary64 (round binary64 false k 1) One))) z ∙ ap (λ (x : Float). fraction start (harmonicOf x)) h
-      ∙ ap (λ (k : ℕ). fraction start k) (harmonic-whole start (omega (arith, s-small)) (round binary64 false start 1) whole)
+      ap (λ (k : ℕ). itemFraction k (harmonicOf (div binary64 (round binary64 false k 1) One))) z ∙ ap (λ (x : Float). itemFraction start (harmonicOf x)) h
+      ∙ ap (λ (k : ℕ). itemFraction start k) (harmonic-whole start (omega (arith, s-small)) (round binary64 false start 1) whole)
 
-  item-one : (type : SegmentType) → itemAt type start 0 (Equal (step start 0 n some s-small (lit< tt) pos-n few)) n ≡ gives (asItem (fraction start start))
+  item-one : (type : SegmentType) → itemAt type start 0 (Equal (step start 0 n some s-small (lit< tt) pos-n few)) n ≡ gives (asItem (itemFraction start start))
   item-one type =
       ap (λ (x : Float). itemAt type start 0 (Equal x) n) step-one
       ∙ ap (λ (s : Said Float). andThen (andThen s (λ ratio. gives (nearAt type start 0 ratio))) (λ f. gives (asItem f))) repeated-one
       ∙ ap (λ (f : Fraction). gives (asItem f)) (near-one type)
 
-  ratio-one : ratioOf (asItem (fraction start start)) ≡ gives oneF
+  ratio-one : ratioOf (asItem (itemFraction start start)) ≡ gives oneF
   unfolding ofInt ofBits le lt eq
   ratio-one = ap computed (self-over start some s-small (round binary64 false start 1) (round binary64 false start 1) whole whole)
 
   period-one : (type : SegmentType) → 2 ≤ n → PeriodOne type start 0 (Into n)
   period-one type two =
       let m = items-of type start 0 some s-small (lit< tt) (Into n) few (λ e. let z : n ≡ 0 = cc in omega (arith, z, two)) in
-      let is = m .last (Equal (step start 0 n some s-small (lit< tt) pos-n few)) (steps-said start 0 n some s-small (lit< tt) pos-n few) pos-n (asItem (fraction start start)) (item-one type) in
+      let is = m .last (Equal (step start 0 n some s-small (lit< tt) pos-n few)) (steps-said start 0 n some s-small (lit< tt) pos-n few) pos-n (asItem (itemFraction start start)) (item-one type) in
       (two, ap (λ (s : Said (List Item)). andThen s (λ is. ratioOf (lastOf (implicit ∷ is)))) (m .are) ∙ ap ratioOf is ∙ ratio-one)
 
 -- SIZE 0 IN TWO OR MORE DIVISIONS: 18, where there is room

@@ -19,7 +19,7 @@ use Rattle.kbm_read.proofs.Tables.{leaves-table}
 use Rattle.kbm_write.specs.Again.{ComesBack}
 use Rattle.kbm_write.specs.Export.{exportText}
 use Rattle.kbm_write.specs.Published as P
-use Rattle.kbm_write.specs.Typed.{Typed}
+use Rattle.kbm_write.specs.Typed.{TypedKbm}
 use Rattle.kbm_write.proofs.Published.{export-published}
 use Rattle.integers.specs.IntegerText.{IntText}
 use Rattle.writing.proofs.Plain.{Word}
@@ -113,7 +113,7 @@ module _ {s : List ℕ} {m : P.Mapping} (p : P.PublishedText s m) where
 
 -- ---- THE EXPORT
 -- an export that is read, as whatever mapping, leaves a table that later calls take, with the entries that were written
-pub entries-back : (kbm : Kbm) (es : List Entry) → Typed kbm es → (old : List ℤ) (k : Kbm) → readOf (length old) (exportText kbm es) ≡ gives k
+pub entries-back : (kbm : Kbm) (es : List Entry) → TypedKbm kbm es → (old : List ℤ) (k : Kbm) → readOf (length old) (exportText kbm es) ≡ gives k
     → (isTable (k .count) (afterRead (exportText kbm es) old) ≡ true) × (tableOf (k .count) (afterRead (exportText kbm es) old) ≡ es)
 unfolding blanks
 entries-back kbm es y old k e =
@@ -124,7 +124,7 @@ entries-back kbm es y old k e =
     (l .0, l .1 ∙ a .entries ∙ rw z (append-nil es))
 
 -- and one that comes back leaves mapping and entries, where the table has a place for each
-pub mapping-back : (kbm : Kbm) (es : List Entry) → Typed kbm es → ComesBack kbm → (old : List ℤ) → kbm .count ≤ length old → (readOf (length old) (exportText kbm es) ≡ gives kbm)
+pub mapping-back : (kbm : Kbm) (es : List Entry) → TypedKbm kbm es → ComesBack kbm → (old : List ℤ) → kbm .count ≤ length old → (readOf (length old) (exportText kbm es) ≡ gives kbm)
     × (isTable (kbm .count) (afterRead (exportText kbm es) old) ≡ true) × (tableOf (kbm .count) (afterRead (exportText kbm es) old) ≡ es)
 mapping-back kbm es y c old r =
     let e = round-trip kbm es y (length old) r .1 c in
@@ -132,5 +132,5 @@ mapping-back kbm es y c old r =
     (e, l .0, l .1)
 
 -- some text is in both: the export of any mapping that comes back
-pub in-both : (kbm : Kbm) (es : List Entry) → Typed kbm es → ComesBack kbm → P.PublishedText (exportText kbm es) (P.publishedOf kbm es) × MappingText (exportText kbm es) kbm es
+pub in-both : (kbm : Kbm) (es : List Entry) → TypedKbm kbm es → ComesBack kbm → P.PublishedText (exportText kbm es) (P.publishedOf kbm es) × MappingText (exportText kbm es) kbm es
 in-both kbm es y c = (export-published kbm es y, export-in-language kbm es y .1 c)

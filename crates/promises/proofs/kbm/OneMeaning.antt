@@ -18,7 +18,7 @@ use Rattle.promises.proofs.kbm.Standing.{no-cons}
 use Rattle.promises.proofs.kbm.Values.{not-digits, one-number, letter-whole, whole-word, hertz-word, degree-word}
 
 -- ---- LINES: the same are kept
-one-kept : {ls ks js : List (List ℕ)} → P.Kept ls ks → P.Kept ls js → ks ≡ js
+pub one-kept : {ls ks js : List (List ℕ)} → P.Kept ls ks → P.Kept ls js → ks ≡ js
 one-kept P.Kept.none P.Kept.none = refl
 one-kept (P.Kept.comment c k) (P.Kept.comment d j) = one-kept k j
 one-kept (P.Kept.comment c k) (P.Kept.kept n j) = absurd (n c)
@@ -52,7 +52,7 @@ one-word (d ∷ v) [] t [] r q i j a b m n e = absurd (omega (arith, b .some))
 one-word (d ∷ v) [] t (c ∷ u) r q i j a b m n e = let x : d ≡ c = cc in not-blank d c (i .0) (b .each .0) x
 one-word (d ∷ v) (c ∷ w) t u r q i j a b m n e = let x : v ++ (t ++ r) ≡ w ++ (u ++ q) = cc in one-word v w t u r q (i .1) (j .1) a b m n x
 
-one-stands : {l t u : List ℕ} → Word t → Word u → P.Stands l t → P.Stands l u → t ≡ u
+pub one-stands : {l t u : List ℕ} → Word t → Word u → P.Stands l t → P.Stands l u → t ≡ u
 one-stands {l} {t} {u} a b x y = one-word (x .before) (y .before) t u (x .rest) (y .rest) (x .blank) (y .blank) a b (x .ends) (y .ends) (sym (x .whole) ∙ y .whole)
 
 -- ---- VALUES: a word has one

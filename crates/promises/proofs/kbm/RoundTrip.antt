@@ -40,7 +40,7 @@ use Rattle.kbm_write.proofs.ExportLines.{exportTexts, export-found}
 use Rattle.writing.proofs.Plain.{selves}
 use Rattle.writing.proofs.Printed.{size-reads, reads-only}
 use Rattle.kbm_write.proofs.Printed.{pitch-reads}
-use Rattle.kbm_write.specs.Typed.{Typed}
+use Rattle.kbm_write.specs.Typed.{TypedKbm}
 use Rattle.promises.proofs.kbm.Walk.{whole-value, headIs, head-read, entries-read, ends-read, entries-given, head-given}
 
 -- an i16 by its magnitude
@@ -79,7 +79,7 @@ mapping-is kbm =
     let end : kbm .end .0 -ℤ pos 1 +ℤ pos 1 ≡ kbm .end .0 = -ℤ-+ℤ-cancel (kbm .end .0) (pos 1) in
     λ i. record { root = record { reference = kbm .root .reference; pitch = kbm .root .pitch; offset = offset i }; start = kbm .start; end = record { 0 = end i }; octave = kbm .octave; count = kbm .count }
 
-module _ (kbm : Kbm) (es : List Entry) (y : Typed kbm es) where
+module _ (kbm : Kbm) (es : List Entry) (y : TypedKbm kbm es) where
   abbrev hz : Float
   hz = kbm .root .pitch .0
 

@@ -21,7 +21,7 @@ use Rattle.kbm_read.specs.Reader.{readOf, afterRead}
 use Rattle.kbm_read.proofs.Ends.{length-added}
 use Rattle.kbm_write.specs.Export.{lastKeyOf, exportText}
 use Rattle.kbm_write.specs.Published as P
-use Rattle.kbm_write.specs.Typed.{Typed}
+use Rattle.kbm_write.specs.Typed.{TypedKbm}
 use Rattle.kbm_write.proofs.Published.{export-published}
 use Rattle.key.specs.declared.PianoKey.{PianoKey}
 use Rattle.pitch.specs.declared.Pitch.{Pitch}
@@ -69,7 +69,7 @@ module _ (kbm : Kbm) (map : List ℤ) (t : isTable (kbm .count) map ≡ true) wh
     sounds-same key = answers kbm map t same key
 
     -- the same by the bytes of its export: whatever these say as published
-    pub export-sounds : Typed kbm es → (n : P.Mapping) → P.PublishedText (exportText kbm es) n → (key : PianoKey) → AnsweredAs n (key .0) (scaleDegreeOf kbm map key)
+    pub export-sounds : TypedKbm kbm es → (n : P.Mapping) → P.PublishedText (exportText kbm es) n → (key : PianoKey) → AnsweredAs n (key .0) (scaleDegreeOf kbm map key)
     export-sounds y n p key = subst (λ (x : P.Mapping). AnsweredAs x (key .0) (scaleDegreeOf kbm map key)) (one-meaning (exportText kbm es) m n (export-published kbm es y) p) (sounds-same key)
 
 -- ---- A PUBLISHED TEXT THAT IS READ: m is what the text itself says

@@ -20,7 +20,7 @@ use Rattle.kbm_read.specs.Reader.{readOf, afterRead}
 use Rattle.kbm_write.specs.Again.{ComesBack}
 use Rattle.writing.specs.Lines.{linesText}
 use Rattle.kbm_write.specs.Published as P
-use Rattle.kbm_write.specs.Typed.{Typed}
+use Rattle.kbm_write.specs.Typed.{TypedKbm}
 use Rattle.key.specs.Keys.{key}
 use Rattle.pitch.specs.declared.Pitch.{Pitch}
 use Rattle.promises.specs.kbm.KeysOfText.{entryTokens, Inside, Counts, Silent}
@@ -135,6 +135,6 @@ a440 = record { 0 = round binary64 false 440 1 }
 -- THE ROUND TRIP: the mapping of 01's starred samples with 440 Hz and middle key 60 is of its types and comes back; that of 01's own input,
 -- whose 261.6256 Hz are written as 261.626, does not
 pub record Back : Type 0 where
-  pub typed : Typed (sample a440 (pos 0)) (tableOf 3 sampleTable)
+  pub typed : TypedKbm (sample a440 (pos 0)) (tableOf 3 sampleTable)
   pub back : ComesBack (sample a440 (pos 0))
   pub not-back : ComesBack (exampleKbm (pos 62)) → ⊥

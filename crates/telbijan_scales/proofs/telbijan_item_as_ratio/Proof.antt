@@ -27,7 +27,7 @@ returns c =
     let answer = c .before .before .as-ratio in
     let told = rw (c .before .before .before .item-of .ensures) at (answer .ensures) in
     let handed = handed-on saysRatio (λ s. kept s (now (start .args .ratio))) (answer .result) (told .0) (c .store-ratio .ensures) in
-    (handed .0, (handed .1, λ (u : isUsable item ≡ true). handed .0 ∙ ap result (sym (told .0) ∙ told .1 u .is)))
+    (handed, λ (u : isUsable item ≡ true). handed .0 ∙ ap result (sym (told .0) ∙ told .1 u .is))
 
 pub telbijan-item-as-ratio-spec : {M : Type 1} → statement M
 telbijan-item-as-ratio-spec =

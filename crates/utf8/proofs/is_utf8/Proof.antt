@@ -6,14 +6,14 @@ use Prim.Native.Nat.{_≤_, _-_}
 use native.Mathlib.Omega.{arith}
 use borrow.Author.Needs.{needs}
 use lib.ListN.{length, drop}
-use Rattle.utf8.specs.Utf8Machine.{fresh, utf8From}
+use Rattle.utf8.specs.Utf8Machine.{noneDue, utf8From}
 use Rattle.utf8.proofs.Utf8Steps.{run-turn, run-end, run-pass}
 use Rattle.utf8.proofs.Passes.{passed-end}
 use Rattle.utf8.proofs.is_utf8.Statement.{statement}
 use Rattle.utf8.proofs.is_utf8.Tie as tie
 
 abbrev Inv-loop : tie.InvT-loop
-Inv-loop s st₀ i₀ st i = (i ≤ length s) × (utf8From fresh s ≡ utf8From st (drop i s))
+Inv-loop s st₀ i₀ st i = (i ≤ length s) × (utf8From noneDue s ≡ utf8From st (drop i s))
 
 abbrev μ-loop : tie.MeasureT-loop
 μ-loop s st₀ i₀ st i = length s - i
@@ -22,7 +22,7 @@ pass-requires : tie.Need-pass-requires Inv-loop μ-loop
 pass-requires c κs = search needs
 
 loop-holds : tie.Need-loop-holds Inv-loop μ-loop
-loop-holds c = (passed-end (c .pass .ensures) (omega arith), run-pass fresh refl (c .pass .ensures))
+loop-holds c = (passed-end (c .pass .ensures) (omega arith), run-pass noneDue refl (c .pass .ensures))
 
 shared-slice-read-advance : tie.Need-shared-slice-read-advance Inv-loop μ-loop
 shared-slice-read-advance c = omega arith

@@ -58,7 +58,7 @@ use Rattle.scl.specs.declared.Scl.{Scl}
 use Rattle.pitch.specs.declared.Ratio.{Ratio}
 use Rattle.searching.specs.DegreeAnswers.{saysDegreeSearch}
 use Rattle.searching.specs.declared.approximation.DegreeSearch.{DegreeSearch}
-use Rattle.entries.specs.Entries.{noEntry}
+use Rattle.entries.specs.Entries.{noSortedEntry}
 use Rattle.entries.specs.declared.SortedEntry.{SortedEntry}
 use Rattle.entries.specs.Scans.{Starts, Ready, scanPlaces, scanStep, scanned, answerOf}
 use Rattle.entries.specs.declared.search.Scan.{Scan}
@@ -363,10 +363,10 @@ module _ {M : Type 1} (𝓤 : URA M) (H : Heap 𝓤) (A : Atoms 𝓤) (W : Given
           rewrite ! 2 (λ (x : ℕ). ‵ (fat fullShare tyPtr l₁₅ 0 (vptr b x))) (sym (place-is 24 o (i .0))) refl $
           move ! (36 ∷ 35 ∷ []) $
           looks-slice ! tt T.the-row (Is T.the-row) (shows 𝓤 H A T.the-row) (LL.vals T.the-type T′.the-laws) (LL.tells T.the-type T′.the-laws) (LL.copy T.the-type T′.the-copy 𝓤 H A W) ys b o (λ q′.
-          elem-out ! T.the-row (Is T.the-row) (shows 𝓤 H A T.the-row) (LL.vals T.the-type T′.the-laws) (LL.tells T.the-type T′.the-laws) q′ ys (i .0) noEntry b o inside (λ ge.
+          elem-out ! T.the-row (Is T.the-row) (shows 𝓤 H A T.the-row) (LL.vals T.the-type T′.the-laws) (LL.tells T.the-type T′.the-laws) q′ ys (i .0) noSortedEntry b o inside (λ ge.
           -- [list[i]; what it owns; the others; what shuts; the fractured borrow; _16; …; _0; …; κ's token]
           assigns ! (of-opd ! (load ! (from ! (hop ! (look ! 7 refl) (stop !))) (look-raw ! 0 refl))) (from ! (stop !)) (init ! 5 refl (LL.lawful T.the-type T′.the-laws 𝓤 H A W .typed elem (T′.lowered elem ∷ []) ge .0)) $
-          elem-back ! T.the-row q′ ys (i .0) noEntry (T′.lowered elem ∷ []) b o inside $ shuts-slice ! tt T.the-row q′ ys b o $
+          elem-back ! T.the-row q′ ys (i .0) noSortedEntry (T′.lowered elem ∷ []) b o inside $ shuts-slice ! tt T.the-row q′ ys b o $
           -- [κ₁'s token; the fractured borrow; _16; …; _0; …; κ's token]
           use0 W (raw (Next 𝓤 H A mem run .pre (to-step (i .0) fits-i (at (i .0)) (i .1 .1) elem ge))) (goes-step (i .0) fits-i (at (i .0)) (i .1 .1) elem ge) $
           calls-at ! (fmOf 𝓤 H (W .laws) 𝓣) (Next 𝓤 H A mem run) known (to-step (i .0) fits-i (at (i .0)) (i .1 .1) elem ge) (and-then ! (load ! (from ! (stop !)) (look ! 17 refl)) (and-then ! (load ! (from ! (stop !)) (look ! 3 refl)) (and-then ! (load ! (from ! (stop !)) (look ! 13 refl)) (no-more !)))) (λ u.
@@ -382,7 +382,7 @@ module _ {M : Type 1} (𝓤 : URA M) (H : Heap 𝓤) (A : Atoms 𝓤) (W : Given
           again ! Nearer At i (i .0 + 1, (add-one-le less, subst Good (w ∙ ap at (sym (add-one (i .0)))) (good r u is))) (add-one-dec n (i .0) less)))))))
         where
           elem : SortedEntry
-          elem = getD ys (i .0) noEntry
+          elem = getD ys (i .0) noSortedEntry
 
           bytes : i .0 * 24 < 2 ^ 64
           bytes = omega (arith, less, within, room .1)

@@ -3,7 +3,7 @@
 use mathlib.Core.Path.{_≡_, sym, _∙_, ap}
 use Prim.Native.Nat.{ℕ}
 use borrow.Author.Needs.{needs}
-use Rattle.harmonics.specs.Segment.{nearAt, fraction}
+use Rattle.harmonics.specs.Segment.{nearAt, itemFraction}
 use Rattle.harmonics.proofs.segment.near_at.Statement.{statement}
 use Rattle.harmonics.proofs.segment.near_at.Tie as tie
 
@@ -29,10 +29,10 @@ harmonic-of-requires-2 : tie.Need-harmonic-of-requires-2
 harmonic-of-requires-2 c κs = search needs
 
 returns : tie.Need-returns
-returns c = ap (λ (n : ℕ). fraction n (c .before .before .before .before .args .start)) (c .harmonic-of .ensures) ∙ ap (λ t. nearAt t (c .before .before .before .before .args .start) (c .before .before .before .before .args .size) (c .before .before .before .before .args .ratio)) (sym (c .before .before .enum-told .given .1))
+returns c = ap (λ (n : ℕ). itemFraction n (c .before .before .before .before .args .start)) (c .harmonic-of .ensures) ∙ ap (λ t. nearAt t (c .before .before .before .before .args .start) (c .before .before .before .before .args .size) (c .before .before .before .before .args .ratio)) (sym (c .before .before .enum-told .given .1))
 
 returns-2 : tie.Need-returns-2
-returns-2 c = ap (fraction _) (c .harmonic-of2 .ensures) ∙ ap (λ t. nearAt t (c .before .before .before .before .args .start) (c .before .before .before .before .args .size) (c .before .before .before .before .args .ratio)) (sym (c .before .before .enum-told2 .given .1))
+returns-2 c = ap (itemFraction _) (c .harmonic-of2 .ensures) ∙ ap (λ t. nearAt t (c .before .before .before .before .args .start) (c .before .before .before .before .args .size) (c .before .before .before .before .args .ratio)) (sym (c .before .before .enum-told2 .given .1))
 
 pub near-at-spec : {M : Type 1} → statement M
 near-at-spec =

@@ -2,7 +2,7 @@
 -- Assumes nothing.
 use mathlib.Core.Path.{_≡_, sym, _∙_, ap}
 use borrow.Author.Needs.{needs}
-use Rattle.harmonics.specs.Segment.{wholeAt, fraction}
+use Rattle.harmonics.specs.Segment.{wholeAt, itemFraction}
 use Rattle.harmonics.proofs.Fractions.{none-left}
 use Rattle.harmonics.proofs.segment.whole_at.Statement.{statement}
 use Rattle.harmonics.proofs.segment.whole_at.Tie as tie
@@ -38,7 +38,7 @@ returns-2 : tie.Need-returns-2
 returns-2 c = ap (λ t. wholeAt t (c .before .before .before .args .start) (c .before .before .before .args .size) (c .before .before .before .args .j)) (sym (c .before .enum-told2 .given .1))
 
 returns-3 : tie.Need-returns-3
-returns-3 c = ap (fraction _) (none-left _ _ (c .if1 .left)) ∙ ap (λ t. wholeAt t (c .before .before .before .args .start) (c .before .before .before .args .size) (c .before .before .before .args .j)) (sym (c .before .enum-told2 .given .1))
+returns-3 c = ap (itemFraction _) (none-left _ _ (c .if1 .left)) ∙ ap (λ t. wholeAt t (c .before .before .before .args .start) (c .before .before .before .args .size) (c .before .before .before .args .j)) (sym (c .before .enum-told2 .given .1))
 
 pub whole-at-spec : {M : Type 1} → statement M
 whole-at-spec =

@@ -1,0 +1,77 @@
+-- WHATEVER A READ OF A MAPPING REFUSES WITH IS IN THE HEADER'S LIST. Assumes nothing.
+use mathlib.Core.Path.{_≡_, refl}
+use mathlib.Core.List.{List, [], _∷_}
+use mathlib.Core.Logic.{inl, inr}
+use Prim.Native.Nat.{ℕ, zero, suc, _≤_}
+use native.Mathlib.Omega.{arith}
+use lib.ListN.{length}
+use Rattle.base.specs.Said.{refuses}
+use Rattle.kbm.specs.declared.Entry.{Entry}
+use Rattle.listing.specs.Refusals.{OneOf}
+use Rattle.listing.proofs.Details.{each-one}
+use Rattle.listing.proofs.Refusals.{Drawn, fault-drawn}
+use Rattle.text.specs.Reading.{strict}
+use Rattle.kbm_read.specs.Language.{Required, required, Wrong, NoEntry, mapping, Values, sizeOf, WrongEnd, FaultText}
+use Rattle.kbm_read.specs.Reader.{readOf}
+use Rattle.kbm_read.specs.Refusals.{Refusal}
+use Rattle.kbm_read.proofs.Language.{refuses-fault}
+
+-- ---- THE NUMBERS OF A LINE, and those after the last
+abbrev Line : ℕ → Type 0
+Line = OneOf (1 ∷ 3 ∷ 7 ∷ 8 ∷ 9 ∷ 10 ∷ 11 ∷ 12 ∷ [])
+
+abbrev Last : ℕ → Type 0
+Last = OneOf (12 ∷ 13 ∷ 14 ∷ [])
+
+full : Line 12
+full = inr (inr (inr (inr (inr (inr (inr (inl refl)))))))
+
+wrong-line : (f : Required) (t : List ℕ) (n : ℕ) → Wrong f t n → Line n
+wrong-line Required.size t n e = inr (inl (e .0))
+wrong-line Required.first t n e = inr (inl (e .0))
+wrong-line Required.last t n (inl e) = inr (inl (e .0))
+wrong-line Required.last t n (inr e) = inr (inr (inr (inr (inr (inr (inl (e .0)))))))
+wrong-line Required.middle t n e = inr (inl (e .0))
+wrong-line Required.reference t n e = inr (inl (e .0))
+wrong-line Required.pitch t n (inl e) = inr (inr (inl (e .0)))
+wrong-line Required.pitch t n (inr (inl e)) = inr (inr (inr (inr (inl (e .0)))))
+wrong-line Required.pitch t n (inr (inr e)) = inr (inr (inr (inr (inr (inl (e .0))))))
+wrong-line Required.octave t n e = inr (inl (e .0))
+
+bad-line : (t : List ℕ) (n : ℕ) → NoEntry t n → Line n
+bad-line t n e = inr (inr (inr (inl (e .0))))
+
+wrong-end : (room top : ℕ) (es : List Entry) (n : ℕ) → WrongEnd room top es n → Last n
+wrong-end room top es n (inl e) = inl (e .0)
+wrong-end room top es n (inr (inl e)) = inr (inl (e .0))
+wrong-end room top es n (inr (inr e)) = inr (inr (inl (e .0)))
+
+-- ---- THE THEOREM
+which : (d : ℕ) → 1 ≤ d → d ≤ 7 → OneOf (1 ∷ 2 ∷ 3 ∷ 4 ∷ 5 ∷ 6 ∷ 7 ∷ []) d
+which zero a b = absurd (omega arith)
+which (suc zero) a b = inl refl
+which (suc (suc zero)) a b = inr (inl refl)
+which (suc (suc (suc zero))) a b = inr (inr (inl refl))
+which (suc (suc (suc (suc zero)))) a b = inr (inr (inr (inl refl)))
+which (suc (suc (suc (suc (suc zero))))) a b = inr (inr (inr (inr (inl refl))))
+which (suc (suc (suc (suc (suc (suc zero)))))) a b = inr (inr (inr (inr (inr (inl refl)))))
+which (suc (suc (suc (suc (suc (suc (suc zero))))))) a b = inr (inr (inr (inr (inr (inr (inl refl))))))
+which (suc (suc (suc (suc (suc (suc (suc (suc k)))))))) a b = absurd (omega (arith, b))
+
+module _ {room : ℕ} {s : List ℕ} {n d : ℕ} (t : FaultText room s n d) where
+  abbrev End : Values required → List Entry → ℕ → Type 0
+  End vs es k = WrongEnd room (sizeOf vs) es k
+
+  pub fault-listed : Refusal s n d
+  fault-listed =
+      go (fault-drawn mapping End Line Last (inl refl) full wrong-line bad-line (λ vs. wrong-end room (sizeOf vs)) (t .fault))
+    where
+      go : Drawn mapping End Line Last (length (t .says)) n d → Refusal s n d
+      go (Drawn.at-line l a b) =
+          let same = each-one strict (t .text .parts) (t .says) (t .text .each) in
+          Refusal.at-line l (t .text .parts) (t .text .lines) a (omega (arith, b, same))
+      go (Drawn.missing e a b) = Refusal.missing e (which d a b)
+      go (Drawn.at-end e p) = Refusal.at-end e p
+
+pub read-listed : (room : ℕ) (s : List ℕ) (n d : ℕ) → readOf room s ≡ refuses n d → Refusal s n d
+read-listed room s n d e = fault-listed (refuses-fault room s n d .0 e)

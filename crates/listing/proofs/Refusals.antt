@@ -1,0 +1,43 @@
+-- Where a fault of a listing is drawn, and the numbers that can be drawn there. Assumes nothing.
+use mathlib.Core.Path.{_≡_, ap}
+use mathlib.Core.List.{List, _∷_}
+use mathlib.Core.Logic.{inl, inr}
+use Prim.Native.Nat.{ℕ, _≤_}
+use native.Mathlib.Omega.{arith}
+use lib.ListN.{length, length-append}
+use Rattle.base.specs.Numbers.{not-utf8, line-missing, no-room}
+use Rattle.text.specs.Reading.{Meaning, invalid, blank, comment, content}
+use Rattle.listing.specs.Listing.{Format, Values, WrongLine, WrongEntry, Fault}
+
+module _ (F : Format) (End : Values F (F .required) → List (F .Entry) → ℕ → Type 0) (Line : ℕ → Type 0) (Last : ℕ → Type 0) where
+  -- at a line, for a required line that is missing, or after the last line
+  pub data Drawn (lines n d : ℕ) : Type 0 where
+    at-line : Line n → 1 ≤ d → d ≤ lines → Drawn lines n d
+    missing : n ≡ line-missing → 1 ≤ d → d ≤ length (F .required) → Drawn lines n d
+    at-end : Last n → d ≡ 0 → Drawn lines n d
+
+  module _ (utf8 : Line not-utf8) (full : Line no-room)
+      (wrong : (f : F .Required) (w : F .Word) (n : ℕ) → F .Wrong f w n → Line n)
+      (bad : (w : F .Word) (n : ℕ) → F .Bad w n → Line n)
+      (end : (vs : Values F (F .required)) (es : List (F .Entry)) (n : ℕ) → End vs es n → Last n) where
+    line-draws : (f : F .Required) (m : Meaning) (n : ℕ) → WrongLine F f m n → Line n
+    line-draws f invalid n w = rw w utf8
+    line-draws f blank n w = absurd w
+    line-draws f comment n w = absurd w
+    line-draws f (content m t) n w = wrong f (F .word m t) n w
+
+    entry-draws : (room : ℕ) (es : List (F .Entry)) (m : Meaning) (n : ℕ) → WrongEntry F room es m n → Line n
+    entry-draws room es invalid n w = rw w utf8
+    entry-draws room es blank n w = absurd w
+    entry-draws room es comment n w = absurd w
+    entry-draws room es (content m t) n (inl w) = bad (F .word m t) n w
+    entry-draws room es (content m t) n (inr w) = rw (w .0) full
+
+    pub fault-drawn : {room : ℕ} {ms : List Meaning} {n d : ℕ} → Fault F End room ms n d → Drawn (length ms) n d
+    fault-drawn {n = n} (Fault.at-required before line after e p done f more rq vs b w) =
+        Drawn.at-line (line-draws f line n w) (omega (arith, p)) (omega (arith, ap length e, p, length-append before (line ∷ after)))
+    fault-drawn {room} {n = n} (Fault.at-entry before line after e p vs es b f w) =
+        Drawn.at-line (entry-draws room es line n w) (omega (arith, p)) (omega (arith, ap length e, p, length-append before (line ∷ after)))
+    fault-drawn (Fault.missing e done f more rq p vs b) =
+        Drawn.missing e (omega (arith, p)) (omega (arith, p, ap length rq, length-append done (f ∷ more)))
+    fault-drawn {n = n} (Fault.at-end e vs es b f w) = Drawn.at-end (end vs es n w) e
