@@ -95,6 +95,7 @@ fn files() -> Vec<Row> {
         row("Scala: ISO 8859-1", "byte E9 in the description", || theirs(b"\xe9\n0\n", items), "an io error", || ours(b"\xe9\n0\n", 9, items), "1 at line 1"),
         row("Scala: a byte order mark", "U+FEFF before `! text`: description", || theirs(b"\xef\xbb\xbf! text\n0\n", description), "`\\u{feff}! text`", || ours(b"\xef\xbb\xbf! text\n0\n", 9, description), "`\\u{feff}! text`"),
         row("Scala: text after a number", "item `5/4   E\\`", || theirs(b"d\n1\n5/4   E\\\n", items), "5/4", || ours(b"d\n1\n5/4   E\\\n", 9, items), "5/4"),
+        row("Scala: text after a number", "item `5/x`", || theirs(b"d\n1\n5/x\n", items), "its error for 6 at line 3", || ours(b"d\n1\n5/x\n", 9, items), "6 at line 3"),
         row("Scala: text after a number", "item `408.cents`", || theirs(b"d\n1\n408.cents\n", items), "its error for 4 at line 3", || ours(b"d\n1\n408.cents\n", 9, items), "4 at line 3"),
         row("Scala: text after a number", "item `2!octave`", || theirs(b"d\n1\n2!octave\n", items), "its error for 3 at line 3", || ours(b"d\n1\n2!octave\n", 9, items), "3 at line 3"),
         row("Scala: text after a number", "item `5/ 4`", || theirs(b"d\n1\n5/ 4\n", items), "its error for 6 at line 3", || ours(b"d\n1\n5/ 4\n", 9, items), "6 at line 3"),

@@ -5,9 +5,10 @@ pub mod Described
 pub mod RoundTrip
 pub mod Samples
 pub mod Values
+pub mod OneMeaning
+pub mod Following
 pub mod Accepted
 pub mod Agree
 pub mod Limits
 pub mod Both
 pub mod Parting
-pub mod OneMeaning

@@ -2,7 +2,7 @@
 -- description, cents to three decimals and ratios exactly. Assumes nothing.
 use mathlib.Core.Path.{_≡_, refl, sym, ap}
 use mathlib.Core.Bool.{Bool, true, false}
-use mathlib.Core.List.{List, [], _∷_, _++_, append-assoc}
+use mathlib.Core.List.{List, [], _∷_, _++_, append-assoc, append-nil}
 use mathlib.Core.Logic.{_⊎_, inl, inr}
 use Prim.Native.Nat.{ℕ, suc, _≤_}
 use native.Mathlib.Omega.{arith}
@@ -14,7 +14,7 @@ use Rattle.floats.specs.Units.{negative}
 use Rattle.printing.specs.PrintText.{scaledOf, signText, textOf, wholeText}
 use Rattle.printing.proofs.Form.{printed}
 use Rattle.writing.specs.PublishedLines.{Kept}
-use Rattle.writing.proofs.PublishedValues.{all-kept, alone, number-digits, number}
+use Rattle.writing.proofs.PublishedValues.{all-kept, number-digits, number}
 use Rattle.scl.specs.Items.{isUsableCents, isUsable, Held, AllHeld}
 use Rattle.scl.specs.Table.{ItemTable, areUsable, Typed, itemsIn}
 use Rattle.scl.specs.declared.Denom.the-variants.{Given, Lacking}
@@ -60,12 +60,16 @@ value (Fraction n Lacking) f h =
     let p = usable-fraction n Lacking h in
     P.Value.whole n (number-digits n (omega (arith, f .0))) (p .0)
 
+-- a value alone leads its line
+pub leads-alone : (t : List ℕ) → P.Leads t t
+leads-alone t = record { before = []; rest = []; whole = sym (append-nil t); blank = tt; ignored = tt }
+
 values : (is : List Item) → AllHeld is → areUsable is ≡ true → P.Values (itemTexts is) (P.pitchesOf is)
 unfolding itemTexts areUsable
 values [] f h = tt
 values (i ∷ is) f h =
     let u = both (isUsable i) (areUsable is) h in
-    ((itemText i, alone (itemText i), value i (f .0) (u .0)), values is (f .1) (u .1))
+    ((itemText i, leads-alone (itemText i), value i (f .0) (u .0)), values is (f .1) (u .1))
 
 length-pitches : (is : List Item) → length (P.pitchesOf is) ≡ length is
 length-pitches [] = refl

@@ -4,7 +4,7 @@ use mathlib.Core.Path.{_≡_}
 use mathlib.Core.Bool.{Bool, true, false}
 use mathlib.Core.List.{List, [], _∷_, _++_}
 use mathlib.Core.Logic.{_⊎_}
-use Prim.Native.Nat.{ℕ, _+_, _<_}
+use Prim.Native.Nat.{ℕ, _+_, _<_, _≤_}
 use lib.IntN.{pos}
 use lib.ListN.{length}
 use Rattle.floats.specs.Units.{negative}
@@ -12,7 +12,8 @@ use Rattle.integers.specs.Digits.{AllDigits, decimal}
 use Rattle.integers.specs.IntegerText.{Digits}
 use Rattle.printing.specs.PrintText.{scaledOf}
 use Rattle.text.specs.Lines.{NoLF, EndsCR, Lines}
-use Rattle.writing.specs.PublishedLines.{PublishedComment, Kept, Stands, Number}
+use Rattle.utf8.specs.Characters.{Each}
+use Rattle.writing.specs.PublishedLines.{PublishedComment, Kept, Blank, Number}
 use Rattle.scl.specs.Items.{denomOf}
 use Rattle.scl.specs.declared.Item.{Item}
 use Rattle.scl.specs.declared.Item.the-variants.{Cents, Fraction}
@@ -40,13 +41,26 @@ pub data Value (t : List ℕ) : Pitch → Type 0 where
   ratio : (a b : List ℕ) (n d : ℕ) → t ≡ a ++ 47 ∷ b → Digits a n → Digits b d → 0 < n → 0 < d → Value t (Pitch.ratio n d)
   whole : (n : ℕ) → Digits t n → 0 < n → Value t (Pitch.ratio n 1)
 
--- each line has its value; "Spaces and tabs before a value are allowed. Anything after a valid pitch value is ignored", here narrower:
--- `Stands` asks for a blank before it, so `408.cents` and `5/4E` are no lines of values
+-- what may follow a value: "Anything after a valid pitch value is ignored". Period (46), slash (47) and digits (48 to 57) are never after
+-- it but of it: `5/4E` is 5/4 and `408.cents` is 408. cents, while `5/x`, `5/-4` and `1.2.3` are no values
+abbrev pub Ignored : List ℕ → Type 0
+Ignored [] = Unit {0}
+Ignored (b ∷ l) = (46 ≤ b) × (b ≤ 57) → ⊥
+
+-- the value t leads the line l: "Spaces and tabs before a value are allowed"
+pub record Leads (l t : List ℕ) : Type 0 where
+  pub before : List ℕ
+  pub rest : List ℕ
+  pub whole : l ≡ before ++ (t ++ rest)
+  pub blank : Each Blank before
+  pub ignored : Ignored rest
+
+-- each line has its value
 abbrev pub Values : List (List ℕ) → List Pitch → Type 0
 Values [] [] = Unit {0}
 Values [] (p ∷ ps) = ⊥
 Values (l ∷ ls) [] = ⊥
-Values (l ∷ ls) (p ∷ ps) = ((t : List ℕ) × Stands l t × Value t p) × Values ls ps
+Values (l ∷ ls) (p ∷ ps) = ((t : List ℕ) × Leads l t × Value t p) × Values ls ps
 
 -- what a scale file says: its description, and the pitch values after the implicit degree 0
 pub record Scale : Type 0 where

@@ -38,7 +38,7 @@ each-left : (P : ℕ → Type 0) (s t : List ℕ) → Each P (s ++ t) → Each P
 each-left P [] t a = tt
 each-left P (c ∷ s) t a = (a .0, each-left P s t (a .1))
 
-each-right : (P : ℕ → Type 0) (s t : List ℕ) → Each P (s ++ t) → Each P t
+pub each-right : (P : ℕ → Type 0) (s t : List ℕ) → Each P (s ++ t) → Each P t
 each-right P [] t a = a
 each-right P (c ∷ s) t a = each-right P s t (a .1)
 
@@ -84,7 +84,7 @@ themselves [] p = refl
 themselves (b ∷ t) p = rw (enc1 b (omega (arith, p .0))) (ap (λ (s : List ℕ). b ∷ s) (themselves t (p .1)))
 
 -- nothing is trimmed, nothing splits, nothing ends a line
-kept : (t : List ℕ) → Each Plain t → Trimmed WhiteSpace encode t t
+pub kept : (t : List ℕ) → Each Plain t → Trimmed WhiteSpace encode t t
 unfolding inBytes
 kept t p =
     record {
@@ -97,7 +97,7 @@ kept t p =
       ends = λ c u w e. white-plain c w (each-right Plain u (encode c) (subst (Each Plain) e p));
     }
 
-whole-token : (t : List ℕ) → Each Plain t → Token t t
+pub whole-token : (t : List ℕ) → Each Plain t → Token t t
 whole-token t p = record { rest = []; whole = sym (append-nil t); inside = inside t p; stops = tt }
   where
     inside : (s : List ℕ) → Each Plain s → Each (λ b. Splits b → ⊥) s

@@ -43,17 +43,22 @@ one-lead (c ∷ t) (d ∷ u) r q a b m n e =
     let z = one-lead t u r q (a .1) (b .1) m n y in
     cc
 
--- after blanks
-one-word : (v w t u r q : List ℕ) → Each P.Blank v → Each P.Blank w → Word t → Word u → P.Ends r → P.Ends q → v ++ (t ++ r) ≡ w ++ (u ++ q) → t ≡ u
-one-word [] [] t u r q i j a b m n e = one-lead t u r q (a .each) (b .each) m n e
-one-word [] (d ∷ w) [] u r q i j a b m n e = absurd (omega (arith, a .some))
-one-word [] (d ∷ w) (c ∷ t) u r q i j a b m n e = let x : d ≡ c = cc in not-blank d c (j .0) (a .each .0) x
-one-word (d ∷ v) [] t [] r q i j a b m n e = absurd (omega (arith, b .some))
-one-word (d ∷ v) [] t (c ∷ u) r q i j a b m n e = let x : d ≡ c = cc in not-blank d c (i .0) (b .each .0) x
-one-word (d ∷ v) (c ∷ w) t u r q i j a b m n e = let x : v ++ (t ++ r) ≡ w ++ (u ++ q) = cc in one-word v w t u r q (i .1) (j .1) a b m n x
+-- after blanks, where what stands there starts with one
+pub one-word : (v w t u r q : List ℕ) → Each P.Blank v → Each P.Blank w → Word t → Word u →
+    (t ++ r ≡ u ++ q → t ≡ u) → v ++ (t ++ r) ≡ w ++ (u ++ q) → t ≡ u
+one-word [] [] t u r q i j a b f e = f e
+one-word [] (d ∷ w) [] u r q i j a b f e = absurd (omega (arith, a .some))
+one-word [] (d ∷ w) (c ∷ t) u r q i j a b f e = let x : d ≡ c = cc in not-blank d c (j .0) (a .each .0) x
+one-word (d ∷ v) [] t [] r q i j a b f e = absurd (omega (arith, b .some))
+one-word (d ∷ v) [] t (c ∷ u) r q i j a b f e = let x : d ≡ c = cc in not-blank d c (i .0) (b .each .0) x
+one-word (d ∷ v) (c ∷ w) t u r q i j a b f e =
+    let x : v ++ (t ++ r) ≡ w ++ (u ++ q) = cc in
+    one-word v w t u r q (i .1) (j .1) a b f x
 
-pub one-stands : {l t u : List ℕ} → Word t → Word u → P.Stands l t → P.Stands l u → t ≡ u
-one-stands {l} {t} {u} a b x y = one-word (x .before) (y .before) t u (x .rest) (y .rest) (x .blank) (y .blank) a b (x .ends) (y .ends) (sym (x .whole) ∙ y .whole)
+one-stands : {l t u : List ℕ} → Word t → Word u → P.Stands l t → P.Stands l u → t ≡ u
+one-stands {l} {t} {u} a b x y =
+    let lead = one-lead t u (x .rest) (y .rest) (a .each) (b .each) (x .ends) (y .ends) in
+    one-word (x .before) (y .before) t u (x .rest) (y .rest) (x .blank) (y .blank) a b lead (sym (x .whole) ∙ y .whole)
 
 -- ---- VALUES: a word has one
 one-whole : {t : List ℕ} {y z : ℤ} → P.Whole t y → P.Whole t z → y ≡ z

@@ -7,12 +7,12 @@ use Prim.Native.Nat.{ℕ, _≤_, _<_}
 use native.Mathlib.Omega.{arith}
 use Rattle.kbm_read.specs.Language.{Tokens}
 use Rattle.kbm_write.specs.Published as P
-use Rattle.writing.proofs.Plain.{Plain, Word}
+use Rattle.writing.proofs.Plain.{Plain, Word, each-right}
 use Rattle.utf8.specs.Characters.{Each, inBytes, encode}
 use Rattle.text.specs.Reading.{Comment, strict, Splits, Stops, Meaning, invalid, comment, content, Line, EachLine}
 use Rattle.white.specs.White.{WhiteSpace, Trimmed}
 use Rattle.utf8.proofs.Encodings.{enc1, enc2, enc3, enc4, split}
-use Rattle.text.proofs.TokenLanguage.{one-token}
+use Rattle.promises.specs.scl.Limits.{Apart}
 
 -- no white character is a graphic one of ASCII
 not-white : (c : ℕ) → 33 ≤ c → c < 127 → WhiteSpace c → ⊥
@@ -36,12 +36,8 @@ not-split b p (inr (inr (inl a))) = omega (arith, a, p)
 not-split b p (inr (inr (inr (inl a)))) = omega (arith, a, p)
 not-split b p (inr (inr (inr (inr (inl a))))) = omega (arith, a, p)
 
-unsplit : (t : List ℕ) → Each Plain t → Each (λ b. Splits b → ⊥) t
-unsplit [] p = tt
-unsplit (b ∷ t) p = (not-split b (p .0), unsplit t (p .1))
-
 -- a blank is White_Space, and splits
-blank-white : (b : ℕ) → P.Blank b → WhiteSpace b
+pub blank-white : (b : ℕ) → P.Blank b → WhiteSpace b
 blank-white b (inl e) = inr (inl (omega (arith, e), omega (arith, e)))
 blank-white b (inr e) = inl (omega (arith, e), omega (arith, e))
 
@@ -49,7 +45,7 @@ blank-splits : (b : ℕ) → P.Blank b → Splits b
 blank-splits b (inl e) = inl (omega (arith, e), omega (arith, e))
 blank-splits b (inr e) = inr (inl (omega (arith, e), omega (arith, e)))
 
-blank-low : (b : ℕ) → P.Blank b → b < 128
+pub blank-low : (b : ℕ) → P.Blank b → b < 128
 blank-low b (inl e) = omega (arith, e)
 blank-low b (inr e) = omega (arith, e)
 
@@ -97,45 +93,89 @@ module _ (m vs : List ℕ) (c : ℕ) (u : List ℕ) (x : Each WhiteSpace vs) (p 
       trims-blank ws bs (q .1) (y .1)
       (low-head w b (inBytes encode ws ++ (m ++ inBytes encode vs)) (bs ++ (c ∷ u)) (blank-low b (y .0)) (sym (append-assoc (encode w) (inBytes encode ws) (m ++ inBytes encode vs)) ∙ e) .1)
 
--- a text before white characters that starts with plain bytes has them all, and then ends or splits
-leads : (t m vs r : List ℕ) → Each Plain t → Each WhiteSpace vs → P.Ends r → m ++ inBytes encode vs ≡ t ++ r → (v : List ℕ) × (m ≡ t ++ v) × Stops v
+-- a text before white characters that starts with plain bytes has them all, and then what is left of it
+leads : (t m vs r : List ℕ) → Each Plain t → Each WhiteSpace vs → m ++ inBytes encode vs ≡ t ++ r →
+    (v : List ℕ) × (m ≡ t ++ v) × (v ++ inBytes encode vs ≡ r)
 unfolding inBytes
-leads [] [] vs r p x n e = ([], refl, tt)
-leads [] (y ∷ m) vs [] p x n e = no-cons (sym e)
-leads [] (y ∷ m) vs (b ∷ r) p x n e = let f : b ≡ y = cc in (y ∷ m, refl, blank-splits y (subst P.Blank f n))
-leads (c ∷ t) [] [] r p x n e = no-cons e
-leads (c ∷ t) [] (a ∷ vs) r p x n e = absurd (white-head a c (inBytes encode vs) (t ++ r) (x .0) (omega (arith, p .0)) (p .0 .1) e)
-leads (c ∷ t) (y ∷ m) vs r p x n e =
+leads [] m vs r p x e = (m, refl, e)
+leads (c ∷ t) [] [] r p x e = no-cons e
+leads (c ∷ t) [] (a ∷ vs) r p x e = absurd (white-head a c (inBytes encode vs) (t ++ r) (x .0) (omega (arith, p .0)) (p .0 .1) e)
+leads (c ∷ t) (y ∷ m) vs r p x e =
     let f : y ≡ c = cc in
     let g : m ++ inBytes encode vs ≡ t ++ r = cc in
-    let h = leads t m vs r (p .1) x n g in
+    let h = leads t m vs r (p .1) x g in
     let k = h .1 in
     (h .0, cc, h .2)
 
--- the trimmed part of a line where a value stands: the value, and then nothing or a byte that splits
-standing : (l t m : List ℕ) → Word t → P.Stands l t → Trimmed WhiteSpace encode l m → (v : List ℕ) × (m ≡ t ++ v) × Stops v
-standing l [] m w s x = absurd (omega (arith, w .some))
-standing l (c ∷ t) m w s x =
-    leads (c ∷ t) m (x .after) (s .rest) (w .each) (x .white-after) (s .ends)
-    (trims-blank m (x .after) c (t ++ s .rest) (x .white-after) (w .each .0) (x .starts) (x .before) (s .before) (x .white-before) (s .blank) (sym (x .whole) ∙ s .whole))
+-- the token of a text that starts with plain bytes has them all
+token-leads : (t v u q : List ℕ) → Each Plain t → Stops q → t ++ v ≡ u ++ q → (s : List ℕ) × (u ≡ t ++ s) × (v ≡ s ++ q)
+token-leads [] v u q p n e = (u, refl, e)
+token-leads (c ∷ t) v [] [] p n e = no-cons (sym e)
+token-leads (c ∷ t) v [] (b ∷ q) p n e = let f : c ≡ b = cc in absurd (not-split c (p .0) (subst Splits (sym f) n))
+token-leads (c ∷ t) v (d ∷ u) q p n e =
+    let f : d ≡ c = cc in
+    let g : t ++ v ≡ u ++ q = cc in
+    let h = token-leads t v u q (p .1) n g in
+    let k = h .1 in
+    (h .0, cc, h .2)
+
+-- THE TOKEN u of a line that starts with blanks, the value t and this rest: the value, or the value and the bytes after it
+pub data Follows (t rest u : List ℕ) : Type 0 where
+  alone : u ≡ t → Apart rest → Follows t rest u
+  joined : (c : ℕ) (s q : List ℕ) → u ≡ t ++ c ∷ s → rest ≡ c ∷ q → (Splits c → ⊥) → Follows t rest u
+
+follows : (t u s q vs rest : List ℕ) → Each (λ b. Splits b → ⊥) u → Stops q → Each WhiteSpace vs →
+    u ≡ t ++ s → (s ++ q) ++ inBytes encode vs ≡ rest → Follows t rest u
+follows t u [] [] vs rest i n x e f = Follows.alone (e ∙ append-nil t) (inr (vs, x, sym f))
+follows t u [] (b ∷ q) vs rest i n x e f = Follows.alone (e ∙ append-nil t) (inl (subst Stops f n))
+follows t u (c ∷ s) q vs rest i n x e f =
+    let inside = subst (Each (λ b. Splits b → ⊥)) e i in
+    Follows.joined c s ((s ++ q) ++ inBytes encode vs) e (sym f) (each-right (λ b. Splits b → ⊥) t (c ∷ s) inside .0)
+
+-- a line that starts with blanks and a value is no text, or has such a token
+module _ (l t : List ℕ) (w : Word t) (before rest : List ℕ) (blank : Each P.Blank before) (whole : l ≡ before ++ (t ++ rest)) where
+  -- its trimmed part is the value and more
+  standing : (m : List ℕ) (x : Trimmed WhiteSpace encode l m) → (v : List ℕ) × (m ≡ t ++ v) × (v ++ inBytes encode (x .after) ≡ rest)
+  standing m x = go t w whole
+    where
+      go : (u : List ℕ) → Word u → l ≡ before ++ (u ++ rest) → (v : List ℕ) × (m ≡ u ++ v) × (v ++ inBytes encode (x .after) ≡ rest)
+      go [] k e = absurd (omega (arith, k .some))
+      go (c ∷ u) k e =
+          let starts = sym (x .whole) ∙ e in
+          let trims = trims-blank m (x .after) c (u ++ rest) (x .white-after) (k .each .0) (x .starts) in
+          leads (c ∷ u) m (x .after) rest (k .each) (x .white-after) (trims (x .before) before (x .white-before) blank starts)
+
+  -- it is neither blank nor a comment
+  not-nothing : (u : List ℕ) → Word u → (v : List ℕ) → [] ≡ u ++ v → ⊥
+  not-nothing [] k v f = omega (arith, k .some)
+  not-nothing (c ∷ u) k v f = no-cons f
+
+  not-mark : (u : List ℕ) → Word u → (q v : List ℕ) → 33 ∷ q ≡ u ++ v → ⊥
+  not-mark [] k q v f = omega (arith, k .some)
+  not-mark (c ∷ u) k q v f = let h : c ≡ 33 = cc in omega (arith, k .each .0)
+
+  pub led-line : (x : Meaning) → Line strict l x → (x ≡ invalid) ⊎ ((m u : List ℕ) × (x ≡ content m u) × Follows t rest u)
+  led-line x (Line.not-text n e) = inl e
+  led-line x (Line.is-blank r y e) = absurd (not-nothing t w (standing [] y .0) (standing [] y .1))
+  led-line x (Line.is-comment r m y (q, g) e) = absurd (not-mark t w q (standing m y .0) (sym g ∙ standing m y .1))
+  led-line x (Line.says r m u y b n q e) =
+      let k = standing m y in
+      let a = token-leads t (k .0) u (q .rest) (w .each) (q .stops) (sym (k .1) ∙ q .whole) in
+      let f = ap (λ (v : List ℕ). v ++ inBytes encode (y .after)) (sym (a .2)) ∙ k .2 in
+      inr (m, u, e, follows t u (a .0) (q .rest) (y .after) rest (q .inside) (q .stops) (y .white-after) (a .1) f)
 
 -- a line where a value stands is no text, or its token is the value
-pub value-line : (l t : List ℕ) (x : Meaning) → Word t → P.Stands l t → Line strict l x → (x ≡ invalid) ⊎ ((m : List ℕ) × (x ≡ content m t))
-value-line l t x w s (Line.not-text n e) = inl e
-value-line l t x w s (Line.is-blank r y e) = absurd (go t w (standing l t [] w s y .0) (standing l t [] w s y .1))
+pub value-line : (l t : List ℕ) (x : Meaning) → Word t → P.Stands l t → Line strict l x →
+    (x ≡ invalid) ⊎ ((m : List ℕ) × (x ≡ content m t))
+value-line l t x w s y = elim (led-line l t w (s .before) (s .rest) (s .blank) (s .whole) x y) [
+  | inl e ↦ inl e
+  | inr r ↦ inr (r .0, r .2 ∙ ap (content (r .0)) (only (r .1) (s .rest) (s .ends) (r .3)))
+]
   where
-    go : (u : List ℕ) → Word u → (v : List ℕ) → [] ≡ u ++ v → ⊥
-    go [] k v f = omega (arith, k .some)
-    go (c ∷ u) k v f = no-cons f
-value-line l t x w s (Line.is-comment r m y (q, g) e) = absurd (go t w (standing l t m w s y .0) (standing l t m w s y .1))
-  where
-    go : (u : List ℕ) → Word u → (v : List ℕ) → m ≡ u ++ v → ⊥
-    go [] k v f = omega (arith, k .some)
-    go (c ∷ u) k v f = let h : c ≡ 33 = cc in omega (arith, k .each .0)
-value-line l t x w s (Line.says r m u y b n q e) =
-    let k = standing l t m w s y in
-    let f : u ≡ t = sym (one-token m u q) ∙ one-token m t (record { rest = k .0; whole = k .1; inside = unsplit t (w .each); stops = k .2 }) in
-    inr (m, e ∙ ap (content m) f)
+    only : (u r : List ℕ) → P.Ends r → Follows t r u → u ≡ t
+    only u r n (Follows.alone e a) = e
+    only u [] n (Follows.joined c v q e f i) = no-cons f
+    only u (b ∷ r) n (Follows.joined c v q e f i) = let g : b ≡ c = cc in absurd (i (blank-splits c (subst P.Blank g n)))
 
 -- `!` is no white space
 starts-mark : (b : ℕ) (l : List ℕ) → P.PublishedComment (b ∷ l) → (w : ℕ) (ws v : List ℕ) → WhiteSpace w → b ∷ l ≡ inBytes encode (w ∷ ws) ++ v → ⊥

@@ -36,10 +36,11 @@ use Rattle.writing.specs.PublishedLines.{Kept, Stands}
 use Rattle.writing.proofs.Plain.{Word}
 use Rattle.promises.specs.kbm.Limits.{AllUtf8}
 use Rattle.promises.specs.scl.Agree.{Same, AllSame, Agree}
-use Rattle.promises.specs.scl.Limits.{AllWithin, heard, allHeard, WithinLimits}
+use Rattle.promises.specs.scl.Limits.{Apart, AllApart, AllWithin, heard, allHeard, WithinLimits}
 use Rattle.promises.proofs.kbm.Accepted.{is-text, whole-size}
 use Rattle.promises.proofs.kbm.Standing.{value-line, comment-line}
 use Rattle.promises.proofs.kbm.Values.{whole-word}
+use Rattle.promises.proofs.scl.Following.{apart-line}
 use Rattle.promises.proofs.scl.Values.{value-word, value-item}
 
 -- ---- LINES of UTF-8 say their values
@@ -77,6 +78,13 @@ stands-say l t u w s = elim (value-line l t (meaningBy strictly l) w s (strict-l
   | inr e ↦ (e .0, subst (reading.Line strict l) (e .1) (strict-line l))
 ]
 
+-- a line that a value leads, with nothing that joins it
+apart-says : (l t : List ℕ) → Utf8 l → Word t → (s : P.Leads l t) → Apart (s .rest) → (m : List ℕ) × reading.Line strict l (content m t)
+apart-says l t u w s a = elim (apart-line l t w s a (meaningBy strictly l) (strict-line l)) [
+  | inl e ↦ absurd (is-text l (meaningBy strictly l) u (strict-line l) e)
+  | inr e ↦ (e .0, subst (reading.Line strict l) (e .1) (strict-line l))
+]
+
 -- the line of the description
 description-says : (l : List ℕ) (x : Meaning) → Utf8 l → (Trimmed WhiteSpace encode l [] → ⊥) → ((d : List ℕ) → Trimmed WhiteSpace encode l d → Comment d → ⊥) → reading.Line strict l x →
     (d t : List ℕ) × Trimmed WhiteSpace encode l d × reading.Line strict l (content d t)
@@ -93,14 +101,14 @@ record Noted (ls : List (List ℕ)) (ps : List P.Pitch) : Type 0 where
   are : Entries scale words items
   same : AllSame ps items
 
-notes : (ls : List (List ℕ)) (ps : List P.Pitch) → AllUtf8 ls → (v : P.Values ls ps) → AllWithin ls ps v → Noted ls ps
-notes [] [] u v w = record { words = []; items = []; say = tt; are = tt; same = tt }
-notes [] (p ∷ ps) u v w = absurd v
-notes (l ∷ ls) [] u v w = absurd v
-notes (l ∷ ls) (p ∷ ps) u v w =
-    let r = notes ls ps (u .1) (v .1) (w .1) in
+notes : (ls : List (List ℕ)) (ps : List P.Pitch) → AllUtf8 ls → (v : P.Values ls ps) → AllApart ls ps v → AllWithin ls ps v → Noted ls ps
+notes [] [] u v a w = record { words = []; items = []; say = tt; are = tt; same = tt }
+notes [] (p ∷ ps) u v a w = absurd v
+notes (l ∷ ls) [] u v a w = absurd v
+notes (l ∷ ls) (p ∷ ps) u v a w =
+    let r = notes ls ps (u .1) (v .1) (a .1) (w .1) in
     let t = v .0 .0 in
-    let (m, k) = stands-say l t (u .0) (value-word (v .0 .2)) (v .0 .1) in
+    let (m, k) = apart-says l t (u .0) (value-word (v .0 .2)) (v .0 .1) (a .0) in
     let (i, x, y) = value-item (v .0 .2) (w .0) in
     record { words = record { whole = m; token = t } ∷ r .words; items = i ∷ r .items; say = (k, r .say); are = (x, r .are); same = (y, r .same) }
 
@@ -149,7 +157,7 @@ module _ {s : List ℕ} {m : P.Scale} (p : P.PublishedText s m) (w : WithinLimit
   pub published-accepted : (d : List ℕ) × (is : List Item) × (list : List Entry) × ScaleText s d is list × Agree m d is
   published-accepted =
       let u = kept-utf8 (p .keeps) (w .utf8) in
-      let n = notes (p .rest) (m .pitches) (u .1 .1) (p .values) (w .values-within) in
+      let n = notes (p .rest) (m .pitches) (u .1 .1) (p .values) (w .values-apart) (w .values-within) in
       let (d, t, trim, said) = description-says (m .description) (meaningBy strictly (m .description)) (u .0) (w .not-blank) (w .no-mark) (strict-line (m .description)) in
       let (c, counted) = stands-say (p .count) (p .notes .token) (u .1 .0) (whole-word (p .notes .token) (p .notes .value)) (p .notes .stands) in
       let a : ContentLine = record { whole = d; token = t } in

@@ -25,10 +25,11 @@ use Rattle.white.specs.White.{WhiteSpace, Trimmed}
 use Rattle.writing.specs.PublishedLines.{Kept, Stands, Whole}
 use Rattle.writing.proofs.Plain.{Word}
 use Rattle.promises.specs.scl.Agree.{Same, AllSame, Agree}
-use Rattle.promises.proofs.kbm.Standing.{value-line, comment-line}
+use Rattle.promises.proofs.kbm.Standing.{value-line, comment-line, led-line}
 use Rattle.promises.proofs.kbm.Values.{whole-agrees, whole-word}
 use Rattle.promises.proofs.scl.Accepted.{AllSay}
 use Rattle.promises.proofs.scl.Described.{part-of}
+use Rattle.promises.proofs.scl.Following.{led-token}
 use Rattle.promises.proofs.scl.ItemsBack.{free-digits}
 use Rattle.promises.proofs.scl.Values.{value-word, cents-dot, cents-form, split-at}
 
@@ -123,11 +124,18 @@ stands-token {l} {t} {v} w s y = elim (value-line l t (content (v .whole) (v .to
   | inr e ↦ let q = e .1 in cc
 ]
 
+-- a line that a value leads is firm
+leads-firm : {l t : List ℕ} → Word t → P.Leads l t → Firm l
+leads-firm {l} {t} w s x y = elim (led-line l t w (s .before) (s .rest) (s .blank) (s .whole) x y) [
+  | inl e ↦ inl e
+  | inr e ↦ inr (e .0, e .1, e .2)
+]
+
 values-firm : (ls : List (List ℕ)) (ps : List P.Pitch) → P.Values ls ps → AllFirm ls
 values-firm [] [] v = tt
 values-firm [] (p ∷ ps) v = absurd v
 values-firm (l ∷ ls) [] v = absurd v
-values-firm (l ∷ ls) (p ∷ ps) v = (stands-firm (value-word (v .0 .2)) (v .0 .1), values-firm ls ps (v .1))
+values-firm (l ∷ ls) (p ∷ ps) v = (leads-firm (value-word (v .0 .2)) (v .0 .1), values-firm ls ps (v .1))
 
 -- and so is a description that is not blank and no comment
 description-firm : (l : List ℕ) → (Trimmed WhiteSpace encode l [] → ⊥) → ((d : List ℕ) → Trimmed WhiteSpace encode l d → Comment d → ⊥) → Firm l
@@ -145,7 +153,7 @@ values-agree (l ∷ ls) [] ws is v a e = absurd v
 values-agree (l ∷ ls) (p ∷ ps) [] is v a e = absurd a
 values-agree (l ∷ ls) (p ∷ ps) (w ∷ ws) [] v a e = absurd e
 values-agree (l ∷ ls) (p ∷ ps) (w ∷ ws) (i ∷ is) v a e =
-    let t = stands-token {v = w} (value-word (v .0 .2)) (v .0 .1) (a .0) in
+    let t = led-token (v .0 .2) (v .0 .1) (a .0) (e .0) .0 in
     (value-agrees (v .0 .2) (subst (λ (k : List ℕ). ItemText k i) t (e .0)), values-agree ls ps ws is (v .1) (a .1) (e .1))
 
 module _ {s : List ℕ} {m : P.Scale} (p : P.PublishedText s m) (b : Trimmed WhiteSpace encode (m .description) [] → ⊥)

@@ -29,14 +29,14 @@ use Rattle.white.specs.White.{WhiteSpace, Trimmed}
 use Rattle.white.proofs.TrimLanguage.{one-trimmed}
 use Rattle.promises.specs.kbm.Limits.{AllUtf8}
 use Rattle.promises.specs.scl.Agree.{Same, Agree}
-use Rattle.promises.specs.scl.Limits.{ValueWithin, AllWithin, WithinLimits}
+use Rattle.promises.specs.scl.Limits.{AllApart, ValueWithin, AllWithin, WithinLimits}
 use Rattle.promises.proofs.kbm.Limits.{no-minus, at-most}
 use Rattle.promises.proofs.kbm.Values.{whole-word}
 use Rattle.promises.proofs.scl.Accepted.{AllSay, same-length, last-ratio, published-accepted}
 use Rattle.promises.proofs.scl.Agree.{cents-supported, value-agrees, stands-token, words-read}
 use Rattle.promises.proofs.scl.Described.{text-line}
+use Rattle.promises.proofs.scl.Following.{led-token}
 use Rattle.promises.proofs.scl.ItemsBack.{decimal-of}
-use Rattle.promises.proofs.scl.Values.{value-word}
 
 -- ---- LINES that have words are UTF-8
 abbrev Text : List ℕ → Meaning → Type 0
@@ -86,8 +86,19 @@ values-within (l ∷ ls) [] ws is v a e = absurd v
 values-within (l ∷ ls) (p ∷ ps) [] is v a e = absurd a
 values-within (l ∷ ls) (p ∷ ps) (w ∷ ws) [] v a e = absurd e
 values-within (l ∷ ls) (p ∷ ps) (w ∷ ws) (i ∷ is) v a e =
-    let t = stands-token {v = w} (value-word (v .0 .2)) (v .0 .1) (a .0) in
+    let t = led-token (v .0 .2) (v .0 .1) (a .0) (e .0) .0 in
     (value-within i (v .0 .2) (subst (λ (k : List ℕ). ItemText k i) t (e .0)), values-within ls ps ws is (v .1) (a .1) (e .1))
+
+-- and nothing joins them
+values-apart : (ls : List (List ℕ)) (ps : List P.Pitch) (ws : List ContentLine) (is : List Item) (v : P.Values ls ps) →
+    AllSay ls ws → Entries scale ws is → AllApart ls ps v
+values-apart [] [] ws is v a e = tt
+values-apart [] (p ∷ ps) ws is v a e = absurd v
+values-apart (l ∷ ls) [] ws is v a e = absurd v
+values-apart (l ∷ ls) (p ∷ ps) [] is v a e = absurd a
+values-apart (l ∷ ls) (p ∷ ps) (w ∷ ws) [] v a e = absurd e
+values-apart (l ∷ ls) (p ∷ ps) (w ∷ ws) (i ∷ is) v a e =
+    (led-token (v .0 .2) (v .0 .1) (a .0) (e .0) .1, values-apart ls ps ws is (v .1) (a .1) (e .1))
 
 -- ---- THE LIMITS
 module _ {s : List ℕ} {m : P.Scale} (p : P.PublishedText s m) where
@@ -122,6 +133,7 @@ module _ {s : List ℕ} {m : P.Scale} (p : P.PublishedText s m) where
               no-mark = unmarked;
               count = omega (arith, few, a .not-large);
               unsigned = λ t q. no-minus (v .1 .0) (token ∙ q);
+              values-apart = values-apart (p .rest) (m .pitches) rest is (p .values) (w .1 .1) e;
               values-within = values-within (p .rest) (m .pitches) rest is (p .values) (w .1 .1) e;
               reach = λ two q.
                   no-value (sym (beyond-reach-is (implicit ∷ is) (omega arith) (lines-held (a .lines)) (lines-usable (a .lines)) .1 (omega (arith, few, two), last-ratio (m .pitches) is (g .pitches) ∙ q)) ∙ a .sorted);

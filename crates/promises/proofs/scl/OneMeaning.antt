@@ -3,23 +3,25 @@ use mathlib.Core.Path.{_≡_, refl, sym, ap, _∙_, subst}
 use mathlib.Core.Bool.{Bool, true, false}
 use mathlib.Core.List.{List, [], _∷_, _++_}
 use mathlib.Core.Logic.{_⊎_, inl, inr}
-use Prim.Native.Nat.{ℕ, _≤_}
+use Prim.Native.Nat.{ℕ, _≤_, _<_}
 use native.Mathlib.Omega.{arith}
 use lib.ListN.{length}
 use Rattle.integers.specs.Digits.{AllDigits, decimal}
 use Rattle.integers.specs.IntegerText.{Digits}
 use Rattle.scl_write.specs.Published as P
+use Rattle.utf8.specs.Characters.{Each}
 use Rattle.writing.specs.PublishedLines.{Kept}
+use Rattle.writing.proofs.Plain.{Word, each-append}
 use Rattle.text.proofs.LinesLanguage.{one-lines}
 use Rattle.promises.proofs.kbm.Standing.{no-cons}
 use Rattle.promises.proofs.kbm.Values.{one-number}
-use Rattle.promises.proofs.kbm.OneMeaning.{one-kept, one-stands}
+use Rattle.promises.proofs.kbm.OneMeaning.{one-kept, one-word}
 use Rattle.promises.proofs.scl.Values.{value-word}
 
 -- ---- DIGITS AND A MARK: a byte k that is no digit
 module _ (k : ℕ) (mark : (48 ≤ k) × (k ≤ 57) → ⊥) where
   -- it stands in no digits
-  none : (a c d : List ℕ) → AllDigits d → a ++ (k ∷ c) ≡ d → ⊥
+  pub none : (a c d : List ℕ) → AllDigits d → a ++ (k ∷ c) ≡ d → ⊥
   none [] c [] z e = no-cons (sym e)
   none [] c (j ∷ d) z e = let q : k ≡ j = cc in mark (omega (arith, z .0, q), omega (arith, z .0, q))
   none (i ∷ a) c [] z e = no-cons (sym e)
@@ -53,7 +55,7 @@ slash h = omega (arith, h .0)
 
 -- ---- CENTS
 -- how they are written, and that they have a dot
-abbrev Writes : List ℕ → Bool → List ℕ → List ℕ → Type 0
+abbrev pub Writes : List ℕ → Bool → List ℕ → List ℕ → Type 0
 Writes t minus whole part = ((minus ≡ false) × (t ≡ whole ++ 46 ∷ part)) ⊎ ((minus ≡ true) × (t ≡ 45 ∷ whole ++ 46 ∷ part))
 
 dotted : {t : List ℕ} {minus : Bool} {n k : ℕ} → P.CentsText t minus n k → (a c : List ℕ) × (t ≡ a ++ (46 ∷ c))
@@ -113,7 +115,70 @@ one-value (P.Value.whole n u h) (P.Value.cents x) = cents-no-whole x (u .each)
 one-value (P.Value.whole m x i) (P.Value.ratio a b n d e u v h k) = absurd (none 47 slash a b _ (x .each) (sym e))
 one-value (P.Value.whole n u h) (P.Value.whole m v k) = let s : n ≡ m = one-number u v in λ i. P.Pitch.ratio (s i) 1
 
--- ---- LINES WITH VALUES
+-- ---- LINES WITH VALUES: one leads a line
+-- period, slash and digits
+abbrev pub Mark : ℕ → Type 0
+Mark b = (46 ≤ b) × (b ≤ 57)
+
+pub marks : (t : List ℕ) → AllDigits t → Each Mark t
+marks [] d = tt
+marks (b ∷ t) d = ((omega (arith, d .0), omega (arith, d .0)), marks t (d .1))
+
+-- digits, a mark, digits
+pub parted-marks : (a b : List ℕ) (c : ℕ) → AllDigits a → AllDigits b → Mark c → Each Mark (a ++ c ∷ b)
+parted-marks a b c x y k = each-append Mark a (c ∷ b) (marks a x) (k, marks b y)
+
+-- a value is such marks, or a minus and such marks
+data Run (t : List ℕ) : Type 0 where
+  plain : Each Mark t → Run t
+  minus : (u : List ℕ) → t ≡ 45 ∷ u → Each Mark u → Run t
+
+value-run : {t : List ℕ} {p : P.Pitch} → P.Value t p → Run t
+value-run {t} (P.Value.cents {minus} x) = go (x .writes)
+  where
+    body : Each Mark (x .whole ++ 46 ∷ x .part)
+    body = parted-marks (x .whole) (x .part) 46 (x .first) (x .second) (omega arith, omega arith)
+
+    go : Writes t minus (x .whole) (x .part) → Run t
+    go (inl e) = Run.plain (subst (Each Mark) (sym (e .1)) body)
+    go (inr e) = Run.minus (x .whole ++ 46 ∷ x .part) (e .1) body
+value-run (P.Value.ratio a b n d e u v h k) =
+    Run.plain (subst (Each Mark) (sym e) (parted-marks a b 47 (u .each) (v .each) (omega arith, omega arith)))
+value-run {t} (P.Value.whole n u h) = Run.plain (marks t (u .each))
+
+-- marks up to what is none
+one-marks : (t u r q : List ℕ) → Each Mark t → Each Mark u → P.Ignored r → P.Ignored q → t ++ r ≡ u ++ q → t ≡ u
+one-marks [] [] r q a b m n e = refl
+one-marks [] (c ∷ u) [] q a b m n e = no-cons e
+one-marks [] (c ∷ u) (d ∷ r) q a b m n e = let x : d ≡ c = cc in absurd (m (omega (arith, b .0, x), omega (arith, b .0, x)))
+one-marks (c ∷ t) [] r [] a b m n e = no-cons (sym e)
+one-marks (c ∷ t) [] r (d ∷ q) a b m n e = let x : d ≡ c = cc in absurd (n (omega (arith, a .0, x), omega (arith, a .0, x)))
+one-marks (c ∷ t) (d ∷ u) r q a b m n e =
+    let x : c ≡ d = cc in
+    let y : t ++ r ≡ u ++ q = cc in
+    let z = one-marks t u r q (a .1) (b .1) m n y in
+    cc
+
+-- a minus is no mark, and does not follow a value
+no-minus : (t r u q : List ℕ) → Each Mark t → 0 < length t → t ++ r ≡ (45 ∷ u) ++ q → ⊥
+no-minus [] r u q a s e = omega (arith, s)
+no-minus (c ∷ t) r u q a s e = let x : c ≡ 45 = cc in omega (arith, a .0, x)
+
+one-run : (t u r q : List ℕ) → Word t → Word u → Run t → Run u → P.Ignored r → P.Ignored q → t ++ r ≡ u ++ q → t ≡ u
+one-run t u r q x y (Run.plain a) (Run.plain b) m n e = one-marks t u r q a b m n e
+one-run t u r q x y (Run.plain a) (Run.minus v f b) m n e = absurd (no-minus t r v q a (x .some) (e ∙ ap (λ (l : List ℕ). l ++ q) f))
+one-run t u r q x y (Run.minus v f b) (Run.plain a) m n e = absurd (no-minus u q v r a (y .some) (sym e ∙ ap (λ (l : List ℕ). l ++ r) f))
+one-run t u r q x y (Run.minus v f a) (Run.minus w g b) m n e =
+    let k : v ++ r ≡ w ++ q = cc in
+    let z = one-marks v w r q a b m n k in
+    cc
+
+one-leads : {l t u : List ℕ} {p q : P.Pitch} → P.Value t p → P.Value u q → P.Leads l t → P.Leads l u → t ≡ u
+one-leads {l} {t} {u} a b x y =
+    let same = one-run t u (x .rest) (y .rest) (value-word a) (value-word b) (value-run a) (value-run b) (x .ignored) (y .ignored) in
+    let whole = sym (x .whole) ∙ y .whole in
+    one-word (x .before) (y .before) t u (x .rest) (y .rest) (x .blank) (y .blank) (value-word a) (value-word b) same whole
+
 same-values : (ls : List (List ℕ)) (ps qs : List P.Pitch) → P.Values ls ps → P.Values ls qs → ps ≡ qs
 same-values [] [] [] a b = refl
 same-values [] [] (q ∷ qs) a b = absurd b
@@ -123,7 +188,7 @@ same-values (l ∷ ls) (p ∷ ps) [] a b = absurd b
 same-values (l ∷ ls) (p ∷ ps) (q ∷ qs) a b =
     let x = a .0 in
     let y = b .0 in
-    let t = one-stands (value-word (x .2)) (value-word (y .2)) (x .1) (y .1) in
+    let t = one-leads (x .2) (y .2) (x .1) (y .1) in
     let v : p ≡ q = one-value (subst (λ (h : List ℕ). P.Value h p) t (x .2)) (y .2) in
     let r = same-values ls ps qs (a .1) (b .1) in
     λ i. v i ∷ r i

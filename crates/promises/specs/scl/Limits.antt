@@ -3,6 +3,7 @@
 use mathlib.Core.Path.{_≡_}
 use mathlib.Core.Bool.{true}
 use mathlib.Core.List.{List, [], _∷_, _++_}
+use mathlib.Core.Logic.{_⊎_}
 use Prim.Native.Nat.{ℕ, _^_, _≤_, _<_}
 use lib.Ieee.{round, binary64}
 use lib.ListN.{length}
@@ -16,8 +17,8 @@ use Rattle.scl.specs.declared.Item.{Item}
 use Rattle.scl.specs.declared.Item.the-variants.{Cents, Fraction}
 use Rattle.scl_tables.specs.Build.{lastOf}
 use Rattle.scl_write.specs.Published as P
-use Rattle.text.specs.Reading.{Comment}
-use Rattle.utf8.specs.Characters.{encode}
+use Rattle.text.specs.Reading.{Comment, Stops}
+use Rattle.utf8.specs.Characters.{Each, inBytes, encode}
 use Rattle.white.specs.White.{WhiteSpace, Trimmed}
 use Rattle.promises.specs.kbm.Limits.{AllUtf8}
 
@@ -33,6 +34,17 @@ AllWithin [] [] v = Unit {0}
 AllWithin [] (p ∷ ps) v = ⊥
 AllWithin (l ∷ ls) [] v = ⊥
 AllWithin (l ∷ ls) (p ∷ ps) v = ValueWithin (v .0 .2) × AllWithin ls ps (v .1)
+
+-- of what follows a value on its line: "trimmed of Unicode White_Space at both ends"; "A line's token runs to the first space, tab, LF,
+-- form feed or CR", so white space to the end, or one of these bytes first. Else the value is part of a longer token: 3, 4, 5, 6 or 9
+abbrev pub Apart : List ℕ → Type 0
+Apart rest = Stops rest ⊎ ((cs : List ℕ) × Each WhiteSpace cs × (rest ≡ inBytes encode cs))
+
+abbrev pub AllApart : (ls : List (List ℕ)) (ps : List P.Pitch) → P.Values ls ps → Type 0
+AllApart [] [] v = Unit {0}
+AllApart [] (p ∷ ps) v = ⊥
+AllApart (l ∷ ls) [] v = ⊥
+AllApart (l ∷ ls) (p ∷ ps) v = Apart (v .0 .1 .rest) × AllApart ls ps (v .1)
 
 -- a pitch value as it sounds
 abbrev pub heard : P.Pitch → Item
@@ -53,7 +65,8 @@ pub record WithinLimits {s : List ℕ} {m : P.Scale} (p : P.PublishedText s m) :
   -- "note count (u16, 3)"; "13: over 65,535 entries". "`-` only for signed types", so that `-0` is no count: 3
   pub count : length (m .pitches) ≤ 65535
   pub unsigned : (t : List ℕ) → p .notes .token ≡ 45 ∷ t → ⊥
-  -- each pitch value
+  -- each pitch value, and what follows it on its line
+  pub values-apart : AllApart (p .rest) (m .pitches) (p .values)
   pub values-within : AllWithin (p .rest) (m .pitches) (p .values)
   -- "Reading or building a scale of two or more items gives 18 .. exactly when L(period) = 0": the last of two or more does not sound as 1
   pub reach : 2 ≤ length (m .pitches) → ratioOf (lastOf (implicit ∷ allHeard (m .pitches))) ≡ gives oneF → ⊥

@@ -3,12 +3,14 @@
 use mathlib.Core.Path.{_≡_}
 use mathlib.Core.Bool.{false}
 use mathlib.Core.List.{List, [], _∷_}
-use Prim.Native.Nat.{ℕ}
+use Prim.Native.Nat.{ℕ, suc}
 use lib.Ieee.{round, binary64}
 use Rattle.scl.specs.declared.Denom.the-variants.{Given, Lacking}
 use Rattle.scl.specs.declared.Item.{Item}
 use Rattle.scl.specs.declared.Item.the-variants.{Cents, Fraction}
+use Rattle.base.specs.Said.{refuses}
 use Rattle.scl_read.specs.Language.{ScaleText}
+use Rattle.scl_read.specs.Reader.{readOf}
 use Rattle.scl_write.specs.Export.{scaleText}
 use Rattle.scl_write.specs.Published as P
 use Rattle.sorting.specs.Entries.{Entry}
@@ -52,3 +54,15 @@ pub record Parting : Type 0 where
   pub published : P.PublishedText blankText blankScale
   pub list : List Entry
   pub here : ScaleText blankText (50 ∷ []) (Fraction 3 (Given 2) ∷ []) list
+
+-- SOMETHING THAT FOLLOWS A VALUE: `d`, `1`, `5/4E`, each with LF. As published one note, 5/4
+abbrev pub followedText : List ℕ
+followedText = 100 ∷ 10 ∷ 49 ∷ 10 ∷ 53 ∷ 47 ∷ 52 ∷ 69 ∷ 10 ∷ []
+
+abbrev pub followedScale : P.Scale
+followedScale = record { description = 100 ∷ []; pitches = P.Pitch.ratio 5 4 ∷ [] }
+
+-- by document 01 the denominator cannot be read, at line 3, whatever room there is
+pub record Following : Type 0 where
+  pub published : P.PublishedText followedText followedScale
+  pub here : (places : ℕ) → readOf (suc places) followedText ≡ refuses 6 3
