@@ -16,7 +16,7 @@ use Rattle.scl_read.specs.declared.SclRead.{SclRead}
 use Rattle.scl_write.specs.Export.{exportText, exportOf}
 use Rattle.sorted.specs.Lent.{ListTable}
 use Rattle.text.specs.Part.{part}
-use Rattle.utf8.specs.Utf8Machine.{utf8From, fresh}
+use Rattle.utf8.specs.Utf8Machine.{utf8From, noneDue}
 use Rattle.utf8.proofs.Utf8Language.{accepts}
 use Rattle.writing.specs.Fitted.{fitted, textLength}
 use Rattle.telbijan_answers.specs.Interface.{code, result, numberIn}
@@ -27,7 +27,7 @@ use Rattle.promises.specs.scl.Again.{Described}
 use Rattle.promises.proofs.scl.Described.{text-described}
 
 -- an export of usable items under a description of UTF-8 is written or has no room
-usable-export : (scl : Scl) (table : ItemTable) (d : List ℕ) (room : ℕ) → isItems (scl .count) table ≡ true → utf8From fresh d ≡ true →
+usable-export : (scl : Scl) (table : ItemTable) (d : List ℕ) (room : ℕ) → isItems (scl .count) table ≡ true → utf8From noneDue d ≡ true →
     (result (textLength (exportOf scl table d room)) ≡ 0) ⊎ (result (textLength (exportOf scl table d room)) ≡ code no-room 0)
 unfolding exportOf fitted
 usable-export scl table d room i u = rw (i, u) (go (leb (length (exportText scl table d)) room))
@@ -54,7 +54,7 @@ module _ (text : List ℕ) (t : ItemTable) (l : ListTable) (old : SclRead) (r : 
     pub read-export : (q ≡ 0) ⊎ (q ≡ code no-room 0)
     read-export =
         let (d, items, list, s, fits, leaves) = accepted-call text t l old r u m new read zero in
-        let utf8 : utf8From fresh found ≡ true = accepts found .1 (found-described .utf8) in
+        let utf8 : utf8From noneDue found ≡ true = accepts found .1 (found-described .utf8) in
         elim (usable-export (new .scl) u found (length out) (leaves .items-used) utf8) [
           | inl e ↦ inl (wrote .0 .0 ∙ e)
           | inr e ↦ inr (wrote .0 .0 ∙ e)
