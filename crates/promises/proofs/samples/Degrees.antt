@@ -15,12 +15,13 @@ pub degrees : Degrees
 unfolding sortedOf searchOf chosenOf nearestOf held le lt eq neg add sub mul div rem round size ofBits ofFields odd climb span ofInt toSigned trunc abs tOf pOf bOf yOf root rootFrom E L floorOf timesPower powerOf logOf logAt octavesOf
 degrees = record {
   downward-sorted = refl;
+  downward-found = refl;
   downward-declared = refl;
   downward-ascending = refl;
   thirds-sorted = refl;
+  thirds-found = refl;
   thirds-declared = refl;
   thirds-ascending = refl;
-  semitone-sorted = refl;
   below-tolerance = refl;
   above-tolerance = refl;
 }

@@ -6,9 +6,11 @@ use mathlib.Core.List.{List, [], _∷_}
 use Prim.Native.Nat.{ℕ}
 use lib.IntN.{pos, negsuc}
 use lib.Ieee.{Float, fin}
-use Rattle.base.specs.Said.{gives}
-use Rattle.harmonics.specs.Harmonics.{harmonicsOf}
-use Rattle.harmonics.specs.declared.segment.Divisions.the-variants as divisions
+use Rattle.base.specs.Said.{Said, gives, andThen}
+use Rattle.harmonics.specs.Harmonics.{itemAt, harmonicsOf}
+use Rattle.harmonics.specs.Segment.{stepsOf}
+use Rattle.harmonics.specs.declared.segment.Divisions.the-variants.{Into, Lacking}
+use Rattle.harmonics.specs.declared.segment.SegmentType.{SegmentType}
 use Rattle.harmonics.specs.declared.segment.SegmentType.the-variants.{Otonal, Utonal}
 use Rattle.rank2.specs.Rank2.{temperamentOf}
 use Rattle.scl.specs.declared.Denom.the-variants.{Given}
@@ -28,6 +30,10 @@ ascendingNotes =
     Cents (fin true 75 (pos 4)) ∷ Cents (fin false 7174445373529941 (negsuc 44)) ∷ Cents (fin false 1095212535408389 (negsuc 40)) ∷
     Cents (fin false 6174461485016041 (negsuc 42)) ∷ []
 
+-- the j-th item of a divided segment
+abbrev pub dividedAt : SegmentType → ℕ → ℕ → ℕ → ℕ → Said Item
+dividedAt type start size number j = andThen (stepsOf start size (Into number)) (λ steps. itemAt type start size steps j)
+
 -- fractions over one number, and under one
 abbrev pub over : ℕ → List ℕ → List Item
 over denom [] = []
@@ -40,12 +46,11 @@ under numer (d ∷ ds) = Fraction numer (Given d) ∷ under numer ds
 pub record Generators : Type 0 where
   -- generator 1.5, twice up and once down, period 0.5: "sorted ascending", so the highest note and not the period comes last
   pub rank-two : temperamentOf fifth 2 1 half ≡ gives ascendingNotes
-  -- harmonics 27 to 54 divided into 12: 29/27, 30/27, .. 54/27
-  pub divided : harmonicsOf Otonal 27 27 (divisions.Into 12) ≡
-      gives (over 27 (29 ∷ 30 ∷ 32 ∷ 34 ∷ 36 ∷ 38 ∷ 40 ∷ 43 ∷ 45 ∷ 48 ∷ 51 ∷ 54 ∷ []))
+  -- harmonics 27 to 54 divided into 12: the first item is 29/27
+  pub divided : dividedAt Otonal 27 27 12 1 ≡ gives (Fraction 29 (Given 27))
   -- the nearer harmonic as a ratio: 2.4914.. is nearer to 3 by its ratio, to 2 by its difference; upwards and downwards
-  pub nearer-up : harmonicsOf Otonal 2 4 (divisions.Into 5) ≡ gives (over 2 (3 ∷ 3 ∷ 4 ∷ 5 ∷ 6 ∷ []))
-  pub nearer-down : harmonicsOf Utonal 2 4 (divisions.Into 5) ≡ gives (under 6 (5 ∷ 4 ∷ 3 ∷ 3 ∷ 2 ∷ []))
+  pub nearer-up : dividedAt Otonal 2 4 5 1 ≡ gives (Fraction 3 (Given 2))
+  pub nearer-down : dividedAt Utonal 2 4 5 4 ≡ gives (Fraction 6 (Given 3))
   -- harmonics 4 to 8, not divided, upwards and downwards
-  pub whole-up : harmonicsOf Otonal 4 4 divisions.Lacking ≡ gives (over 4 (5 ∷ 6 ∷ 7 ∷ 8 ∷ []))
-  pub whole-down : harmonicsOf Utonal 4 4 divisions.Lacking ≡ gives (under 8 (7 ∷ 6 ∷ 5 ∷ 4 ∷ []))
+  pub whole-up : harmonicsOf Otonal 4 4 Lacking ≡ gives (over 4 (5 ∷ 6 ∷ 7 ∷ 8 ∷ []))
+  pub whole-down : harmonicsOf Utonal 4 4 Lacking ≡ gives (under 8 (7 ∷ 6 ∷ 5 ∷ 4 ∷ []))
