@@ -1,4 +1,5 @@
-//! Links the proved library, which `tools/native-lib` wrote to target/native; and writes the sources of E's and L's tables as Rust, for `decided`.
+//! Links the proved library, which `tools/native-lib` wrote to target/native; and writes the sources of E's and L's tables as Rust, for
+//! `decided`.
 
 use std::fmt::Write;
 use std::fs;
@@ -29,8 +30,8 @@ fn as_rust(path: &str) -> String {
             writeln!(rust, "{line}").unwrap();
         }
     }
-    let rust = rust.replace("std::num::wrapping_sub_u64(", "u64::wrapping_sub(").replace("std::num::wrapping_add_u64(", "u64::wrapping_add(");
-    rust.replace("crate::table::", "table::")
+    let written = [("std::num::wrapping_sub_u64(", "u64::wrapping_sub("), ("std::num::wrapping_add_u64(", "u64::wrapping_add("), ("crate::table::", "table::")];
+    written.iter().fold(rust, |rust, (here, there)| rust.replace(here, there))
 }
 
 fn main() {

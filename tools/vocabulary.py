@@ -1,19 +1,22 @@
 """vocabulary: that contracts, definitions and statements mean by a sign or a word of the logic what the logic means; read for tools/audit.
 
-A spec that declares a `_≡_` of its own as Unit, and is imported by the source, empties every contract that is written with it: the words stay, and
-nothing is said. So it is a fault, in src/, specs/ and proofs/, where
+A spec that declares a `_≡_` of its own as Unit, and is imported by the source, empties every contract that is written with it: the words
+stay, and nothing is said. So it is a fault, in src/, specs/ and proofs/, where
 
 - a sign is declared or bound: a name is made of what `PLAIN` has, so neither `_≡_` nor one that looks like it can be made here;
 - a file has a character that is not seen, or its code one that is not among `SIGNS`;
-- a word of the logic (`HOMES`, and what else src/ and specs/ import from its libraries) is declared or bound, or imported under another name or from another
-  place than its own; the words that are a field's, a case's or a bound name here too are in `ALSO_OURS`, and are no definition in specs/. In proofs/ a word may
-  come from any library;
+- a word of the logic (`HOMES`, and what else src/ and specs/ import from its libraries) is declared or bound, or imported under another
+  name or from another place than its own; the words that are a field's, a case's or a bound name here too are in `ALSO_OURS`, and are no
+  definition in specs/. In proofs/ a word may come from any library;
 - so too, in src/, specs/ and beside an equality line, with the words that every answer is said by (`ANSWERS`);
-- a module, or the short name of one, is called as a library is; a `use` line brings all names, or is not read here; a line `infix`, `open` .. is there;
+- a module, or the short name of one, is called as a library is; a `use` line brings all names, or is not read here; a line `infix`,
+  `open` .. is there;
 - an equality line names a type of the code's that its file declares, or imports from elsewhere than the code;
-- a contract has a comment in it, or a clause that is not ⌜ .. ⌝ alone, or several joined by ∗: what a comment, a wand or an `or` says is not ensured.
+- a contract has a comment in it, or a clause that is not ⌜ .. ⌝ alone, or several joined by ∗: what a comment, a wand or an `or` says is
+  not ensured.
 
-The libraries are read where the toolchain has them: a word that its own place does not have is a fault too, so that none of this is held of nothing."""
+The libraries are read where the toolchain has them: a word that its own place does not have is a fault too, so that none of this is held
+of nothing."""
 import functools
 import glob
 import json
@@ -59,7 +62,8 @@ ANSWERS = {name: module for module, names in {
 OUR_TYPES = {"Entry": "Rattle.sorting.specs.Entries"}
 
 USE = re.compile(r"^ *((?:ghost |pub |unfoldable )*)use\s+([^\s{};]+?)(?:\.\{([^}]*)\}|\s+as\s+([^\s;]+))?;?[ ]*$", re.M)
-DECLARED = re.compile(r"^( *)(?:abbrev |unfoldable |opaque |axiom )*(?:pub )?(?:(record|data|module|mutual|ruleset) +([^\s({]*)|((?:(?![=→:|λ] )[^\s(){},;.]+ +)+)(?:\{[^}]*\} +)?:(?= |$))", re.M)
+BLOCK, NAMED = r"(record|data|module|mutual|ruleset) +([^\s({]*)", r"((?:(?![=→:|λ] )[^\s(){},;.]+ +)+)(?:\{[^}]*\} +)?:(?= |$)"
+DECLARED = re.compile(rf"^( *)(?:abbrev |unfoldable |opaque |axiom )*(?:pub )?(?:{BLOCK}|{NAMED})", re.M)
 BOUND = re.compile(r"[({]\s*([^\s(){}:.;,]+(?:\s+[^\s(){}:.;,]+)*)\s+:\s|λ ([^.]*)\.|\blet\s+([^\s:=]+)")
 BOUND_SIGN = re.compile(r"[({]([^(){}:]*_[^(){}:]*)\s:\s|λ ([^.]*_[^.]*)\.|\blet\s+(\S*_\S*)")
 HEAD = re.compile(r"^( *)(?:pub )?(?:extern \"C\" )?fn (\w+)(.*?)(?:^\1\{$| \{$)", re.M | re.S)
@@ -105,7 +109,8 @@ def library_text(module):
 
 def has(module, name):
     """Whether a library's module has this name; the prover has Prim itself, and no file."""
-    return module.startswith("Prim.Native.") or bool(re.search(rf"(?<![^\s(){{}},.]){re.escape(name)}(?![^\s(){{}},.])", library_text(module)))
+    word = rf"(?<![^\s(){{}},.]){re.escape(name)}(?![^\s(){{}},.])"
+    return module.startswith("Prim.Native.") or bool(re.search(word, library_text(module)))
 
 
 # ---- a file
@@ -131,8 +136,8 @@ class Source:
         if lines != len(re.findall(r"(?<![\w·-])use(?![\w·-])", self.code)):
             self.fault("has a `use` line that is not read here")
         self.rest = USE.sub("", self.code)
-        lines = re.findall(r"^( *)pub (\S+-one) :(.*?)^\1(?:unfolding [^\n]*\n\1)*\2\b", self.rest, re.M | re.S) if self.kind == "proofs" else []
-        self.said_by_one = {word for _, _, said in lines for word in re.findall(r"[^\s(){}]+", said)}
+        lines = re.findall(r"^( *)pub (\S+-one) :(.*?)^\1(?:unfolding [^\n]*\n\1)*\2\b", self.rest, re.M | re.S)
+        self.said_by_one = {word for _, _, said in lines if self.kind == "proofs" for word in re.findall(r"[^\s(){}]+", said)}
 
     def fault(self, said):
         self.faults.append(f"{self.path}: {said}")
@@ -202,7 +207,7 @@ def audit_imports(file, watched):
         elsewhere = not is_library(module)
         if here != name and ((here in watched and (elsewhere or file.kind != "proofs")) or is_sign(here) or is_sign(name)):
             file.fault(f"imports {name} of {module} as {here}")
-        elif name in watched and module != watched[name] and (file.kind != "proofs" or is_sign(name) or (elsewhere and name not in ALSO_OURS)):
+        elif watched.get(name, module) != module and (file.kind != "proofs" or is_sign(name) or (elsewhere and name not in ALSO_OURS)):
             file.fault(f"imports {name} from {module}, which is {watched[name]}'s")
         elif is_sign(name) and elsewhere:
             file.fault(f"imports {name} from {module}, which is no library of the logic")

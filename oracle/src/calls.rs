@@ -1,5 +1,5 @@
-//! Which calls of the library were made, and which of their answers were compared. Each call is counted as it is made, and a comparison takes all that were
-//! made since the one before; calls that no comparison follows, within the line of their function, count for nothing.
+//! Which calls of the library were made, and which of their answers were compared. Each call is counted as it is made, and a comparison
+//! takes all that were made since the one before; calls that no comparison follows, within the line of their function, count for nothing.
 
 use std::cell::RefCell;
 use std::collections::BTreeMap;
@@ -96,7 +96,8 @@ fn declared() -> BTreeMap<String, bool> {
     let read = |path: &str| fs::read_to_string(format!("{}/../{path}", env!("CARGO_MANIFEST_DIR"))).unwrap_or_default();
     let mut found = BTreeMap::new();
     for line in read("include/telbijan.h").lines() {
-        if let [result, name] = line.split('(').next().unwrap_or("").split(' ').collect::<Vec<_>>()[..] && name.starts_with("telbijan_") && line.contains('(') {
+        let words: Vec<&str> = line.split_once('(').map_or(Vec::new(), |(before, _)| before.split(' ').collect());
+        if let [result, name] = words[..] && name.starts_with("telbijan_") {
             found.insert(name.to_string(), result == "uint64_t");
         }
     }
@@ -127,6 +128,7 @@ pub fn lacking(compared: &BTreeMap<&'static str, Sides>) -> Vec<String> {
             found.push(format!("{name}: no refusal was compared"));
         }
     }
-    found.extend(compared.keys().filter(|name| !declared.contains_key(**name)).map(|name| format!("{name}: it was called, and is not declared")));
+    let undeclared = compared.keys().filter(|name| !declared.contains_key(**name));
+    found.extend(undeclared.map(|name| format!("{name}: it was called, and is not declared")));
     found
 }

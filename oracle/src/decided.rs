@@ -1,5 +1,5 @@
-//! How often the tables of E and L decide, counted: the sources that ask them (crates/explog and what it stands on) are taken as they are, without
-//! their contracts, and where they fall back to the steps of document 01 stands a counter. No proof says how often they do.
+//! How often the tables of E and L decide, counted: the sources that ask them (crates/explog and what it stands on) are taken as they
+//! are, without their contracts, and where they fall back to the steps of document 01 stands a counter. No proof says how often they do.
 
 use std::cell::Cell;
 use tune::powers as second;

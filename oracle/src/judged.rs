@@ -1,4 +1,5 @@
-//! The comparison's own verdict, held to what it must refuse: `oracle judged`. Each case is a report that lacks something, and what must be said of it.
+//! The comparison's own verdict, held to what it must refuse: `oracle judged`. Each case is a report that lacks something, and what must
+//! be said of it.
 
 use crate::calls;
 use crate::ffi;
@@ -30,7 +31,8 @@ const CASES: [Case; 7] = [
     (|tally| compared(tally, 128, refused()), "midi: the refusals should be {10}"),
 ];
 
-/// Whether each case is found out, those that are not being said; and whether a call that is compared on both sides is found to lack nothing.
+/// Whether each case is found out, those that are not being said; and whether a call that is compared on both sides is found to lack
+/// nothing.
 pub fn judged() -> bool {
     let faults = |name: &str, cases: fn(&mut Tally)| {
         let mut report = Report::silent();
@@ -50,7 +52,8 @@ pub fn judged() -> bool {
         compared(tally, 128, refused());
         compared(tally, 60, Said::gives(Who::Rust, 61));
     });
-    if differences != 1 || lacking.iter().any(|said| said.starts_with("telbijan_checked_midi_number")) || !lacking.contains(&"telbijan_exp2: no answer was compared".to_string()) {
+    let lacks = |start: &str| lacking.iter().any(|said| said.starts_with(start));
+    if differences != 1 || lacks("telbijan_checked_midi_number: ") || !lacks("telbijan_exp2: no answer was compared") {
         println!("judged: {differences} differences, {lacking:?}");
         held = false;
     }

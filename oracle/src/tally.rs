@@ -170,7 +170,8 @@ impl Report {
     pub fn lacking(&self) -> Vec<String> {
         let mut lacking: Vec<String> = self.lines.iter().flat_map(Line::faults).collect();
         lacking.extend(calls::lacking(&self.calls));
-        lacking.extend(BESIDE.iter().filter(|name| !self.lines.iter().any(|line| line.tally.name == **name)).map(|name| format!("{name}: no line")));
+        let gone = BESIDE.iter().filter(|name| !self.lines.iter().any(|line| line.tally.name == **name));
+        lacking.extend(gone.map(|name| format!("{name}: no line")));
         lacking
     }
 
