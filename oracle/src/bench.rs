@@ -40,6 +40,14 @@ fn sum(xs: &[f64], call: impl Fn(f64) -> f64) {
     black_box(xs.iter().map(|&x| call(x)).sum::<f64>());
 }
 
+/// The two calls as they are: counting them would take a tenth of their time.
+mod uncounted {
+    unsafe extern "C" {
+        pub fn telbijan_exp2(x: f64, power: *mut f64) -> u64;
+        pub fn telbijan_log2(x: f64, logarithm: *mut f64) -> u64;
+    }
+}
+
 fn exponents_and_values() {
     let mut random = Random::new(200);
     let exponents: Vec<f64> = (0..4096).map(|_| random.unit() * 20.0 - 10.0).collect();
@@ -50,13 +58,13 @@ fn exponents_and_values() {
         answer
     };
     let times = shortest(&mut [
-        &mut || sum(&exponents, |x| ours(ffi::telbijan_exp2, x)),
+        &mut || sum(&exponents, |x| ours(uncounted::telbijan_exp2, x)),
         &mut || sum(&exponents, |x| powers::e(x).unwrap()),
         &mut || sum(&exponents, f64::exp2),
     ]);
     line("E (exp2)", exponents.len(), &times, &["E with u128 in Rust", "libm's exp2"]);
     let times = shortest(&mut [
-        &mut || sum(&values, |x| ours(ffi::telbijan_log2, x)),
+        &mut || sum(&values, |x| ours(uncounted::telbijan_log2, x)),
         &mut || sum(&values, |x| powers::l(x).unwrap()),
         &mut || sum(&values, f64::log2),
     ]);

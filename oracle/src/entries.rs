@@ -24,15 +24,14 @@ fn replayed(questions: &[String]) -> Result<String> {
 
 /// A list counted and replayed; of one that is not the same, the questions whose answers differ.
 fn replay(tally: &mut Tally, list: &List) {
-    list.said.iter().for_each(|&(who, code)| tally.count(who, code));
     let said = replayed(&list.questions).unwrap_or_default();
+    tally.replayed(&list.said, said == text(&list.answers));
     if said != text(&list.answers) {
         let mut answers = said.lines();
         for (question, answer) in list.questions.iter().zip(&list.answers) {
             let said = answers.next().unwrap_or_default();
             tally.require(said == answer, &format!("{question}: {said}, and not {answer}"));
         }
-        tally.require(false, "a list was not answered as it should be");
     }
 }
 

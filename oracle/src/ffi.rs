@@ -5,37 +5,37 @@ use crate::lent::{Float, lend};
 use crate::tally::Code;
 
 mod raw {
-    unsafe extern "C" {
-        pub fn telbijan_i32_div_u(numer: i32, denom: u32, quotient: *mut i32) -> u64;
-        pub fn telbijan_i32_rem_u(numer: i32, denom: u32, remainder: *mut u32) -> u64;
-        pub fn telbijan_i32_dr_u(numer: i32, denom: u32, quotient: *mut i32, remainder: *mut u32) -> u64;
-        pub fn telbijan_odd_factors_u16(number: u16) -> u16;
-        pub fn telbijan_checked_midi_number(number: i32, midi: *mut u8) -> u64;
-        pub fn telbijan_num_keys_before(number: i32, other: i32, steps: *mut i32) -> u64;
-        pub fn telbijan_plus_steps(number: i32, steps: i32, after: *mut i32) -> u64;
-        pub fn telbijan_exp2(x: f64, power: *mut f64) -> u64;
-        pub fn telbijan_log2(x: f64, logarithm: *mut f64) -> u64;
-        pub fn telbijan_ratio_from_float(value: f64, ratio: *mut f64) -> u64;
-        pub fn telbijan_ratio_from_octaves(octaves: f64, ratio: *mut f64) -> u64;
-        pub fn telbijan_ratio_from_semitones(semitones: f64, ratio: *mut f64) -> u64;
-        pub fn telbijan_ratio_from_cents(cents: f64, ratio: *mut f64) -> u64;
-        pub fn telbijan_ratio_between_pitches(first: f64, second: f64, ratio: *mut f64) -> u64;
-        pub fn telbijan_ratio_stretched_by(value: f64, stretch: f64, ratio: *mut f64) -> u64;
-        pub fn telbijan_ratio_deviation_from(value: f64, reference: f64, ratio: *mut f64) -> u64;
-        pub fn telbijan_ratio_repeated(value: f64, times: f64, ratio: *mut f64) -> u64;
-        pub fn telbijan_ratio_divided_into_equal_steps(value: f64, steps: f64, ratio: *mut f64) -> u64;
-        pub fn telbijan_ratio_num_equal_steps_of_size(value: f64, step: f64, count: *mut f64) -> u64;
-        pub fn telbijan_ratio_as_octaves(value: f64, octaves: *mut f64) -> u64;
-        pub fn telbijan_ratio_as_semitones(value: f64, semitones: *mut f64) -> u64;
-        pub fn telbijan_ratio_as_cents(value: f64, cents: *mut f64) -> u64;
-        pub fn telbijan_ratio_inv(value: f64, ratio: *mut f64) -> u64;
-        pub fn telbijan_ratio_abs(value: f64, ratio: *mut f64) -> u64;
-        pub fn telbijan_pitch_from_hz(value: f64, hz: *mut f64) -> u64;
-        pub fn telbijan_pitch_times_ratio(value: f64, ratio: f64, hz: *mut f64) -> u64;
-        pub fn telbijan_pitch_over_ratio(value: f64, ratio: f64, hz: *mut f64) -> u64;
-        pub fn telbijan_ratio_is_negligible(value: f64, negligible: *mut bool) -> u64;
-        pub fn telbijan_ratio_total_cmp(value: f64, other: f64, order: *mut i32) -> u64;
-        pub fn telbijan_ratio_nearest_fraction(value: f64, limit: u16, numer: *mut u16, denom: *mut u16, deviation: *mut f64, octaves: *mut i32) -> u64;
+    crate::calls::counted! {
+        fn telbijan_i32_div_u(numer: i32, denom: u32, quotient: *mut i32) -> u64;
+        fn telbijan_i32_rem_u(numer: i32, denom: u32, remainder: *mut u32) -> u64;
+        fn telbijan_i32_dr_u(numer: i32, denom: u32, quotient: *mut i32, remainder: *mut u32) -> u64;
+        fn telbijan_odd_factors_u16(number: u16) -> u16;
+        fn telbijan_checked_midi_number(number: i32, midi: *mut u8) -> u64;
+        fn telbijan_num_keys_before(number: i32, other: i32, steps: *mut i32) -> u64;
+        fn telbijan_plus_steps(number: i32, steps: i32, after: *mut i32) -> u64;
+        fn telbijan_exp2(x: f64, power: *mut f64) -> u64;
+        fn telbijan_log2(x: f64, logarithm: *mut f64) -> u64;
+        fn telbijan_ratio_from_float(value: f64, ratio: *mut f64) -> u64;
+        fn telbijan_ratio_from_octaves(octaves: f64, ratio: *mut f64) -> u64;
+        fn telbijan_ratio_from_semitones(semitones: f64, ratio: *mut f64) -> u64;
+        fn telbijan_ratio_from_cents(cents: f64, ratio: *mut f64) -> u64;
+        fn telbijan_ratio_between_pitches(first: f64, second: f64, ratio: *mut f64) -> u64;
+        fn telbijan_ratio_stretched_by(value: f64, stretch: f64, ratio: *mut f64) -> u64;
+        fn telbijan_ratio_deviation_from(value: f64, reference: f64, ratio: *mut f64) -> u64;
+        fn telbijan_ratio_repeated(value: f64, times: f64, ratio: *mut f64) -> u64;
+        fn telbijan_ratio_divided_into_equal_steps(value: f64, steps: f64, ratio: *mut f64) -> u64;
+        fn telbijan_ratio_num_equal_steps_of_size(value: f64, step: f64, count: *mut f64) -> u64;
+        fn telbijan_ratio_as_octaves(value: f64, octaves: *mut f64) -> u64;
+        fn telbijan_ratio_as_semitones(value: f64, semitones: *mut f64) -> u64;
+        fn telbijan_ratio_as_cents(value: f64, cents: *mut f64) -> u64;
+        fn telbijan_ratio_inv(value: f64, ratio: *mut f64) -> u64;
+        fn telbijan_ratio_abs(value: f64, ratio: *mut f64) -> u64;
+        fn telbijan_pitch_from_hz(value: f64, hz: *mut f64) -> u64;
+        fn telbijan_pitch_times_ratio(value: f64, ratio: f64, hz: *mut f64) -> u64;
+        fn telbijan_pitch_over_ratio(value: f64, ratio: f64, hz: *mut f64) -> u64;
+        fn telbijan_ratio_is_negligible(value: f64, negligible: *mut bool) -> u64;
+        fn telbijan_ratio_total_cmp(value: f64, other: f64, order: *mut i32) -> u64;
+        fn telbijan_ratio_nearest_fraction(value: f64, limit: u16, numer: *mut u16, denom: *mut u16, deviation: *mut f64, octaves: *mut i32) -> u64;
     }
 }
 

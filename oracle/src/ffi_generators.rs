@@ -5,12 +5,12 @@ use crate::ffi_scl::Columns;
 use crate::tally::Code;
 
 mod raw {
-    unsafe extern "C" {
-        pub fn telbijan_create_harmonics_scale(
+    crate::calls::counted! {
+        fn telbijan_create_harmonics_scale(
             otonal: bool, start: u16, size: u16, divided: bool, divisions: u16, kind: *mut u8, kind_length: usize, cents: *mut f64, cents_length: usize, numer: *mut u32, numer_length: usize,
             denom: *mut u32, denom_length: usize, place: *mut u32, place_length: usize, ratio: *mut f64, ratio_length: usize, wraps: *mut i32, wraps_length: usize, count: *mut u16,
         ) -> u64;
-        pub fn telbijan_create_rank2_temperament_scale(
+        fn telbijan_create_rank2_temperament_scale(
             generator: f64, positive: u16, negative: u16, period: f64, kind: *mut u8, kind_length: usize, cents: *mut f64, cents_length: usize, numer: *mut u32, numer_length: usize,
             denom: *mut u32, denom_length: usize, place: *mut u32, place_length: usize, ratio: *mut f64, ratio_length: usize, wraps: *mut i32, wraps_length: usize, count: *mut u16,
         ) -> u64;

@@ -5,21 +5,21 @@ use crate::lent::{Float, lend};
 use crate::tally::Code;
 
 mod raw {
-    unsafe extern "C" {
-        pub fn telbijan_read_kbm(
+    crate::calls::counted! {
+        fn telbijan_read_kbm(
             text: *const u8, text_length: usize, map: *mut i32, map_length: usize, count: *mut u16, start: *mut i32, end: *mut i32, reference: *mut i32, hz: *mut f64, offset: *mut i32,
             octave: *mut i16,
         ) -> u64;
-        pub fn telbijan_scale_degree_of(
+        fn telbijan_scale_degree_of(
             map: *const i32, map_length: usize, count: u16, start: i32, end: i32, reference: i32, hz: f64, offset: i32, octave: i16, number: i32, degree: *mut i32,
         ) -> u64;
-        pub fn telbijan_export_kbm(
+        fn telbijan_export_kbm(
             map: *const i32, map_length: usize, count: u16, start: i32, end: i32, reference: i32, hz: f64, offset: i32, octave: i16, out: *mut u8, out_length: usize, written: *mut usize,
         ) -> u64;
-        pub fn telbijan_kbm_root(reference: i32, hz: f64, offset: i32) -> u64;
-        pub fn telbijan_push_mapped_key(map: *mut i32, map_length: usize, room: usize, count: usize, degree: i16, after: *mut usize) -> u64;
-        pub fn telbijan_push_unmapped_key(map: *mut i32, map_length: usize, room: usize, count: usize, after: *mut usize) -> u64;
-        pub fn telbijan_build_kbm(
+        fn telbijan_kbm_root(reference: i32, hz: f64, offset: i32) -> u64;
+        fn telbijan_push_mapped_key(map: *mut i32, map_length: usize, room: usize, count: usize, degree: i16, after: *mut usize) -> u64;
+        fn telbijan_push_unmapped_key(map: *mut i32, map_length: usize, room: usize, count: usize, after: *mut usize) -> u64;
+        fn telbijan_build_kbm(
             map: *const i32, map_length: usize, room: usize, count: usize, start: i32, end: i32, reference: i32, hz: f64, offset: i32, given: bool, octave: i16, entries: *mut u16, formal: *mut i16,
         ) -> u64;
     }

@@ -5,37 +5,37 @@ use crate::lent;
 use crate::tally::Code;
 
 mod raw {
-    unsafe extern "C" {
-        pub fn telbijan_item_as_ratio(kind: u8, cents: f64, numer: u32, denom: u32, ratio: *mut f64) -> u64;
-        pub fn telbijan_read_scl(
+    crate::calls::counted! {
+        fn telbijan_item_as_ratio(kind: u8, cents: f64, numer: u32, denom: u32, ratio: *mut f64) -> u64;
+        fn telbijan_read_scl(
             text: *const u8, text_length: usize, kind: *mut u8, kind_length: usize, cents: *mut f64, cents_length: usize, numer: *mut u32, numer_length: usize, denom: *mut u32, denom_length: usize,
             place: *mut u32, place_length: usize, ratio: *mut f64, ratio_length: usize, wraps: *mut i32, wraps_length: usize, count: *mut u16, start: *mut usize, end: *mut usize,
         ) -> u64;
-        pub fn telbijan_new_scl(
+        fn telbijan_new_scl(
             kind: *mut u8, kind_length: usize, cents: *mut f64, cents_length: usize, numer: *mut u32, numer_length: usize, denom: *mut u32, denom_length: usize, place: *const u32, place_length: usize,
             ratio: *const f64, ratio_length: usize, wraps: *const i32, wraps_length: usize, room: *mut usize,
         ) -> u64;
-        pub fn telbijan_push_cents(
+        fn telbijan_push_cents(
             kind: *mut u8, kind_length: usize, cents: *mut f64, cents_length: usize, numer: *mut u32, numer_length: usize, denom: *mut u32, denom_length: usize, room: usize, count: usize, value: f64,
             after: *mut usize,
         ) -> u64;
-        pub fn telbijan_push_ratio(
+        fn telbijan_push_ratio(
             kind: *mut u8, kind_length: usize, cents: *mut f64, cents_length: usize, numer: *mut u32, numer_length: usize, denom: *mut u32, denom_length: usize, room: usize, count: usize, value: f64,
             after: *mut usize,
         ) -> u64;
-        pub fn telbijan_push_int(
+        fn telbijan_push_int(
             kind: *mut u8, kind_length: usize, cents: *mut f64, cents_length: usize, numer: *mut u32, numer_length: usize, denom: *mut u32, denom_length: usize, room: usize, count: usize, value: u32,
             after: *mut usize,
         ) -> u64;
-        pub fn telbijan_push_fraction(
+        fn telbijan_push_fraction(
             kind: *mut u8, kind_length: usize, cents: *mut f64, cents_length: usize, numer: *mut u32, numer_length: usize, denom: *mut u32, denom_length: usize, room: usize, count: usize, above: u32,
             below: u32, after: *mut usize,
         ) -> u64;
-        pub fn telbijan_build_scl(
+        fn telbijan_build_scl(
             kind: *const u8, kind_length: usize, cents: *const f64, cents_length: usize, numer: *const u32, numer_length: usize, denom: *const u32, denom_length: usize, place: *mut u32,
             place_length: usize, ratio: *mut f64, ratio_length: usize, wraps: *mut i32, wraps_length: usize, room: usize, count: usize, items: *mut u16,
         ) -> u64;
-        pub fn telbijan_export_scl(
+        fn telbijan_export_scl(
             description: *const u8, description_length: usize, kind: *const u8, kind_length: usize, cents: *const f64, cents_length: usize, numer: *const u32, numer_length: usize, denom: *const u32,
             denom_length: usize, count: u16, out: *mut u8, out_length: usize, written: *mut usize,
         ) -> u64;

@@ -9,40 +9,46 @@ use crate::tally::Code;
 
 /// The columns of the items, as C has them.
 macro_rules! with_items {
-    ($name:ident ( $($more:ident : $type:ty),* )) => {
-        pub fn $name(kind: *const u8, kinds: usize, cents: *const f64, cents_length: usize, numer: *const u32, numers: usize, denom: *const u32, denoms: usize, $($more: $type),*) -> u64;
+    ($($name:ident ( $($more:ident : $type:ty),* );)*) => {
+        crate::calls::counted! {
+            $(fn $name(kind: *const u8, kinds: usize, cents: *const f64, cents_length: usize, numer: *const u32, numers: usize, denom: *const u32, denoms: usize, $($more: $type),*) -> u64;)*
+        }
     };
 }
 
 /// The columns of the items and of the list.
 macro_rules! with_scale {
-    ($name:ident ( $($more:ident : $type:ty),* )) => {
-        pub fn $name(
-            kind: *const u8, kinds: usize, cents: *const f64, cents_length: usize, numer: *const u32, numers: usize, denom: *const u32, denoms: usize,
-            place: *const u32, places: usize, ratio: *const f64, ratios: usize, wraps: *const i32, wraps_length: usize, $($more: $type),*
-        ) -> u64;
+    ($($name:ident ( $($more:ident : $type:ty),* );)*) => {
+        crate::calls::counted! {
+            $(fn $name(
+                kind: *const u8, kinds: usize, cents: *const f64, cents_length: usize, numer: *const u32, numers: usize, denom: *const u32, denoms: usize,
+                place: *const u32, places: usize, ratio: *const f64, ratios: usize, wraps: *const i32, wraps_length: usize, $($more: $type),*
+            ) -> u64;)*
+        }
     };
 }
 
 mod raw {
-    unsafe extern "C" {
-        with_items!(telbijan_period(count: u16, period: *mut f64));
-        with_items!(telbijan_relative_pitch_of(count: u16, degree: i32, relative: *mut f64));
-        with_items!(telbijan_pitch_of(count: u16, reference: i32, hz: f64, offset: i32, degree: i32, pitch: *mut f64));
-        with_items!(telbijan_pitch_of_key(count: u16, reference: i32, hz: f64, offset: i32, key: i32, pitch: *mut f64));
-        with_items!(telbijan_maybe_pitch_of(count: u16, map: *const i32, entries: usize, size: u16, start: i32, end: i32, reference: i32, hz: f64, offset: i32, octave: i16, key: i32, pitch: *mut f64));
-        with_items!(telbijan_maybe_pitch_of_degree(count: u16, map: *const i32, entries: usize, size: u16, start: i32, end: i32, reference: i32, hz: f64, offset: i32, octave: i16, degree: i32, pitch: *mut f64));
-        with_items!(telbijan_pitches_of(
+    with_items! {
+        telbijan_period(count: u16, period: *mut f64);
+        telbijan_relative_pitch_of(count: u16, degree: i32, relative: *mut f64);
+        telbijan_pitch_of(count: u16, reference: i32, hz: f64, offset: i32, degree: i32, pitch: *mut f64);
+        telbijan_pitch_of_key(count: u16, reference: i32, hz: f64, offset: i32, key: i32, pitch: *mut f64);
+        telbijan_maybe_pitch_of(count: u16, map: *const i32, entries: usize, size: u16, start: i32, end: i32, reference: i32, hz: f64, offset: i32, octave: i16, key: i32, pitch: *mut f64);
+        telbijan_maybe_pitch_of_degree(count: u16, map: *const i32, entries: usize, size: u16, start: i32, end: i32, reference: i32, hz: f64, offset: i32, octave: i16, degree: i32, pitch: *mut f64);
+        telbijan_pitches_of(
             count: u16, map: *const i32, entries: usize, size: u16, start: i32, end: i32, reference: i32, hz: f64, offset: i32, octave: i16, first: i32, keys: u32, pitches: *mut f64, pitches_length: usize,
             numbers: *mut u32, numbers_length: usize
-        ));
-        with_scale!(telbijan_sorted_relative_pitch_of(count: u16, degree: i32, relative: *mut f64));
-        with_scale!(telbijan_sorted_pitch_of(count: u16, reference: i32, hz: f64, offset: i32, degree: i32, pitch: *mut f64));
-        with_scale!(telbijan_find_by_relative_pitch(count: u16, target: f64, degree: *mut i32, deviation: *mut f64));
-        with_scale!(telbijan_find_by_relative_pitch_sorted(count: u16, target: f64, degree: *mut i32, deviation: *mut f64));
-        with_scale!(telbijan_find_by_pitch(count: u16, reference: i32, hz: f64, offset: i32, pitch: f64, degree: *mut i32, deviation: *mut f64));
-        with_scale!(telbijan_find_by_pitch_sorted(count: u16, reference: i32, hz: f64, offset: i32, pitch: f64, degree: *mut i32, deviation: *mut f64));
-        with_scale!(telbijan_find_key_by_pitch(count: u16, reference: i32, hz: f64, offset: i32, pitch: f64, key: *mut i32, deviation: *mut f64));
+        );
+    }
+    with_scale! {
+        telbijan_sorted_relative_pitch_of(count: u16, degree: i32, relative: *mut f64);
+        telbijan_sorted_pitch_of(count: u16, reference: i32, hz: f64, offset: i32, degree: i32, pitch: *mut f64);
+        telbijan_find_by_relative_pitch(count: u16, target: f64, degree: *mut i32, deviation: *mut f64);
+        telbijan_find_by_relative_pitch_sorted(count: u16, target: f64, degree: *mut i32, deviation: *mut f64);
+        telbijan_find_by_pitch(count: u16, reference: i32, hz: f64, offset: i32, pitch: f64, degree: *mut i32, deviation: *mut f64);
+        telbijan_find_by_pitch_sorted(count: u16, reference: i32, hz: f64, offset: i32, pitch: f64, degree: *mut i32, deviation: *mut f64);
+        telbijan_find_key_by_pitch(count: u16, reference: i32, hz: f64, offset: i32, pitch: f64, key: *mut i32, deviation: *mut f64);
     }
 }
 

@@ -2,7 +2,7 @@
 
 use crate::inputs::{Random, f64_limits};
 use crate::lent::Float;
-use crate::probe::*;
+use crate::probe;
 use crate::tally::{Code, Report, Said, Who};
 
 const RANDOM: usize = 500_000;
@@ -31,26 +31,26 @@ fn accepted(x: f64) -> (Code, Float) {
 }
 
 pub fn compare(all: &mut Report) {
-    let one = |all: &mut Report, name: &str, ours: extern "C" fn(f64) -> f64, theirs: fn(f64) -> f64| {
+    let one = |all: &mut Report, name: &str, ours: fn(f64) -> f64, theirs: fn(f64) -> f64| {
         all.function(name, &[], |tally| {
             for x in singles() {
                 tally.same(x, accepted(ours(x)), Said::gives(Who::Rust, Float::of(theirs(x))));
             }
         });
     };
-    one(all, "f64 abs", probe_abs, f64::abs);
-    one(all, "f64 trunc", probe_trunc, f64::trunc);
-    one(all, "f64 floor", probe_floor, f64::floor);
-    let two = |all: &mut Report, name: &str, ours: extern "C" fn(f64, f64) -> f64, theirs: fn(f64, f64) -> f64| {
+    one(all, "f64 abs", probe::abs, f64::abs);
+    one(all, "f64 trunc", probe::trunc, f64::trunc);
+    one(all, "f64 floor", probe::floor, f64::floor);
+    let two = |all: &mut Report, name: &str, ours: fn(f64, f64) -> f64, theirs: fn(f64, f64) -> f64| {
         all.function(name, &[], |tally| {
             for (a, b) in pairs() {
                 tally.same((a, b), accepted(ours(a, b)), Said::gives(Who::Rust, Float::of(theirs(a, b))));
             }
         });
     };
-    two(all, "f64 rem_euclid", probe_rem_euclid, f64::rem_euclid);
-    two(all, "f64 div_euclid", probe_div_euclid, f64::div_euclid);
-    let range = |all: &mut Report, name: &str, ours: extern "C" fn(f64) -> bool, low: i32, high: i32| {
+    two(all, "f64 rem_euclid", probe::rem_euclid, f64::rem_euclid);
+    two(all, "f64 div_euclid", probe::div_euclid, f64::div_euclid);
+    let range = |all: &mut Report, name: &str, ours: fn(f64) -> bool, low: i32, high: i32| {
         all.ruled(name, &[], |tally| {
             for x in singles() {
                 let inside = (2f64.powi(low)..=2f64.powi(high)).contains(&x);
@@ -58,8 +58,8 @@ pub fn compare(all: &mut Report) {
             }
         });
     };
-    range(all, "range 2^-900..2^900", probe_is_in_reach, -900, 900);
-    range(all, "range 2^-64..2^64", probe_is_in_search, -64, 64);
-    range(all, "range 2^-32..2^32", probe_is_in_generator, -32, 32);
-    range(all, "range 2^-10..2^20", probe_is_in_pitch, -10, 20);
+    range(all, "range 2^-900..2^900", probe::is_in_reach, -900, 900);
+    range(all, "range 2^-64..2^64", probe::is_in_search, -64, 64);
+    range(all, "range 2^-32..2^32", probe::is_in_generator, -32, 32);
+    range(all, "range 2^-10..2^20", probe::is_in_pitch, -10, 20);
 }

@@ -7,11 +7,16 @@
 //! - `oracle round SEED` is the one round of that seed.
 //! - `oracle bench` times the two sides in one run.
 //! - `oracle powers COUNT SEED` compares COUNT numbers each for E and L, COUNT - say 100000000 - in about a minute.
+//! - `oracle judged` holds the verdict to comparisons that lack something.
 //! - `oracle differences` prints the rows of docs/DIFFERENCES.md, which the comparison runs.
 //! - `oracle freeze CRATES` writes a sample of the answers for the programs that replay them.
 
+#![deny(dead_code, unused)]
+
 mod bench;
 mod bench_tuning;
+mod calls;
+mod decided;
 mod differences;
 mod differences_kbm;
 mod differences_rule;
@@ -35,6 +40,7 @@ mod freeze_text;
 mod freeze_tuning;
 mod generators;
 mod inputs;
+mod judged;
 mod kbm_build;
 mod kbm_read;
 mod kbm_use;
@@ -79,6 +85,9 @@ fn main() -> ExitCode {
             (Ok(count), Ok(seed)) if powers::many(count, seed) => ExitCode::SUCCESS,
             _ => ExitCode::FAILURE,
         },
+        ["judged"] => {
+            if judged::judged() { ExitCode::SUCCESS } else { ExitCode::FAILURE }
+        }
         ["differences"] => {
             differences::print();
             ExitCode::SUCCESS
@@ -91,7 +100,7 @@ fn main() -> ExitCode {
             }
         },
         _ => {
-            eprintln!("usage: oracle [many MINUTES SEED | round SEED | bench | powers COUNT SEED | differences | freeze CRATES]");
+            eprintln!("usage: oracle [many MINUTES SEED | round SEED | bench | powers COUNT SEED | judged | differences | freeze CRATES]");
             ExitCode::FAILURE
         }
     }
@@ -129,4 +138,5 @@ fn compare_all(all: &mut tally::Report) {
         examples_numbers::compare(all);
         differences::compare(all);
     }
+    all.count_calls();
 }

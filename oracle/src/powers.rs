@@ -3,15 +3,19 @@
 //! The library computes both from tables over a few bits, and falls back to the steps of document 01 where that does not decide; so, beside
 //! random numbers, the inputs have every few bits at every place with what makes their borders: zeros or ones below them, and neighbours.
 
+use crate::decided::{self, Asked};
 use crate::ffi;
-use crate::inputs::{Random, f64_limits, fixed, with_fixed};
+use crate::inputs::{Random, f64_limits, fixed};
 use crate::lent::Float;
-use crate::tally::{Code, Report, Said, Who};
-use std::hint::black_box;
-use std::time::{Duration, Instant};
+use crate::tally::{Code, Report, Said, Tally, Who};
 use tune::powers;
 
 const RANDOM: usize = 1_000_000;
+
+/// Of so many inputs, how many the tables of E and of L may leave to the steps.
+const INPUTS: usize = 20_000;
+const MOST_OF_E: usize = 1_000;
+const MOST_OF_L: usize = 800;
 
 pub fn exponents() -> impl Iterator<Item = f64> {
     let mut random = Random::new(6);
@@ -79,37 +83,23 @@ pub fn compare(all: &mut Report) {
         for x in exponents().chain(border_exponents(1)) {
             tally.same(x, ffi::one(ffi::telbijan_exp2, x), said(powers::e(x)));
         }
-        let inputs: Vec<f64> = exponents().filter(|x| x.abs() < 10.0).take(20_000).collect();
-        tally.require(!with_fixed() || is_quick(&inputs, ffi::telbijan_exp2, powers::e), "the tables of E seldom decide");
+        decides(tally, |random| random.unit() * 20.0 - 10.0, decided::powers_of, MOST_OF_E);
     });
     all.function("log2", &[18], |tally| {
         for x in values().chain(border_values(1)) {
             tally.same(x, ffi::one(ffi::telbijan_log2, x), said(powers::l(x)));
         }
-        let inputs: Vec<f64> = values().filter(|x| (0.01..100.0).contains(x)).take(20_000).collect();
-        tally.require(!with_fixed() || is_quick(&inputs, ffi::telbijan_log2, powers::l), "the tables of L seldom decide");
+        decides(tally, |random| random.ratio(10), decided::logarithms_of, MOST_OF_L);
     });
 }
 
-/// Whether a call takes less than a fifth of the second implementation's time, the shortest of some turns each. Where the tables decide nearly
-/// always it takes about a tenth; where they never do, a third or a half. No proof says how often they do.
-fn is_quick(inputs: &[f64], ours: ffi::One, theirs: impl Fn(f64) -> Option<f64>) -> bool {
-    let turn = |call: &dyn Fn(f64) -> f64| {
-        let began = Instant::now();
-        let sum: f64 = inputs.iter().map(|&x| call(x)).sum();
-        (began.elapsed(), black_box(sum)).0
-    };
-    let first = |x: f64| {
-        let mut answer = 0.0;
-        unsafe { ours(x, &mut answer) };
-        answer
-    };
-    let second = |x: f64| theirs(x).unwrap_or(0.0);
-    let (mut quick, mut slow) = (Duration::MAX, Duration::MAX);
-    for _ in 0..7 {
-        (quick, slow) = (quick.min(turn(&first)), slow.min(turn(&second)));
-    }
-    quick * 5 < slow
+/// That the tables decide all but a few of some inputs, and that what was counted is E or L: bit for bit what the second implementation gives.
+fn decides(tally: &mut Tally, input: fn(&mut Random) -> f64, asked: fn(&[f64]) -> Asked, most: usize) {
+    let mut random = Random::new(300);
+    let inputs: Vec<f64> = (0..INPUTS).map(|_| input(&mut random)).collect();
+    let Asked { undecided, wrong } = asked(&inputs);
+    tally.require(wrong == 0, "the code that is counted is not the library's");
+    tally.require(undecided <= most, format!("the tables seldom decide: not in {undecided} of {INPUTS} cases"));
 }
 
 /// Many more numbers than the comparison has: the borders with more neighbours, then random numbers up to `count`, for each of E and L.

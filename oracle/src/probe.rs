@@ -3,26 +3,50 @@
 use crate::lent::{Float, lend};
 use crate::tally::Code;
 
-unsafe extern "C" {
-    pub safe fn probe_abs(x: f64) -> f64;
-    pub safe fn probe_trunc(x: f64) -> f64;
-    pub safe fn probe_floor(x: f64) -> f64;
-    pub safe fn probe_rem_euclid(a: f64, b: f64) -> f64;
-    pub safe fn probe_div_euclid(a: f64, b: f64) -> f64;
-    pub safe fn probe_is_in_reach(x: f64) -> bool;
-    pub safe fn probe_is_in_search(x: f64) -> bool;
-    pub safe fn probe_is_in_generator(x: f64) -> bool;
-    pub safe fn probe_is_in_pitch(x: f64) -> bool;
-    fn probe_next_line(source: *const u8, length: usize, at: usize, next: *mut usize) -> usize;
-    fn probe_read_line(source: *const u8, length: usize, from: usize, to: usize, start: *mut usize, end: *mut usize, token: *mut usize) -> u32;
-    fn probe_read_u16(s: *const u8, length: usize) -> i64;
-    fn probe_read_u32(s: *const u8, length: usize) -> i64;
-    fn probe_read_i16(s: *const u8, length: usize) -> i64;
-    fn probe_read_i32(s: *const u8, length: usize) -> i64;
-    fn probe_read_decimal(s: *const u8, length: usize, value: *mut f64) -> u32;
-    fn probe_write_fixed(x: f64, decimals: u64, plus: bool, out: *mut u8, length: usize, at: usize) -> usize;
-    fn probe_write_i32(z: i32, out: *mut u8, length: usize, at: usize) -> usize;
-    fn probe_write_u32(n: u32, out: *mut u8, length: usize, at: usize) -> usize;
+mod raw {
+    crate::calls::counted! {
+        fn probe_abs(x: f64) -> f64;
+        fn probe_trunc(x: f64) -> f64;
+        fn probe_floor(x: f64) -> f64;
+        fn probe_rem_euclid(a: f64, b: f64) -> f64;
+        fn probe_div_euclid(a: f64, b: f64) -> f64;
+        fn probe_is_in_reach(x: f64) -> bool;
+        fn probe_is_in_search(x: f64) -> bool;
+        fn probe_is_in_generator(x: f64) -> bool;
+        fn probe_is_in_pitch(x: f64) -> bool;
+        fn probe_next_line(source: *const u8, length: usize, at: usize, next: *mut usize) -> usize;
+        fn probe_read_line(source: *const u8, length: usize, from: usize, to: usize, start: *mut usize, end: *mut usize, token: *mut usize) -> u32;
+        fn probe_read_u16(s: *const u8, length: usize) -> i64;
+        fn probe_read_u32(s: *const u8, length: usize) -> i64;
+        fn probe_read_i16(s: *const u8, length: usize) -> i64;
+        fn probe_read_i32(s: *const u8, length: usize) -> i64;
+        fn probe_read_decimal(s: *const u8, length: usize, value: *mut f64) -> u32;
+        fn probe_write_fixed(x: f64, decimals: u64, plus: bool, out: *mut u8, length: usize, at: usize) -> usize;
+        fn probe_write_i32(z: i32, out: *mut u8, length: usize, at: usize) -> usize;
+        fn probe_write_u32(n: u32, out: *mut u8, length: usize, at: usize) -> usize;
+    }
+}
+use raw::*;
+
+/// Functions of numbers alone, which lend nothing.
+macro_rules! plain {
+    ($($name:ident = $probe:ident($($x:ident),*) -> $result:ty;)*) => {
+        $(pub fn $name($($x: f64),*) -> $result {
+            unsafe { $probe($($x),*) }
+        })*
+    };
+}
+
+plain! {
+    abs = probe_abs(x) -> f64;
+    trunc = probe_trunc(x) -> f64;
+    floor = probe_floor(x) -> f64;
+    rem_euclid = probe_rem_euclid(a, b) -> f64;
+    div_euclid = probe_div_euclid(a, b) -> f64;
+    is_in_reach = probe_is_in_reach(x) -> bool;
+    is_in_search = probe_is_in_search(x) -> bool;
+    is_in_generator = probe_is_in_generator(x) -> bool;
+    is_in_pitch = probe_is_in_pitch(x) -> bool;
 }
 
 /// Where the line at a place ends, and where the next starts.

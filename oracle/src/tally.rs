@@ -1,5 +1,6 @@
 //! Counts of what was compared, a line for each function.
 
+use crate::calls::{self, Sides};
 use crate::inputs;
 use std::cell::Cell;
 use std::collections::{BTreeMap, BTreeSet};
@@ -91,17 +92,18 @@ impl<T> Said<T> {
 pub struct Report {
     shown: bool,
     lines: Vec<Line>,
+    calls: BTreeMap<&'static str, Sides>,
 }
 
 impl Report {
     pub fn shown() -> Report {
         println!("random inputs are SplitMix64's, from a seed for each function that its source names");
         heading();
-        Report { shown: true, lines: Vec::new() }
+        Report { shown: true, lines: Vec::new(), calls: BTreeMap::new() }
     }
 
     pub fn silent() -> Report {
-        Report { shown: false, lines: Vec::new() }
+        Report { shown: false, lines: Vec::new(), calls: BTreeMap::new() }
     }
 
     /// Compares one function: `cases` calls the tally once for each input. The refusals met must be exactly `numbers`, and the Rust or
@@ -117,8 +119,10 @@ impl Report {
     }
 
     fn tried(&mut self, name: &str, numbers: &[u64], ruled: bool, cases: impl FnOnce(&mut Tally)) {
-        let mut tally = Tally { name: name.to_string(), by: [0; 4], differences: 0, met: BTreeMap::new(), unlike: BTreeSet::new() };
+        let mut tally = Tally { name: name.to_string(), by: [0; 4], differences: 0, uncalled: 0, met: BTreeMap::new(), unlike: BTreeSet::new() };
+        calls::forget();
         cases(&mut tally);
+        calls::forget();
         let line = Line { tally, numbers: numbers.iter().copied().collect(), ruled };
         if self.shown {
             line.print();
@@ -126,8 +130,14 @@ impl Report {
         self.lines.push(line);
     }
 
+    /// Takes over what this thread has compared, call by call.
+    pub fn count_calls(&mut self) {
+        calls::taken().into_iter().for_each(|(name, sides)| calls::add(&mut self.calls, name, sides));
+    }
+
     /// Adds the lines of another round, function by function.
     pub fn add(&mut self, other: Report) {
+        other.calls.into_iter().for_each(|(name, sides)| calls::add(&mut self.calls, name, sides));
         for line in other.lines {
             match self.lines.iter_mut().find(|known| known.tally.name == line.tally.name) {
                 Some(known) => known.tally.add(&line.tally),
@@ -156,14 +166,25 @@ impl Report {
         self.lines.iter().for_each(Line::print);
     }
 
+    /// What was not compared.
+    pub fn lacking(&self) -> Vec<String> {
+        let mut lacking: Vec<String> = self.lines.iter().flat_map(Line::faults).collect();
+        lacking.extend(calls::lacking(&self.calls));
+        let gone = BESIDE.iter().filter(|name| !self.lines.iter().any(|line| line.tally.name == **name));
+        lacking.extend(gone.map(|name| format!("{name}: no line")));
+        lacking
+    }
+
     /// Fails where something differs or a function lacks cases, which are said.
     pub fn verdict(&self) -> ExitCode {
-        let lacking: Vec<String> = self.lines.iter().flat_map(Line::faults).collect();
+        let lacking = self.lacking();
         lacking.iter().for_each(|fault| println!("{fault}"));
         if self.differences() != 0 || !lacking.is_empty() {
             println!("comparison: DIFFERENCES FOUND");
             ExitCode::FAILURE
         } else {
+            let [accepted, refused] = [0, 1].map(|side| self.calls.values().map(|sides| sides[side]).sum::<u64>());
+            println!("comparison: {} functions of the library, {accepted} answers and {refused} refusals compared", self.calls.len());
             println!("comparison: {} functions, no difference", self.lines.len());
             ExitCode::SUCCESS
         }
@@ -200,6 +221,10 @@ impl Line {
         if !self.ruled && rust + second == 0 {
             found.push(format!("{name}: the Rust answered no case"));
         }
+        // an empty text is no call, and of the examples an answer is held to two things
+        if 2 * self.tally.uncalled > self.tally.by.iter().sum() && !BESIDE.contains(&name.as_str()) {
+            found.push(format!("{name}: {} cases with no call of the library", self.tally.uncalled));
+        }
         if !self.tally.met.keys().eq(&self.numbers) {
             found.push(format!("{name}: the refusals should be {:?}", self.numbers));
         }
@@ -211,9 +236,25 @@ pub struct Tally {
     name: String,
     by: [u64; 4],
     differences: u64,
+    uncalled: u64,
     met: BTreeMap<u64, u64>,
     unlike: BTreeSet<u64>,
 }
+
+/// Lines that no call of C or of the probes stands for, and that must be there.
+const BESIDE: [&str; 11] = [
+    "lent tables, 10",
+    "lent lists, strange",
+    "searches, fixed",
+    "read_entries",
+    "build_entries",
+    "find_in_entries",
+    "examples of mod.rs",
+    "examples of math.rs",
+    "examples of key.rs",
+    "examples of pitch.rs",
+    "rows of DIFFERENCES.md",
+];
 
 /// The numbers that no error of the Rust's stands for.
 const OURS: [u64; 4] = [10, 11, 12, 18];
@@ -221,14 +262,21 @@ const OURS: [u64; 4] = [10, 11, 12, 18];
 impl Tally {
     /// One input: what the library answered and left behind, and what it should have. The first few differences are shown.
     pub fn same<T: PartialEq + Debug>(&mut self, input: impl Debug, ours: (Code, T), theirs: Said<T>) {
+        self.uncalled += u64::from(!calls::compared());
         self.count(theirs.who, theirs.code);
         if ours.0 != theirs.code || ours.1 != theirs.value {
             self.differ(format!("{input:?}: ours {ours:?}, theirs {theirs:?}"));
         }
     }
 
+    /// Inputs whose answers a program gave, all at once: by whom each is, what it is, and whether they are the same.
+    pub fn replayed(&mut self, said: &[(Who, Code)], same: bool) {
+        said.iter().for_each(|&(who, code)| self.count(who, code));
+        self.require(same, "a list was not answered as it should be");
+    }
+
     /// One input, by whom its answer is, and what it is.
-    pub fn count(&mut self, who: Who, code: Code) {
+    fn count(&mut self, who: Who, code: Code) {
         self.by[who as usize] += 1;
         if code != Code::ACCEPTED {
             *self.met.entry(code.number()).or_default() += 1;
@@ -240,6 +288,7 @@ impl Tally {
 
     /// What must hold besides.
     pub fn require(&mut self, holds: bool, what: impl Debug) {
+        calls::compared();
         if !holds {
             self.differ(format!("{what:?}"));
         }
@@ -255,6 +304,7 @@ impl Tally {
     fn add(&mut self, other: &Tally) {
         (0..4).for_each(|who| self.by[who] += other.by[who]);
         self.differences += other.differences;
+        self.uncalled += other.uncalled;
         self.unlike.extend(&other.unlike);
         other.met.iter().for_each(|(&number, times)| *self.met.entry(number).or_default() += times);
     }
