@@ -50,21 +50,21 @@ cents-text c h =
     signed false body e = inl (refl, e)
 
 -- an item's text is its pitch value
-value : (i : Item) → Held i → isUsable i ≡ true → P.Value (itemText i) (P.publishedPitch i)
-value (Cents c) f h = P.Value.cents (cents-text c h)
+value : (i : Item) → Held i → isUsable i ≡ true → P.PitchText (itemText i) (P.publishedPitch i)
+value (Cents c) f h = P.PitchText.cents (cents-text c h)
 value (Fraction n (Given d)) f h =
     let p = usable-fraction n (Given d) h in
-    P.Value.ratio (wholeText (pos n)) (wholeText (pos d)) n d (append-assoc (wholeText (pos n)) (47 ∷ []) (wholeText (pos d)))
+    P.PitchText.ratio (wholeText (pos n)) (wholeText (pos d)) n d (append-assoc (wholeText (pos n)) (47 ∷ []) (wholeText (pos d)))
     (number-digits n (omega (arith, f .0))) (number-digits d (omega (arith, f .1))) (p .0) (p .1)
 value (Fraction n Lacking) f h =
     let p = usable-fraction n Lacking h in
-    P.Value.whole n (number-digits n (omega (arith, f .0))) (p .0)
+    P.PitchText.whole n (number-digits n (omega (arith, f .0))) (p .0)
 
 -- a value alone leads its line
-pub leads-alone : (t : List ℕ) → P.Leads t t
+pub leads-alone : (t : List ℕ) → P.LedBy t t
 leads-alone t = record { before = []; rest = []; whole = sym (append-nil t); blank = tt; ignored = tt }
 
-values : (is : List Item) → AllHeld is → areUsable is ≡ true → P.Values (itemTexts is) (P.pitchesOf is)
+values : (is : List Item) → AllHeld is → areUsable is ≡ true → P.PitchLines (itemTexts is) (P.pitchesOf is)
 unfolding itemTexts areUsable
 values [] f h = tt
 values (i ∷ is) f h =

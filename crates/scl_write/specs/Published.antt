@@ -36,10 +36,10 @@ pub record CentsText (t : List ℕ) (minus : Bool) (n k : ℕ) : Type 0 where
 
 -- "else a ratio. A ratio has one slash; a whole number with neither period nor slash, as `2`, means `2/1`." Ratios are of numbers above
 -- 0: "Negative ratios are a read error"
-pub data Value (t : List ℕ) : Pitch → Type 0 where
-  cents : {minus : Bool} {n k : ℕ} → CentsText t minus n k → Value t (Pitch.cents minus n k)
-  ratio : (a b : List ℕ) (n d : ℕ) → t ≡ a ++ 47 ∷ b → Digits a n → Digits b d → 0 < n → 0 < d → Value t (Pitch.ratio n d)
-  whole : (n : ℕ) → Digits t n → 0 < n → Value t (Pitch.ratio n 1)
+pub data PitchText (t : List ℕ) : Pitch → Type 0 where
+  cents : {minus : Bool} {n k : ℕ} → CentsText t minus n k → PitchText t (Pitch.cents minus n k)
+  ratio : (a b : List ℕ) (n d : ℕ) → t ≡ a ++ 47 ∷ b → Digits a n → Digits b d → 0 < n → 0 < d → PitchText t (Pitch.ratio n d)
+  whole : (n : ℕ) → Digits t n → 0 < n → PitchText t (Pitch.ratio n 1)
 
 -- what may follow a value: "Anything after a valid pitch value is ignored". Period (46), slash (47) and digits (48 to 57) are never after
 -- it but of it: `5/4E` is 5/4 and `408.cents` is 408. cents, while `5/x`, `5/-4` and `1.2.3` are no values
@@ -48,7 +48,7 @@ Ignored [] = Unit {0}
 Ignored (b ∷ l) = (46 ≤ b) × (b ≤ 57) → ⊥
 
 -- the value t leads the line l: "Spaces and tabs before a value are allowed"
-pub record Leads (l t : List ℕ) : Type 0 where
+pub record LedBy (l t : List ℕ) : Type 0 where
   pub before : List ℕ
   pub rest : List ℕ
   pub whole : l ≡ before ++ (t ++ rest)
@@ -56,11 +56,11 @@ pub record Leads (l t : List ℕ) : Type 0 where
   pub ignored : Ignored rest
 
 -- each line has its value
-abbrev pub Values : List (List ℕ) → List Pitch → Type 0
-Values [] [] = Unit {0}
-Values [] (p ∷ ps) = ⊥
-Values (l ∷ ls) [] = ⊥
-Values (l ∷ ls) (p ∷ ps) = ((t : List ℕ) × Leads l t × Value t p) × Values ls ps
+abbrev pub PitchLines : List (List ℕ) → List Pitch → Type 0
+PitchLines [] [] = Unit {0}
+PitchLines [] (p ∷ ps) = ⊥
+PitchLines (l ∷ ls) [] = ⊥
+PitchLines (l ∷ ls) (p ∷ ps) = ((t : List ℕ) × LedBy l t × PitchText t p) × PitchLines ls ps
 
 -- what a scale file says: its description, and the pitch values after the implicit degree 0
 pub record Scale : Type 0 where
@@ -76,7 +76,7 @@ pub record PublishedText (s : List ℕ) (m : Scale) : Type 0 where
   pub lines : Lines s parts
   pub keeps : Kept parts (m .description ∷ count ∷ rest)
   pub notes : Number count (pos (length (m .pitches)))
-  pub values : Values rest (m .pitches)
+  pub values : PitchLines rest (m .pitches)
 
 -- a description that is one line of such a file: no LF in it, no CR at its end, and no comment
 pub record OneLine (description : List ℕ) : Type 0 where

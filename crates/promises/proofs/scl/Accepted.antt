@@ -79,7 +79,7 @@ stands-say l t u w s = elim (value-line l t (meaningBy strictly l) w s (strict-l
 ]
 
 -- a line that a value leads, with nothing that joins it
-apart-says : (l t : List ℕ) → Utf8 l → Word t → (s : P.Leads l t) → Apart (s .rest) → (m : List ℕ) × reading.Line strict l (content m t)
+apart-says : (l t : List ℕ) → Utf8 l → Word t → (s : P.LedBy l t) → Apart (s .rest) → (m : List ℕ) × reading.Line strict l (content m t)
 apart-says l t u w s a = elim (apart-line l t w s a (meaningBy strictly l) (strict-line l)) [
   | inl e ↦ absurd (is-text l (meaningBy strictly l) u (strict-line l) e)
   | inr e ↦ (e .0, subst (reading.Line strict l) (e .1) (strict-line l))
@@ -101,7 +101,7 @@ record Noted (ls : List (List ℕ)) (ps : List P.Pitch) : Type 0 where
   are : Entries scale words items
   same : AllSame ps items
 
-notes : (ls : List (List ℕ)) (ps : List P.Pitch) → AllUtf8 ls → (v : P.Values ls ps) → AllApart ls ps v → AllWithin ls ps v → Noted ls ps
+notes : (ls : List (List ℕ)) (ps : List P.Pitch) → AllUtf8 ls → (v : P.PitchLines ls ps) → AllApart ls ps v → AllWithin ls ps v → Noted ls ps
 notes [] [] u v a w = record { words = []; items = []; say = tt; are = tt; same = tt }
 notes [] (p ∷ ps) u v a w = absurd v
 notes (l ∷ ls) [] u v a w = absurd v

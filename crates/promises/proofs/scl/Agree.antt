@@ -69,18 +69,18 @@ module _ {t : List ℕ} {minus : Bool} {n k : ℕ} (x : P.CentsText t minus n k)
   pub cents-agrees : v ≡ round binary64 minus n (10 ^ k)
   cents-agrees = rw (x .value, x .places) (one-reading t v _ d (record { negative = minus; whole = x .whole; part = x .part; text = cents-form x; taken = cents-supported; nearest = refl }))
 
-pub value-agrees : {t : List ℕ} {p : P.Pitch} {i : Item} → P.Value t p → ItemText t i → Same p i
-value-agrees (P.Value.cents x) (ItemText.cents h v d u) = cents-agrees x v d
-value-agrees (P.Value.cents x) (ItemText.fraction a b s n d u v p q) = not-free (cents-dot x) (s .no-dot)
-value-agrees (P.Value.cents x) (ItemText.whole f g n u p) = not-free (cents-dot x) f
-value-agrees {t} (P.Value.ratio a b n d e x y p q) (ItemText.cents h v c u) = not-free h (split-at t a b e x y .no-dot)
-value-agrees {t} (P.Value.ratio a b n d e x y p q) (ItemText.fraction a′ b′ s n′ d′ u v p′ q′) =
+pub value-agrees : {t : List ℕ} {p : P.Pitch} {i : Item} → P.PitchText t p → ItemText t i → Same p i
+value-agrees (P.PitchText.cents x) (ItemText.cents h v d u) = cents-agrees x v d
+value-agrees (P.PitchText.cents x) (ItemText.fraction a b s n d u v p q) = not-free (cents-dot x) (s .no-dot)
+value-agrees (P.PitchText.cents x) (ItemText.whole f g n u p) = not-free (cents-dot x) f
+value-agrees {t} (P.PitchText.ratio a b n d e x y p q) (ItemText.cents h v c u) = not-free h (split-at t a b e x y .no-dot)
+value-agrees {t} (P.PitchText.ratio a b n d e x y p q) (ItemText.fraction a′ b′ s n′ d′ u v p′ q′) =
     let r = one-split a b a′ b′ (split-at t a b e x y .first) (s .first) (sym e ∙ s .whole) in
     (u32-agrees x (subst (λ (l : List ℕ). U32Text l n′) (sym (r .0)) u), u32-agrees y (subst (λ (l : List ℕ). U32Text l d′) (sym (r .1)) v))
-value-agrees (P.Value.ratio a b n d e x y p q) (ItemText.whole f g n′ u p′) = not-free (a, b, e) g
-value-agrees {t} (P.Value.whole n x p) (ItemText.cents h v c u) = not-free h (free-digits 46 t (omega arith) (x .each))
-value-agrees {t} (P.Value.whole n x p) (ItemText.fraction a b s n′ d u v p′ q) = not-free (a, b, s .whole) (free-digits 47 t (omega arith) (x .each))
-value-agrees (P.Value.whole n x p) (ItemText.whole f g n′ u p′) = (u32-agrees x u, refl)
+value-agrees (P.PitchText.ratio a b n d e x y p q) (ItemText.whole f g n′ u p′) = not-free (a, b, e) g
+value-agrees {t} (P.PitchText.whole n x p) (ItemText.cents h v c u) = not-free h (free-digits 46 t (omega arith) (x .each))
+value-agrees {t} (P.PitchText.whole n x p) (ItemText.fraction a b s n′ d u v p′ q) = not-free (a, b, s .whole) (free-digits 47 t (omega arith) (x .each))
+value-agrees (P.PitchText.whole n x p) (ItemText.whole f g n′ u p′) = (u32-agrees x u, refl)
 
 -- ---- LINES: those that are kept are those with content
 -- the line is no text, or has content
@@ -125,13 +125,13 @@ stands-token {l} {t} {v} w s y = elim (value-line l t (content (v .whole) (v .to
 ]
 
 -- a line that a value leads is firm
-leads-firm : {l t : List ℕ} → Word t → P.Leads l t → Firm l
+leads-firm : {l t : List ℕ} → Word t → P.LedBy l t → Firm l
 leads-firm {l} {t} w s x y = elim (led-line l t w (s .before) (s .rest) (s .blank) (s .whole) x y) [
   | inl e ↦ inl e
   | inr e ↦ inr (e .0, e .1, e .2)
 ]
 
-values-firm : (ls : List (List ℕ)) (ps : List P.Pitch) → P.Values ls ps → AllFirm ls
+values-firm : (ls : List (List ℕ)) (ps : List P.Pitch) → P.PitchLines ls ps → AllFirm ls
 values-firm [] [] v = tt
 values-firm [] (p ∷ ps) v = absurd v
 values-firm (l ∷ ls) [] v = absurd v
@@ -144,7 +144,7 @@ description-firm l b n x (reading.Line.is-blank r y e) = absurd (b y)
 description-firm l b n x (reading.Line.is-comment r m y c e) = absurd (n m y c)
 description-firm l b n x (reading.Line.says r m t y o k q e) = inr (m, t, e)
 
-values-agree : (ls : List (List ℕ)) (ps : List P.Pitch) (ws : List ContentLine) (is : List Item) → P.Values ls ps → AllSay ls ws → Entries scale ws is → AllSame ps is
+values-agree : (ls : List (List ℕ)) (ps : List P.Pitch) (ws : List ContentLine) (is : List Item) → P.PitchLines ls ps → AllSay ls ws → Entries scale ws is → AllSame ps is
 values-agree [] [] [] [] v a e = tt
 values-agree [] [] [] (i ∷ is) v a e = absurd e
 values-agree [] [] (w ∷ ws) is v a e = absurd a

@@ -98,13 +98,13 @@ cents-free {t} {minus} x = go (x .writes)
     go (inl e) = subst (Free 47) (sym (e .1)) body
     go (inr e) = subst (Free 47) (sym (e .1)) (λ f. omega (arith, f), body)
 
-value-end : {t : List ℕ} {p : P.Pitch} → P.Value t p → (x : List ℕ) → t ≡ x ++ 47 ∷ [] → ⊥
-value-end (P.Value.cents c) x e = each-right (λ b. b ≡ 47 → ⊥) x (47 ∷ []) (subst (Free 47) e (cents-free c)) .0 refl
-value-end (P.Value.ratio a b n d f u v h k) x e = digits-end a b x (u .each) (v .each) (v .some) (sym f ∙ e)
-value-end (P.Value.whole n u h) x e = none 47 (λ h. omega (arith, h .0)) x [] _ (u .each) (sym e)
+value-end : {t : List ℕ} {p : P.Pitch} → P.PitchText t p → (x : List ℕ) → t ≡ x ++ 47 ∷ [] → ⊥
+value-end (P.PitchText.cents c) x e = each-right (λ b. b ≡ 47 → ⊥) x (47 ∷ []) (subst (Free 47) e (cents-free c)) .0 refl
+value-end (P.PitchText.ratio a b n d f u v h k) x e = digits-end a b x (u .each) (v .each) (v .some) (sym f ∙ e)
+value-end (P.PitchText.whole n u h) x e = none 47 (λ h. omega (arith, h .0)) x [] _ (u .each) (sym e)
 
 -- THE LAW: a value and a byte after it that is none of its own are no item, whatever follows
-pub no-longer : {t : List ℕ} {p : P.Pitch} {i : Item} → P.Value t p →
+pub no-longer : {t : List ℕ} {p : P.Pitch} {i : Item} → P.PitchText t p →
     (c : ℕ) (w : List ℕ) → (Mark c → ⊥) → ItemText (t ++ c ∷ w) i → ⊥
 no-longer {t} v c w n item = go t (value-word v .some) refl item
   where
@@ -130,7 +130,7 @@ blanks-white : (bs : List ℕ) → Each Blank bs → Each WhiteSpace bs
 blanks-white [] x = tt
 blanks-white (b ∷ bs) x = (blank-white b (x .0), blanks-white bs (x .1))
 
-module _ (l t : List ℕ) (w : Word t) (s : P.Leads l t) where
+module _ (l t : List ℕ) (w : Word t) (s : P.LedBy l t) where
   -- a value with white space after it is what is left of its line
   trimmed : (cs : List ℕ) → Each WhiteSpace cs → s .rest ≡ inBytes encode cs → Trimmed WhiteSpace encode l t
   trimmed cs x e =
@@ -172,7 +172,7 @@ module _ (l t : List ℕ) (w : Word t) (s : P.Leads l t) where
       only (inr (cs, z, g)) (Follows.joined c v q e f i) k = white-token cs z g k
 
 -- an item read where a value leads is read at the value, and what follows is apart
-pub led-token : {l t m u : List ℕ} {p : P.Pitch} {i : Item} → P.Value t p → (s : P.Leads l t) → Line strict l (content m u) →
+pub led-token : {l t m u : List ℕ} {p : P.Pitch} {i : Item} → P.PitchText t p → (s : P.LedBy l t) → Line strict l (content m u) →
     ItemText u i → (u ≡ t) × Apart (s .rest)
 led-token {l} {t} {m} {u} {p} {i} v s y x = elim (led-line l t (value-word v) (s .before) (s .rest) (s .blank) (s .whole) (content m u) y) [
   | inl e ↦ let z : _≡_ {A = ℕ} 0 1 = cc in absurd (omega arith)

@@ -61,7 +61,7 @@ lines-utf8 (l ∷ ls) (content m t ∷ xs) [] e w = absurd w
 lines-utf8 (l ∷ ls) (content m t ∷ xs) (v ∷ ws) e w = (text-of l (content m t) (e .0), lines-utf8 ls xs ws (e .1) (w .1))
 
 -- ---- VALUES that are items are within their limits
-cents-within : {t : List ℕ} {minus : Bool} {n k : ℕ} (x : P.CentsText t minus n k) (i : Item) → Same (P.Pitch.cents minus n k) i → ItemText t i → ValueWithin (P.Value.cents x)
+cents-within : {t : List ℕ} {minus : Bool} {n k : ℕ} (x : P.CentsText t minus n k) (i : Item) → Same (P.Pitch.cents minus n k) i → ItemText t i → ValueWithin (P.PitchText.cents x)
 cents-within {k = k} x (Cents c) s y =
     let supported = cents-supported x c (decimal-of y) in (
       at-most (length (fromNonzero (x .whole ++ x .part))) 18 (λ h. supported (Unsupported.long h)),
@@ -74,12 +74,12 @@ ratio-within : (n d : ℕ) (i : Item) → Same (P.Pitch.ratio n d) i → Held i 
 ratio-within n d (Cents c) s h = absurd s
 ratio-within n d (Fraction p q) s h = (omega (arith, s .0, h .0), omega (arith, s .1, h .1))
 
-value-within : {t : List ℕ} {p : P.Pitch} (i : Item) (v : P.Value t p) → ItemText t i → ValueWithin v
-value-within i (P.Value.cents x) y = cents-within x i (value-agrees (P.Value.cents x) y) y
-value-within i (P.Value.ratio a b n d e x z p q) y = ratio-within n d i (value-agrees (P.Value.ratio a b n d e x z p q) y) (item-held y)
-value-within i (P.Value.whole n x p) y = ratio-within n 1 i (value-agrees (P.Value.whole n x p) y) (item-held y) .0
+value-within : {t : List ℕ} {p : P.Pitch} (i : Item) (v : P.PitchText t p) → ItemText t i → ValueWithin v
+value-within i (P.PitchText.cents x) y = cents-within x i (value-agrees (P.PitchText.cents x) y) y
+value-within i (P.PitchText.ratio a b n d e x z p q) y = ratio-within n d i (value-agrees (P.PitchText.ratio a b n d e x z p q) y) (item-held y)
+value-within i (P.PitchText.whole n x p) y = ratio-within n 1 i (value-agrees (P.PitchText.whole n x p) y) (item-held y) .0
 
-values-within : (ls : List (List ℕ)) (ps : List P.Pitch) (ws : List ContentLine) (is : List Item) (v : P.Values ls ps) → AllSay ls ws → Entries scale ws is → AllWithin ls ps v
+values-within : (ls : List (List ℕ)) (ps : List P.Pitch) (ws : List ContentLine) (is : List Item) (v : P.PitchLines ls ps) → AllSay ls ws → Entries scale ws is → AllWithin ls ps v
 values-within [] [] ws is v a e = tt
 values-within [] (p ∷ ps) ws is v a e = absurd v
 values-within (l ∷ ls) [] ws is v a e = absurd v
@@ -90,7 +90,7 @@ values-within (l ∷ ls) (p ∷ ps) (w ∷ ws) (i ∷ is) v a e =
     (value-within i (v .0 .2) (subst (λ (k : List ℕ). ItemText k i) t (e .0)), values-within ls ps ws is (v .1) (a .1) (e .1))
 
 -- and nothing joins them
-values-apart : (ls : List (List ℕ)) (ps : List P.Pitch) (ws : List ContentLine) (is : List Item) (v : P.Values ls ps) →
+values-apart : (ls : List (List ℕ)) (ps : List P.Pitch) (ws : List ContentLine) (is : List Item) (v : P.PitchLines ls ps) →
     AllSay ls ws → Entries scale ws is → AllApart ls ps v
 values-apart [] [] ws is v a e = tt
 values-apart [] (p ∷ ps) ws is v a e = absurd v

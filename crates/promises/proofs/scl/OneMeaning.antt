@@ -100,20 +100,20 @@ module _ {A : Type 0} {t : List ℕ} {minus : Bool} {n k : ℕ} (x : P.CentsText
   cents-no-whole : AllDigits t → A
   cents-no-whole u = let (c, f, w) = dotted x in absurd (none 46 dot c f _ u (sym w))
 
-pub one-value : {t : List ℕ} {p q : P.Pitch} → P.Value t p → P.Value t q → p ≡ q
-one-value (P.Value.cents x) (P.Value.cents y) = one-cents x y
-one-value (P.Value.cents x) (P.Value.ratio a b n d e u v h k) = cents-no-ratio x a b e (u .each) (v .each)
-one-value (P.Value.cents x) (P.Value.whole n u h) = cents-no-whole x (u .each)
-one-value (P.Value.ratio a b n d e u v h k) (P.Value.cents x) = cents-no-ratio x a b e (u .each) (v .each)
-one-value (P.Value.ratio a b n d e u v h k) (P.Value.ratio c f m g w x y i j) =
+pub one-value : {t : List ℕ} {p q : P.Pitch} → P.PitchText t p → P.PitchText t q → p ≡ q
+one-value (P.PitchText.cents x) (P.PitchText.cents y) = one-cents x y
+one-value (P.PitchText.cents x) (P.PitchText.ratio a b n d e u v h k) = cents-no-ratio x a b e (u .each) (v .each)
+one-value (P.PitchText.cents x) (P.PitchText.whole n u h) = cents-no-whole x (u .each)
+one-value (P.PitchText.ratio a b n d e u v h k) (P.PitchText.cents x) = cents-no-ratio x a b e (u .each) (v .each)
+one-value (P.PitchText.ratio a b n d e u v h k) (P.PitchText.ratio c f m g w x y i j) =
     let r = one-mark 47 slash a c b f (u .each) (x .each) (sym e ∙ w) in
     let s : n ≡ m = one-number (subst (λ (l : List ℕ). Digits l n) (r .0) u) x in
     let z : d ≡ g = one-number (subst (λ (l : List ℕ). Digits l d) (r .1) v) y in
     λ i. P.Pitch.ratio (s i) (z i)
-one-value (P.Value.ratio a b n d e u v h k) (P.Value.whole m x i) = absurd (none 47 slash a b _ (x .each) (sym e))
-one-value (P.Value.whole n u h) (P.Value.cents x) = cents-no-whole x (u .each)
-one-value (P.Value.whole m x i) (P.Value.ratio a b n d e u v h k) = absurd (none 47 slash a b _ (x .each) (sym e))
-one-value (P.Value.whole n u h) (P.Value.whole m v k) = let s : n ≡ m = one-number u v in λ i. P.Pitch.ratio (s i) 1
+one-value (P.PitchText.ratio a b n d e u v h k) (P.PitchText.whole m x i) = absurd (none 47 slash a b _ (x .each) (sym e))
+one-value (P.PitchText.whole n u h) (P.PitchText.cents x) = cents-no-whole x (u .each)
+one-value (P.PitchText.whole m x i) (P.PitchText.ratio a b n d e u v h k) = absurd (none 47 slash a b _ (x .each) (sym e))
+one-value (P.PitchText.whole n u h) (P.PitchText.whole m v k) = let s : n ≡ m = one-number u v in λ i. P.Pitch.ratio (s i) 1
 
 -- ---- LINES WITH VALUES: one leads a line
 -- period, slash and digits
@@ -133,8 +133,8 @@ data Run (t : List ℕ) : Type 0 where
   plain : Each Mark t → Run t
   minus : (u : List ℕ) → t ≡ 45 ∷ u → Each Mark u → Run t
 
-value-run : {t : List ℕ} {p : P.Pitch} → P.Value t p → Run t
-value-run {t} (P.Value.cents {minus} x) = go (x .writes)
+value-run : {t : List ℕ} {p : P.Pitch} → P.PitchText t p → Run t
+value-run {t} (P.PitchText.cents {minus} x) = go (x .writes)
   where
     body : Each Mark (x .whole ++ 46 ∷ x .part)
     body = parted-marks (x .whole) (x .part) 46 (x .first) (x .second) (omega arith, omega arith)
@@ -142,9 +142,9 @@ value-run {t} (P.Value.cents {minus} x) = go (x .writes)
     go : Writes t minus (x .whole) (x .part) → Run t
     go (inl e) = Run.plain (subst (Each Mark) (sym (e .1)) body)
     go (inr e) = Run.minus (x .whole ++ 46 ∷ x .part) (e .1) body
-value-run (P.Value.ratio a b n d e u v h k) =
+value-run (P.PitchText.ratio a b n d e u v h k) =
     Run.plain (subst (Each Mark) (sym e) (parted-marks a b 47 (u .each) (v .each) (omega arith, omega arith)))
-value-run {t} (P.Value.whole n u h) = Run.plain (marks t (u .each))
+value-run {t} (P.PitchText.whole n u h) = Run.plain (marks t (u .each))
 
 -- marks up to what is none
 one-marks : (t u r q : List ℕ) → Each Mark t → Each Mark u → P.Ignored r → P.Ignored q → t ++ r ≡ u ++ q → t ≡ u
@@ -173,13 +173,13 @@ one-run t u r q x y (Run.minus v f a) (Run.minus w g b) m n e =
     let z = one-marks v w r q a b m n k in
     cc
 
-one-leads : {l t u : List ℕ} {p q : P.Pitch} → P.Value t p → P.Value u q → P.Leads l t → P.Leads l u → t ≡ u
+one-leads : {l t u : List ℕ} {p q : P.Pitch} → P.PitchText t p → P.PitchText u q → P.LedBy l t → P.LedBy l u → t ≡ u
 one-leads {l} {t} {u} a b x y =
     let same = one-run t u (x .rest) (y .rest) (value-word a) (value-word b) (value-run a) (value-run b) (x .ignored) (y .ignored) in
     let whole = sym (x .whole) ∙ y .whole in
     one-word (x .before) (y .before) t u (x .rest) (y .rest) (x .blank) (y .blank) (value-word a) (value-word b) same whole
 
-same-values : (ls : List (List ℕ)) (ps qs : List P.Pitch) → P.Values ls ps → P.Values ls qs → ps ≡ qs
+same-values : (ls : List (List ℕ)) (ps qs : List P.Pitch) → P.PitchLines ls ps → P.PitchLines ls qs → ps ≡ qs
 same-values [] [] [] a b = refl
 same-values [] [] (q ∷ qs) a b = absurd b
 same-values [] (p ∷ ps) qs a b = absurd a
@@ -189,7 +189,7 @@ same-values (l ∷ ls) (p ∷ ps) (q ∷ qs) a b =
     let x = a .0 in
     let y = b .0 in
     let t = one-leads (x .2) (y .2) (x .1) (y .1) in
-    let v : p ≡ q = one-value (subst (λ (h : List ℕ). P.Value h p) t (x .2)) (y .2) in
+    let v : p ≡ q = one-value (subst (λ (h : List ℕ). P.PitchText h p) t (x .2)) (y .2) in
     let r = same-values ls ps qs (a .1) (b .1) in
     λ i. v i ∷ r i
 
@@ -200,6 +200,6 @@ one-meaning s m n p q =
     let kept = one-kept (p .keeps) (subst (λ (l : List (List ℕ)). Kept l (n .description ∷ q .count ∷ q .rest)) (sym parts) (q .keeps)) in
     let described : m .description ≡ n .description = cc in
     let rest : p .rest ≡ q .rest = cc in
-    let values = subst (λ (l : List (List ℕ)). P.Values l (n .pitches)) (sym rest) (q .values) in
+    let values = subst (λ (l : List (List ℕ)). P.PitchLines l (n .pitches)) (sym rest) (q .values) in
     let pitches = same-values (p .rest) (m .pitches) (n .pitches) (p .values) values in
     λ i. record { description = described i; pitches = pitches i }

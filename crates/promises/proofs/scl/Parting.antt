@@ -47,8 +47,8 @@ as-published =
       keeps = Kept.kept {l = []} (λ c. c) (Kept.kept {l = 50 ∷ []} (λ c. omega (arith, c)) (Kept.kept {l = 49 ∷ []} (λ c. omega (arith, c)) (Kept.kept {l = 51 ∷ 47 ∷ 50 ∷ []} (λ c. omega (arith, c)) Kept.none)));
       notes = number (pos 2) (lit< tt);
       values = (
-        (49 ∷ [], leads-alone (49 ∷ []), P.Value.whole 1 (number-digits 1 (lit< tt)) (lit< tt)),
-        ((51 ∷ 47 ∷ 50 ∷ [], leads-alone (51 ∷ 47 ∷ 50 ∷ []), P.Value.ratio (51 ∷ []) (50 ∷ []) 3 2 refl (number-digits 3 (lit< tt)) (number-digits 2 (lit< tt)) (lit< tt) (lit< tt)), tt),
+        (49 ∷ [], leads-alone (49 ∷ []), P.PitchText.whole 1 (number-digits 1 (lit< tt)) (lit< tt)),
+        ((51 ∷ 47 ∷ 50 ∷ [], leads-alone (51 ∷ 47 ∷ 50 ∷ []), P.PitchText.ratio (51 ∷ []) (50 ∷ []) 3 2 refl (number-digits 3 (lit< tt)) (number-digits 2 (lit< tt)) (lit< tt) (lit< tt)), tt),
       );
     }
 
@@ -110,7 +110,7 @@ following =
               (
                 53 ∷ 47 ∷ 52 ∷ [],
                 record { before = []; rest = 69 ∷ []; whole = refl; blank = tt; ignored = λ h. omega (arith, h .1) },
-                P.Value.ratio (53 ∷ []) (52 ∷ []) 5 4 refl (number-digits 5 (lit< tt)) (number-digits 4 (lit< tt)) (lit< tt) (lit< tt),
+                P.PitchText.ratio (53 ∷ []) (52 ∷ []) 5 4 refl (number-digits 5 (lit< tt)) (number-digits 4 (lit< tt)) (lit< tt) (lit< tt),
               ),
               tt,
             );

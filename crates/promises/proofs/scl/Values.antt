@@ -33,8 +33,8 @@ parted-word a b c x y p = record {
 more-word : (c : ℕ) (t : List ℕ) → Plain c → Word t → Word (c ∷ t)
 more-word c t p w = record { some = omega arith; each = (p, w .each) }
 
-pub value-word : {t : List ℕ} {p : P.Pitch} → P.Value t p → Word t
-value-word {t} (P.Value.cents {minus} x) = go (x .writes)
+pub value-word : {t : List ℕ} {p : P.Pitch} → P.PitchText t p → Word t
+value-word {t} (P.PitchText.cents {minus} x) = go (x .writes)
   where
     w : Word (x .whole ++ 46 ∷ x .part)
     w = parted-word (x .whole) (x .part) 46 (x .first) (x .second) (omega arith, omega arith)
@@ -42,8 +42,8 @@ value-word {t} (P.Value.cents {minus} x) = go (x .writes)
     go : ((minus ≡ false) × (t ≡ x .whole ++ 46 ∷ x .part)) ⊎ ((minus ≡ true) × (t ≡ 45 ∷ x .whole ++ 46 ∷ x .part)) → Word t
     go (inl e) = subst Word (sym (e .1)) w
     go (inr e) = subst Word (sym (e .1)) (more-word 45 (x .whole ++ 46 ∷ x .part) (omega arith, omega arith) w)
-value-word (P.Value.ratio a b n d e x y p q) = subst Word (sym e) (parted-word a b 47 (x .each) (y .each) (omega arith, omega arith))
-value-word {t} (P.Value.whole n x p) = record { some = x .some; each = digits-plain t (x .each) }
+value-word (P.PitchText.ratio a b n d e x y p q) = subst Word (sym e) (parted-word a b 47 (x .each) (y .each) (omega arith, omega arith))
+value-word {t} (P.PitchText.whole n x p) = record { some = x .some; each = digits-plain t (x .each) }
 
 -- ---- AND ITEMS within the limits
 module _ {t : List ℕ} {minus : Bool} {n k : ℕ} (x : P.CentsText t minus n k) where
@@ -80,11 +80,11 @@ split-at t a b e x y = record {
   first = free-digits 47 a (omega arith) (x .each);
 }
 
-pub value-item : {t : List ℕ} {p : P.Pitch} (v : P.Value t p) → ValueWithin v → (i : Item) × ItemText t i × Same p i
-value-item (P.Value.cents {minus} {n} {k} x) w =
+pub value-item : {t : List ℕ} {p : P.Pitch} (v : P.PitchText t p) → ValueWithin v → (i : Item) × ItemText t i × Same p i
+value-item (P.PitchText.cents {minus} {n} {k} x) w =
     let c = round binary64 minus n (10 ^ k) in
     (Cents c, ItemText.cents (cents-dot x) c (cents-decimal x (w .0) (omega (arith, w .1))) (w .2), refl)
-value-item {t} (P.Value.ratio a b n d e x y p q) w =
+value-item {t} (P.PitchText.ratio a b n d e x y p q) w =
     (Fraction n (Given d), ItemText.fraction a b (split-at t a b e x y) n d (IntText.plain n x (w .0) refl) (IntText.plain d y (w .1) refl) p q, (refl, refl))
-value-item {t} (P.Value.whole n x p) w =
+value-item {t} (P.PitchText.whole n x p) w =
     (Fraction n Lacking, ItemText.whole (free-digits 46 t (omega arith) (x .each)) (free-digits 47 t (omega arith) (x .each)) n (IntText.plain n x w refl) p, (refl, refl))

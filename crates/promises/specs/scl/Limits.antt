@@ -24,12 +24,12 @@ use Rattle.promises.specs.kbm.Limits.{AllUtf8}
 
 -- of a pitch value. Cents: "9 is given exactly for .. over 18 digits from the first nonzero digit on, or over 18 digits after the dot";
 -- "Usable: .. cents from -38,400 to 38,400", else 10. "All three integers are u32": 5, 6, 3
-abbrev pub ValueWithin : {t : List ℕ} {p : P.Pitch} → P.Value t p → Type 0
-ValueWithin (P.Value.cents {minus} {n} {k} x) = (length (fromNonzero (x .whole ++ x .part)) ≤ 18) × (k ≤ 18) × (isUsableCents (round binary64 minus n (10 ^ k)) ≡ true)
-ValueWithin (P.Value.ratio a b n d e x y p q) = (n < 2 ^ 32) × (d < 2 ^ 32)
-ValueWithin (P.Value.whole n x p) = n < 2 ^ 32
+abbrev pub ValueWithin : {t : List ℕ} {p : P.Pitch} → P.PitchText t p → Type 0
+ValueWithin (P.PitchText.cents {minus} {n} {k} x) = (length (fromNonzero (x .whole ++ x .part)) ≤ 18) × (k ≤ 18) × (isUsableCents (round binary64 minus n (10 ^ k)) ≡ true)
+ValueWithin (P.PitchText.ratio a b n d e x y p q) = (n < 2 ^ 32) × (d < 2 ^ 32)
+ValueWithin (P.PitchText.whole n x p) = n < 2 ^ 32
 
-abbrev pub AllWithin : (ls : List (List ℕ)) (ps : List P.Pitch) → P.Values ls ps → Type 0
+abbrev pub AllWithin : (ls : List (List ℕ)) (ps : List P.Pitch) → P.PitchLines ls ps → Type 0
 AllWithin [] [] v = Unit {0}
 AllWithin [] (p ∷ ps) v = ⊥
 AllWithin (l ∷ ls) [] v = ⊥
@@ -40,7 +40,7 @@ AllWithin (l ∷ ls) (p ∷ ps) v = ValueWithin (v .0 .2) × AllWithin ls ps (v 
 abbrev pub Apart : List ℕ → Type 0
 Apart rest = Stops rest ⊎ ((cs : List ℕ) × Each WhiteSpace cs × (rest ≡ inBytes encode cs))
 
-abbrev pub AllApart : (ls : List (List ℕ)) (ps : List P.Pitch) → P.Values ls ps → Type 0
+abbrev pub AllApart : (ls : List (List ℕ)) (ps : List P.Pitch) → P.PitchLines ls ps → Type 0
 AllApart [] [] v = Unit {0}
 AllApart [] (p ∷ ps) v = ⊥
 AllApart (l ∷ ls) [] v = ⊥
