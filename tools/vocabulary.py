@@ -75,13 +75,12 @@ COMMENT = {".rt": r"//[^\n]*|/\*.*?\*/", ".antt": r"\{-.*?-\}|(?<![^\s(){}.;,])-
 
 
 def code(path):
-    """A file without its comments; what is quoted begins none."""
+    """A file without its comments and without what is quoted, which begins none; but for the "C" of a call for C."""
     with open(path) as file:
         text = file.read()
     kind = os.path.splitext(path)[1]
     quoted = QUOTED if kind == ".rt" else r"\"(?:\\.|[^\"\\])*\""
-    keep = r"[\w ]"
-    return re.sub(rf"({quoted})|{COMMENT[kind]}", lambda found: "".join(re.findall(rf"{keep}|^.|.$", found[1] or "")), text, flags=re.S)
+    return re.sub(rf"({quoted})|{COMMENT[kind]}", lambda found: found[1] if found[1] == '"C"' else "", text, flags=re.S)
 
 
 def is_sign(name):
