@@ -70,13 +70,17 @@ HEAD = re.compile(r"^( *)(?:pub )?(?:extern \"C\" )?fn (\w+)(.*?)(?:^\1\{$| \{$)
 MARKS = {"_", "abbrev", "pub", "unfoldable", "opaque", "axiom", "let", "in", "use", "mod", "ghost"}
 
 
+QUOTED = r"b?'(?:\\.|[^'\\])'|\"(?:\\.|[^\"\\])*\""
+COMMENT = {".rt": r"//[^\n]*|/\*.*?\*/", ".antt": r"\{-.*?-\}|(?<![^\s(){}.;,])--(?=[ \n-])[^\n]*"}
+
+
 def code(path):
-    """A file without its comments."""
+    """A file without its comments and without what is quoted, which begins none; but for the "C" of a call for C."""
     with open(path) as file:
         text = file.read()
-    if path.endswith(".rt"):
-        return re.sub(r"//[^\n]*|/\*.*?\*/", "", text, flags=re.S)
-    return re.sub(r"\{-.*?-\}|(?<![^\s(){}.;,])--[^\n]*", "", text, flags=re.S)
+    kind = os.path.splitext(path)[1]
+    quoted = QUOTED if kind == ".rt" else r"\"(?:\\.|[^\"\\])*\""
+    return re.sub(rf"({quoted})|{COMMENT[kind]}", lambda found: found[1] if found[1] == '"C"' else "", text, flags=re.S)
 
 
 def is_sign(name):
@@ -190,8 +194,22 @@ def audit_words(file, watched):
             file.fault(f"binds {name}, which is {watched[name]}'s")
     for name in re.findall(r"(?<![^\s(){}.;,@])(_[^\s(){}.;,@\"«»]+_)(?! \{)(?=[\s(){}.;,])", file.rest) if file.kind != "proofs" else []:
         file.fault(f"names {name} outside a `use` line")
-    for name in re.findall(r"^ *(infix[lr]?|syntax|notation|open|axiom)\b", file.rest, re.M):
-        file.fault(f"has a line `{name}`")
+    if file.path.endswith(".antt"):
+        audit_form(file)
+
+
+def audit_form(file):
+    """What could be written in a way that is not read here."""
+    for name in re.findall(r"^ *(infix[lr]?|syntax|notation|axiom)\b|(?<![\w·-])(open)(?![\w·-])", file.rest, re.M):
+        file.fault(f"has a line `{''.join(name)}`")
+    for name in re.findall(r"^ *(?:(?:abbrev|unfoldable|pub) )*(_[^\s(){}]+|[^\s(){}]+_)(?! \{)(?=\s)", file.rest, re.M):
+        file.fault(f"declares {name}: a sign means what the logic means by it")
+    if re.search(r"^[^\n]*\bwhere +\S", file.rest, re.M):
+        file.fault("has more behind `where` on its line")
+    with open(file.path) as opened:
+        text = opened.read()
+    if re.search(r"\{-|(?<![^\s(){}.;,])--[^ \n-]", text):
+        file.fault("has a comment that is not a line from -- on")
 
 
 def audit_imports(file, watched):
@@ -231,6 +249,8 @@ CLAUSE = re.compile(rf"\s*(?:requires(?: \w+)? \{{\s*{SAID}\s*\}}|ensures(?: \w+
 def audit_contracts(file):
     with open(file.path) as opened:
         text = opened.read()
+    if len(HEAD.findall(file.code)) != len(re.findall(r"\bfn\b", file.code)):
+        file.fault("has a function that is not read here")
     for _, name, head in HEAD.findall(text):
         if re.search(r"//|/\*|(?<!\S)--|\{-", head):
             file.fault(f"{name} has a comment in its contract")

@@ -2,6 +2,7 @@
 
 use crate::mappings::{GAPS, LINEAR};
 use crate::scales::{MIXED, NONE, ONE};
+use crate::tally::counted;
 use telbijan::{read_mapping, Columns, Mapping, MappingBuilder, Refusal, Root, Scale, ScaleRef};
 
 /// What a scale holds, column by column.
@@ -37,16 +38,21 @@ fn scales_read() {
 
 #[test]
 fn scales_computed() {
+    let [mut harmonics, mut rank2] = [[0, 0]; 2];
     for (otonal, start, size, divisions) in [(true, 8, 5, None), (false, 9, 4, None), (false, 3, 7, Some(4)), (true, 9, 4, Some(0)), (true, 0, 5, None)] {
         let room = usize::from(divisions.unwrap_or(size)) + 1;
+        harmonics[usize::from(Scale::harmonics(otonal, start, size, divisions).is_err())] += 1;
         assert_eq!(owned(Scale::harmonics(otonal, start, size, divisions)), lent(room, |columns| columns.create_harmonics(otonal, start, size, divisions)));
     }
     assert_eq!(Scale::harmonics(true, 8, 5, None).unwrap().view().count(), 5);
     for (generator, positive, negative, period) in [(1.5, 5, 1, 2.0), (1.25, 2, 3, 3.0), (1.5, 2, 1, 1.0), (1.5, 65_535, 1, 2.0)] {
         let room = usize::from(positive) + usize::from(negative) + 2;
+        rank2[usize::from(Scale::rank2(generator, positive, negative, period).is_err())] += 1;
         assert_eq!(owned(Scale::rank2(generator, positive, negative, period)), lent(room, |columns| columns.create_rank2(generator, positive, negative, period)));
     }
     assert_eq!(Scale::rank2(1.25, 2, 3, 3.0).unwrap().view().count(), 6);
+    counted("harmonics", harmonics);
+    counted("rank2", rank2);
 }
 
 #[test]
