@@ -34,13 +34,17 @@ DetailOf lines required n d = (d ≤ lines) ⊎ ((n ≡ line-missing) × (1 ≤ 
 
 pub fault-line : {F : Format} {End : Values F (F .required) → List (F .Entry) → ℕ → Type 0} {room : ℕ} {ms : List Meaning} {n d : ℕ} →
     Fault F End room ms n d → DetailOf (length ms) (length (F .required)) n d
-fault-line (Fault.at-required before line after e p done f more rq vs b w) = inl (omega (arith, ap length e, p, length-append before (line ∷ after)))
-fault-line (Fault.at-entry before line after e p vs es b f w) = inl (omega (arith, ap length e, p, length-append before (line ∷ after)))
-fault-line (Fault.missing e done f more rq p vs b) = inr (e, omega (arith, p), omega (arith, p, ap length rq, length-append done (f ∷ more)))
+fault-line (Fault.at-required before line after e p done f more rq vs b w) =
+    inl (omega (arith, ap length e, p, length-append before (line ∷ after)))
+fault-line (Fault.at-entry before line after e p vs es b f w) =
+    inl (omega (arith, ap length e, p, length-append before (line ∷ after)))
+fault-line (Fault.missing e done f more rq p vs b) =
+    inr (e, omega (arith, p), omega (arith, p, ap length rq, length-append done (f ∷ more)))
 fault-line (Fault.at-end e vs es b f w) = inl (omega (arith, e))
 
 -- and so it is no more than the lines and the required ones together
-pub fault-detail : {F : Format} {End : Values F (F .required) → List (F .Entry) → ℕ → Type 0} {room : ℕ} {ms : List Meaning} {n d : ℕ} → Fault F End room ms n d → d ≤ length ms + (length (F .required) + 1)
+pub fault-detail : {F : Format} {End : Values F (F .required) → List (F .Entry) → ℕ → Type 0} {room : ℕ} {ms : List Meaning} {n d : ℕ} →
+    Fault F End room ms n d → d ≤ length ms + (length (F .required) + 1)
 fault-detail f = elim (fault-line f) [
   | inl h ↦ omega (arith, h)
   | inr h ↦ omega (arith, h .2)

@@ -113,7 +113,8 @@ module _ (text : List ℕ) (t : ItemTable) (l : ListTable) {d : List ℕ} {items
   -- and of the sorted list
   pub list-behind : behindList (length items + 1) (afterSorted text t l) ≡ behindList (length items + 1) l
   list-behind =
-      let leaves = list-leaves (implicit ∷ items) (omega arith) (lines-held (s .lines)) (lines-usable (s .lines)) list (text-reading s .sorted) in
+      let so = text-reading s .sorted in
+      let leaves = list-leaves (implicit ∷ items) (omega arith) (lines-held (s .lines)) (lines-usable (s .lines)) list so in
       let n : length list ≡ length items + 1 = leaves .size ∙ omega arith in
       rw (leaves-list text t l s fits .1) (rw (
         drop-over (placesOf list) (l .places) (length items + 1) (length-map list (λ (e : Entry). e .place) ∙ n),

@@ -67,7 +67,8 @@ refused-back {A} {s} {r} {n} {d} w told e h =
     let q : r ≡ code n d = told ∙ ap result e in
     let b = bounds s w e in
     let back = number-back n d (omega (arith, b .1)) in
-    (λ z. omega (arith, b .0, back, ap numberIn (sym q ∙ z)), ap numberIn q ∙ back, ap detailIn q ∙ detail-back n d (omega (arith, b .1)) h)
+    let zero : r ≡ 0 → ⊥ = λ z. omega (arith, b .0, back, ap numberIn (sym q ∙ z)) in
+    (zero, ap numberIn q ∙ back, ap detailIn q ∙ detail-back n d (omega (arith, b .1)) h)
   where
     bounds : (s : Said A) → Numbered s → s ≡ refuses n d → (1 ≤ n) × (n ≤ 18)
     bounds s (Numbered.value a) e = no-value (sym e)
@@ -77,7 +78,8 @@ refused-back {A} {s} {r} {n} {d} w told e h =
 pub written-text : (s : Said (List ℕ)) (old : List ℕ) (size r : ℕ) (new : List ℕ) (written : ℕ) → Numbered (textLength s) →
     Written s old size r new written → r ≡ 0 → (t : List ℕ) × (s ≡ gives t) × (take written new ≡ t)
 written-text (gives t) old size r new written n w zero =
-    let l : take (length t) (t ++ drop (length t) old) ≡ t = take-append-le (length t) t (drop (length t) old) (omega arith) ∙ take-length t in
+    let l : take (length t) (t ++ drop (length t) old) ≡ t =
+    take-append-le (length t) t (drop (length t) old) (omega arith) ∙ take-length t in
     (t, refl, (λ i. take (w .2 i) (w .1 i)) ∙ l)
 written-text (refuses number detail) old size r new written n w zero =
     no-value (zero-accepted (textLength (refuses number detail)) n .0 (sym (w .0) ∙ zero) .1)

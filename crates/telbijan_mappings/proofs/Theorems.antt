@@ -46,6 +46,7 @@ pub build-kbm-one : (map : List ℤ) (room : ℕ) (count : ℕ) (start : ℤ) (e
 build-kbm-one map room count start end reference hz offset given octave entries formal = (one-result (result (built (builderWith room count start end reference hz offset (octaveWith given octave)) map)), (one-result (kept (fieldOf (λ k. k .count) (built (builderWith room count start end reference hz offset (octaveWith given octave)) map)) entries), one-result (kept (fieldOf (λ k. k .octave) (built (builderWith room count start end reference hz offset (octaveWith given octave)) map)) formal)))
 
 pub read-kbm-one : (text : List ℕ) (map : List ℤ) (old : Kbm) →
-    One (λ r. r) (result (readOf (length map) text)) × One (λ r. r) (afterRead text map) × One (λ r. r) (kept (readOf (length map) text) old)
+    One (λ r. r) (result (readOf (length map) text)) × One (λ r. r) (afterRead text map)
+    × One (λ r. r) (kept (readOf (length map) text) old)
 read-kbm-one text map old =
     (one-result (result (readOf (length map) text)), one-result (afterRead text map), one-result (kept (readOf (length map) text) old))

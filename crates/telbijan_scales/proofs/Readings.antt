@@ -1,5 +1,6 @@
--- THE CALL telbijan_read_scl OVER THE LANGUAGE: accepted exactly for the texts of it that have room, with the one reading in what is stored
--- and lent; refused exactly for the earliest fault, whose number and detail are in the result, with everything as it was. Assumes nothing.
+-- THE CALL telbijan_read_scl OVER THE LANGUAGE: accepted exactly for the texts of it that have room, with the one reading in what is
+-- stored and lent; refused exactly for the earliest fault, whose number and detail are in the result, with everything as it was.
+-- Assumes nothing.
 use mathlib.Core.Path.{_≡_, sym, _∙_, ap}
 use mathlib.Core.Bool.{true}
 use mathlib.Core.List.{List, _∷_}

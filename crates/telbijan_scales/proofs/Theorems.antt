@@ -33,8 +33,8 @@ pub item-as-ratio-one : (kind : ℕ) (cents : Float) (numer denom : ℕ) (ratio 
 item-as-ratio-one kind cents numer denom ratio = (one-result (result (givenRatio (itemOf kind cents numer denom))), one-result (kept (givenRatio (itemOf kind cents numer denom)) ratio))
 
 pub read-scl-one : (text : List ℕ) (items : ItemTable) (list : ListTable) (old : SclRead) →
-    One (λ r. r) (result (readOf (roomOf items list) text)) × One (λ r. r) (afterItems text items list) × One (λ r. r) (afterSorted text items list)
-    × One (λ r. r) (kept (readOf (roomOf items list) text) old)
+    One (λ r. r) (result (readOf (roomOf items list) text)) × One (λ r. r) (afterItems text items list)
+    × One (λ r. r) (afterSorted text items list) × One (λ r. r) (kept (readOf (roomOf items list) text) old)
 read-scl-one text items list old = (
   one-result (result (readOf (roomOf items list) text)),
   one-result (afterItems text items list),

@@ -36,7 +36,8 @@ module _ (map : List ℤ) (kbm : Kbm) (types : OfTypes kbm) (out : List ℕ) (si
 
   exported : Exported
   exported =
-      let (t, e, is) = written-text (exportOf kbm map (length out)) out size r bytes written (export-kbm-numbered kbm map (length out)) wrote zero in
+      let numbered = export-kbm-numbered kbm map (length out) in
+      let (t, e, is) = written-text (exportOf kbm map (length out)) out size r bytes written numbered wrote zero in
       let a = export-accepted kbm map (length out) e in
       (typed kbm map (a .0) (types .start) (types .end) (types .reference) (types .octave) (types .count), is ∙ a .1)
 
@@ -51,7 +52,9 @@ module _ (map : List ℤ) (kbm : Kbm) (types : OfTypes kbm) (out : List ℕ) (si
 
         forth : (q ≡ 0) × (new ≡ kbm) → ComesBack kbm
         forth p =
-            let (k, e) = zero-accepted (readOf (length table) (take written bytes)) (read-kbm-numbered (length table) (take written bytes)) .0 (sym (read .0) ∙ p .0) in
+            let s = take written bytes in
+            let numbered = read-kbm-numbered (length table) s in
+            let (k, e) = zero-accepted (readOf (length table) s) numbered .0 (sym (read .0) ∙ p .0) in
             let same : k ≡ kbm = sym (read .2 ∙ ap (λ (s : Said Kbm). kept s old) e) ∙ p .1 in
             trip .0 (ap (readOf (length table)) (sym (exported .1)) ∙ e ∙ ap gives same)
 

@@ -30,10 +30,10 @@ module _ (text : List ℕ) (table : List ℤ) (old : Kbm) (r : ℕ) (left : List
       let answer : scaleDegreeOf new left (key number) ≡ said = (λ i. scaleDegreeOf (same i) (read .1 i) (key number)) ∙ one in
       (asked .0 ∙ ap result answer, asked .1 ∙ ap (λ (s : Said ℤ). kept s before) answer)
 
-  -- THE THEOREM: where the first call answers 0, the text is a mapping file of the numbers that it stored, and the second call's result and
-  -- stored degree are what the text's lines say of the key
-  pub read-degree : r ≡ 0 → (es : List Entry) × (t : MappingText text new es) × (said : Said ℤ) × SaidOf (t .values) (entryTokens t) number said ×
-      Stored said before q degree
+  -- THE THEOREM: where the first call answers 0, the text is a mapping file of the numbers that it stored, and the second call's result
+  -- and stored degree are what the text's lines say of the key
+  pub read-degree : r ≡ 0 → (es : List Entry) × (t : MappingText text new es) × (said : Said ℤ) ×
+      SaidOf (t .values) (entryTokens t) number said × Stored said before q degree
   read-degree zero =
       let a = accepted-call text table old r left new read zero in
       let said = scaleDegreeOf new (afterRead text table) (key number) in

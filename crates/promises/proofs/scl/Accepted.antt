@@ -153,12 +153,18 @@ within-reach {is = is} b n = go (isBeyond (countOf (implicit ∷ is)) (lastOf (i
 
 -- ---- ACCEPTED
 module _ {s : List ℕ} {m : P.Scale} (p : P.PublishedText s m) (w : WithinLimits p) where
+  -- its description is a line with content
+  description : (d t : List ℕ) × Trimmed WhiteSpace encode (m .description) d × reading.Line strict (m .description) (content d t)
+  description =
+      let line = m .description in
+      description-says line (meaningBy strictly line) (kept-utf8 (p .keeps) (w .utf8) .0) (w .not-blank) (w .no-mark) (strict-line line)
+
   -- A PUBLISHED TEXT WITHIN THE LIMITS is a scale file of document 01, with the description and the pitch values that it has as published
   pub published-accepted : (d : List ℕ) × (is : List Item) × (list : List Entry) × ScaleText s d is list × Agree m d is
   published-accepted =
       let u = kept-utf8 (p .keeps) (w .utf8) in
       let n = notes (p .rest) (m .pitches) (u .1 .1) (p .values) (w .values-apart) (w .values-within) in
-      let (d, t, trim, said) = description-says (m .description) (meaningBy strictly (m .description)) (u .0) (w .not-blank) (w .no-mark) (strict-line (m .description)) in
+      let (d, t, trim, said) = description in
       let (c, counted) = stands-say (p .count) (p .notes .token) (u .1 .0) (whole-word (p .notes .token) (p .notes .value)) (p .notes .stands) in
       let a : ContentLine = record { whole = d; token = t } in
       let b : ContentLine = record { whole = c; token = p .notes .token } in

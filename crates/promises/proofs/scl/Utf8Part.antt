@@ -31,7 +31,14 @@ record Bytes (c : ℕ) : Type 0 where
 
 bytes : (c : ℕ) → Bytes c
 bytes c = elim (split c 0x80) [
-  | inl a ↦ record { head = c; tail = []; is = enc1 c a; first = λ m. omega (arith, a, m .0); more = tt; many = rw (lt-ltb c 192 (omega (arith, a))) }
+  | inl a ↦ record {
+    head = c;
+    tail = [];
+    is = enc1 c a;
+    first = λ m. omega (arith, a, m .0);
+    more = tt;
+    many = rw (lt-ltb c 192 (omega (arith, a)));
+  }
   | inr b ↦ elim (split c 0x800) [
     | inl a ↦ record {
       head = 0xC0 + c / 64;
@@ -48,7 +55,11 @@ bytes c = elim (split c 0x80) [
         is = enc3 c d a;
         first = λ m. omega (arith, m .1);
         more = ((omega arith, omega arith), ((omega arith, omega arith), tt));
-        many = rw (le-ltb (0xE0 + c / 4096) 192 (omega arith), le-ltb (0xE0 + c / 4096) 224 (omega arith), lt-ltb (0xE0 + c / 4096) 240 (omega (arith, a)));
+        many = rw (
+          le-ltb (0xE0 + c / 4096) 192 (omega arith),
+          le-ltb (0xE0 + c / 4096) 224 (omega arith),
+          lt-ltb (0xE0 + c / 4096) 240 (omega (arith, a)),
+        );
       }
       | inr e ↦ record {
         head = 0xF0 + c / 262144;
@@ -56,7 +67,11 @@ bytes c = elim (split c 0x80) [
         is = enc4 c e;
         first = λ m. omega (arith, m .1);
         more = ((omega arith, omega arith), ((omega arith, omega arith), ((omega arith, omega arith), tt)));
-        many = rw (le-ltb (0xF0 + c / 262144) 192 (omega arith), le-ltb (0xF0 + c / 262144) 224 (omega arith), le-ltb (0xF0 + c / 262144) 240 (omega arith));
+        many = rw (
+          le-ltb (0xF0 + c / 262144) 192 (omega arith),
+          le-ltb (0xF0 + c / 262144) 224 (omega arith),
+          le-ltb (0xF0 + c / 262144) 240 (omega arith),
+        );
       }
     ]
   ]
@@ -73,7 +88,8 @@ after-first : (c d : ℕ) (x y : List ℕ) → encode c ++ x ≡ encode d ++ y �
 after-first c d x y e =
     let b = bytes c in
     let o = bytes d in
-    let whole : b .head ∷ (b .tail ++ x) ≡ o .head ∷ (o .tail ++ y) = ap (λ (l : List ℕ). l ++ x) (sym (b .is)) ∙ e ∙ ap (λ (l : List ℕ). l ++ y) (o .is) in
+    let whole : b .head ∷ (b .tail ++ x) ≡ o .head ∷ (o .tail ++ y) =
+    ap (λ (l : List ℕ). l ++ x) (sym (b .is)) ∙ e ∙ ap (λ (l : List ℕ). l ++ y) (o .is) in
     let h : b .head ≡ o .head = cc in
     let f : b .tail ++ x ≡ o .tail ++ y = cc in
     same-rest (b .tail) (o .tail) x y (b .many ∙ ap moreAfter h ∙ sym (o .many)) f
@@ -89,7 +105,9 @@ cut-front : (ws codes : List ℕ) (x : List ℕ) → Each Scalar codes → inByt
 unfolding inBytes
 cut-front [] codes x s e = record { codes = codes; each = s; text = sym e }
 cut-front (w ∷ ws) [] x s e = no-bytes w (inBytes encode ws ++ x) (e ∙ append-assoc (encode w) (inBytes encode ws) x)
-cut-front (w ∷ ws) (c ∷ cs) x s e = cut-front ws cs x (s .1) (after-first c w (inBytes encode cs) (inBytes encode ws ++ x) (e ∙ append-assoc (encode w) (inBytes encode ws) x))
+cut-front (w ∷ ws) (c ∷ cs) x s e =
+    let f = e ∙ append-assoc (encode w) (inBytes encode ws) x in
+    cut-front ws cs x (s .1) (after-first c w (inBytes encode cs) (inBytes encode ws ++ x) f)
 
 -- ---- behind: no byte that starts a character goes on with one
 abbrev Starts : List ℕ → Type 0

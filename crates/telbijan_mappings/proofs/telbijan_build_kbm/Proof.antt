@@ -38,7 +38,8 @@ returns c =
     let is = c .before .before .kbm .given .1 in (
       accepted saysKbm (told call) is refl,
       stored-part saysKbm (told call) is (λ k. k .count) (now (call .before .before .args .entries)) refl refl,
-      stored-part saysKbm (told call) is (λ k. k .octave) (now (call .before .before .args .formal)) refl (toZ-ofZ {w = w16} (search needs)),
+      stored-part saysKbm (told call) is (λ k. k .octave) (now (call .before .before .args .formal)) refl
+          (toZ-ofZ {w = w16} (search needs)),
     )
 
 returns-2 : tie.Need-returns-2

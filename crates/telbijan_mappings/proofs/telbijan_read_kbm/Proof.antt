@@ -47,16 +47,20 @@ returns c =
     let is = c .before .before .before .before .before .before .before .before .before .before .before .kbm .given .1 in (
       accepted saysKbm (told call) is refl,
       call .read-kbm .ensures .1,
-      stored saysKbm (told call) is (old (call .before .before .before)) refl (same-numbers refl (toZ-ofZ {w = w32} (search needs)) (toZ-ofZ {w = w32} (search needs))
-          (toZ-ofZ {w = w32} (search needs)) refl (toZ-ofZ {w = w32} (search needs)) (toZ-ofZ {w = w16} (search needs))),
+      stored saysKbm (told call) is (old (call .before .before .before)) refl
+          (same-numbers refl (toZ-ofZ {w = w32} (search needs)) (toZ-ofZ {w = w32} (search needs)) (toZ-ofZ {w = w32} (search needs)) refl
+          (toZ-ofZ {w = w32} (search needs)) (toZ-ofZ {w = w16} (search needs))),
     )
 
 returns-2 : tie.Need-returns-2
 returns-2 c =
     let call : tie.After-read-kbm = search in
     let start : tie.Start = search in
-    let is = c .before .before .refusal .given .1 in
-    (refused saysKbm (told call) is _ refl (c .code-of .ensures), call .read-kbm .ensures .1, stays saysKbm (told call) is _ (old start) refl)
+    let is = c .before .before .refusal .given .1 in (
+      refused saysKbm (told call) is _ refl (c .code-of .ensures),
+      call .read-kbm .ensures .1,
+      stays saysKbm (told call) is _ (old start) refl,
+    )
 
 pub telbijan-read-kbm-spec : {M : Type 1} → statement M
 telbijan-read-kbm-spec =

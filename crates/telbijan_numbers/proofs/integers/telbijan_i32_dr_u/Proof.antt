@@ -31,7 +31,8 @@ returns c =
     let call = c .before .before .before .before in
     let is = c .before .before .division .given .1 in (
       accepted saysDivision (told call) is refl,
-      stored-part saysDivision (told call) is (λ p. p .quotient) (now (call .before .args .quotient)) refl (toZ-ofZ {w = w32} (search needs)),
+      stored-part saysDivision (told call) is (λ p. p .quotient) (now (call .before .args .quotient)) refl
+          (toZ-ofZ {w = w32} (search needs)),
       stored-part saysDivision (told call) is (λ p. p .remainder) (now (call .before .args .remainder)) refl refl,
     )
 

@@ -34,7 +34,8 @@ returns c =
       stored-part saysNearest (told call) is (λ f. f .numer) (now (call .before .args .numer)) refl refl,
       stored-part saysNearest (told call) is (λ f. f .denom) (now (call .before .args .denom)) refl refl,
       stored-part saysNearest (told call) is (λ f. f .deviation .0) (now (call .before .args .deviation)) refl refl,
-      stored-part saysNearest (told call) is (λ f. f .«num_octaves») (now (call .before .args .octaves)) refl (toZ-ofZ {w = w32} (search needs)),
+      stored-part saysNearest (told call) is (λ f. f .«num_octaves») (now (call .before .args .octaves)) refl
+          (toZ-ofZ {w = w32} (search needs)),
     )
 
 returns-2 : tie.Need-returns-2
