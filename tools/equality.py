@@ -5,9 +5,10 @@
 
 DATA is a type of values, known by its form (`is_data`); any other premise is a fault. What is asked of a result, `says r ≡ s` or each part of FACT,
 must be what the contract ensures, with the line's variables replaced by terms of what goes in; and what is equated must be the result and all that
-a `&mut` holds after the call. Terms are compared as they are written, but for quotes, the abbreviations of the line's own file and those that stand for a
-relation in the specs of the crate or of a telbijan_ crate below it, or for a lent table there (`short_names`); a name is the same where both files import
-it from one place, under whatever name of its module. A contract is read with these written out (`ensured`), so that what a relation leaves out is missed."""
+a `&mut` holds after the call. Terms are compared as they are written, but for quotes, the abbreviations of the line's own file, and those
+that stand for a relation or a lent table in the specs of the crate or of a telbijan_ crate below it (`short_names`); a name is the same where
+both files import it from one place, under whatever name of its module. A contract is read with these written out (`ensured`), so that an
+argument that a relation leaves out is not there."""
 import re
 
 # records of columns or of stored numbers, and what makes them: equal where these are
@@ -120,7 +121,10 @@ def abbreviations(text, kind="", folder=None):
 
 def short_names(crate, texts):
     """What these texts, the specs of a crate, have for short names of relations and of lent tables."""
-    return {name: found for text in texts for name, found in abbreviations(text, "(?:Type 0|Table)" if crate == LENT else "Type 0", f"Rattle.{crate}.specs").items()}
+    found, kind = {}, "(?:Type 0|Table)" if crate == LENT else "Type 0"
+    for text in texts:
+        found |= abbreviations(text, kind, f"Rattle.{crate}.specs")
+    return found
 
 
 def unfolded(term, meant):
