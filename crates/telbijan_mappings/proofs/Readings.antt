@@ -35,6 +35,14 @@ module _ (text : List ℕ) (map : List ℤ) (old : Kbm) (r : ℕ) (left : List �
       let b = refused-back (read-kbm-numbered (length map) text) (c .0) e (detail-small f short) in
       (b .0, b .1, b .2, c .1 ∙ rw e, c .2 ∙ ap (λ (s : Said Kbm). kept s old) e)
 
+  -- and where the result is not 0 there is one
+  pub fault-call : (r ≡ 0 → ⊥) → (number detail : ℕ) × FaultText (length map) text number detail
+  fault-call refused = go said refl
+    where
+      go : (s : Said Kbm) → said ≡ s → (number detail : ℕ) × FaultText (length map) text number detail
+      go (gives k) e = absurd (refused (c .0 ∙ ap result e))
+      go (refuses number detail) e = (number, detail, refuses-fault (length map) text number detail .0 e)
+
   -- a text of the language that has room: result 0, the mapping is stored, its entries are in the first places, and behind them stands
   -- what was there
   pub language-call : {k : Kbm} {es : List Entry} → MappingText text k es → length es ≤ length map →

@@ -1,7 +1,7 @@
 -- THE CALL telbijan_read_scl OVER THE LANGUAGE: accepted exactly for the texts of it that have room, with the one reading in what is
 -- stored and lent; refused exactly for the earliest fault, whose number and detail are in the result, with everything as it was.
 -- Assumes nothing.
-use mathlib.Core.Path.{_≡_, sym, _∙_, ap}
+use mathlib.Core.Path.{_≡_, refl, sym, _∙_, ap}
 use mathlib.Core.Bool.{true}
 use mathlib.Core.List.{List, _∷_}
 use Prim.Native.Nat.{ℕ, _^_, _+_, _≤_, _<_}
@@ -52,6 +52,14 @@ module _ (text : List ℕ) (t : ItemTable) (l : ListTable) (old : SclRead) (r : 
       let e : said ≡ refuses number detail = refuses-fault (roomOf t l) text number detail .1 f in
       let b = refused-back (read-scl-numbered (roomOf t l) text) (c .0) e (detail-small f short) in
       (b .0, b .1, b .2, c .1 ∙ rw e, c .2 ∙ rw e, c .3 ∙ ap (λ (s : Said SclRead). kept s old) e)
+
+  -- and where the result is not 0 there is one
+  pub fault-call : (r ≡ 0 → ⊥) → (number detail : ℕ) × FaultText text number detail (roomOf t l)
+  fault-call refused = go said refl
+    where
+      go : (s : Said SclRead) → said ≡ s → (number detail : ℕ) × FaultText text number detail (roomOf t l)
+      go (gives x) e = absurd (refused (c .0 ∙ ap result e))
+      go (refuses number detail) e = (number, detail, refuses-fault (roomOf t l) text number detail .0 e)
 
   -- a text of the language that has room: result 0, and what is stored and lent is its reading
   pub language-call : {d : List ℕ} {items : List Item} {list : List Entry} → ScaleText text d items list → length items < roomOf t l →
