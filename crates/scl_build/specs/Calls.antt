@@ -55,27 +55,27 @@ afterCalls s (c ∷ cs) = afterCalls (afterCall s c) cs
 
 -- ---- the plain list
 -- the item that a call pushes: a ratio is its cents, where it has them
-abbrev pub itemOf : Call → Said Item
-itemOf (Call.cents c) = gives (Cents c)
-itemOf (Call.ratio r) = andThen (asCents r) (λ c. gives (Cents c))
-itemOf (Call.int n) = gives (Fraction n Lacking)
-itemOf (Call.fraction n d) = gives (Fraction n (Given d))
+abbrev pub itemPushed : Call → Said Item
+itemPushed (Call.cents c) = gives (Cents c)
+itemPushed (Call.ratio r) = andThen (asCents r) (λ c. gives (Cents c))
+itemPushed (Call.int n) = gives (Fraction n Lacking)
+itemPushed (Call.fraction n d) = gives (Fraction n (Given d))
 
 -- one item more: "10 by the readers' limits, then 12" where all of so many places, place 0 among them, are taken
 abbrev pub plainPush : ℕ → List Item → Item → Said (List Item)
 plainPush room is i = pick (isUsable i) (pick (ltb (length is + 1) room) (gives (is ++ (i ∷ []))) (refuses no-room 0)) (refuses unusable 0)
 
 abbrev pub plainCall : ℕ → List Item → Call → Said (List Item)
-plainCall room is c = andThen (itemOf c) (plainPush room is)
+plainCall room is c = andThen (itemPushed c) (plainPush room is)
 
 -- "a refused push appends nothing"
-abbrev pub listAfter : List Item → Said (List Item) → List Item
-listAfter old (gives is) = is
-listAfter old (refuses n detail) = old
+abbrev pub plainAfter : List Item → Said (List Item) → List Item
+plainAfter old (gives is) = is
+plainAfter old (refuses n detail) = old
 
 unfoldable pub plainCalls : ℕ → List Item → List Call → List Item
 plainCalls room is [] = is
-plainCalls room is (c ∷ cs) = plainCalls room (listAfter is (plainCall room is c)) cs
+plainCalls room is (c ∷ cs) = plainCalls room (plainAfter is (plainCall room is c)) cs
 
 -- the items of all calls: a ratio is its cents, or nothing where it has none
 unfoldable pub itemsGiven : List Call → List Item
