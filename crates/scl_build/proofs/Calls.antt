@@ -23,7 +23,7 @@ use Rattle.scl_tables.specs.Build.{sizedOf}
 use Rattle.scl_tables.specs.Room.{roomOf}
 use Rattle.scl_tables.proofs.Room.{room-within}
 use Rattle.scl_build.specs.Builder.{state, builderOf, afterNew, fitsItems, fitsList, pushed, pushedRatio, afterCents, afterRatio}
-use Rattle.scl_build.specs.Builder.{Built, beside, builderAfter, afterOne, behind, isReady, built, acceptedOf, withCents}
+use Rattle.scl_build.specs.Builder.{Built, beside, builderAfter, afterOne, behind, isReady, built, counted, acceptedOf, withCents}
 use Rattle.scl_build.specs.Calls.{Call, saysCall, afterCall, afterCalls, plainPush, plainCall, plainAfter, plainCalls}
 use Rattle.scl_build.specs.Calls.{itemsGiven, builderFor, lengthsOf, Acts}
 use Rattle.scl_build.specs.declared.SclBuilder.{SclBuilder}
@@ -166,6 +166,7 @@ module _ (t : ItemTable) (l : ListTable) where
       usable = table-usable;
       next = next-call;
       scale = scale-plain;
+      answer = ap (counted b) scale-plain;
     }
 
   run-acts : (cs : List Call) (is : List Item) (u : ItemTable) → Held is u →
