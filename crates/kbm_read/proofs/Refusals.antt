@@ -13,7 +13,7 @@ use Rattle.listing.proofs.Refusals.{Drawn, fault-drawn}
 use Rattle.text.specs.Reading.{strict}
 use Rattle.kbm_read.specs.Language.{Required, required, Wrong, NoEntry, mapping, Values, sizeOf, WrongEnd, FaultText}
 use Rattle.kbm_read.specs.Reader.{readOf}
-use Rattle.kbm_read.specs.Refusals.{Refusal}
+use Rattle.kbm_read.specs.Refusals.{MayRefuse}
 use Rattle.kbm_read.proofs.Language.{refuses-fault}
 
 -- ---- THE NUMBERS OF A LINE, and those after the last
@@ -62,16 +62,16 @@ module _ {room : ℕ} {s : List ℕ} {n d : ℕ} (t : FaultText room s n d) wher
   abbrev End : Values required → List Entry → ℕ → Type 0
   End vs es k = WrongEnd room (sizeOf vs) es k
 
-  pub fault-listed : Refusal s n d
+  pub fault-listed : MayRefuse s n d
   fault-listed =
       go (fault-drawn mapping End Line Last (inl refl) full wrong-line bad-line (λ vs. wrong-end room (sizeOf vs)) (t .fault))
     where
-      go : Drawn mapping End Line Last (length (t .says)) n d → Refusal s n d
+      go : Drawn mapping End Line Last (length (t .says)) n d → MayRefuse s n d
       go (Drawn.at-line l a b) =
           let same = each-one strict (t .text .parts) (t .says) (t .text .each) in
-          Refusal.at-line l (t .text .parts) (t .text .lines) a (omega (arith, b, same))
-      go (Drawn.missing e a b) = Refusal.missing e (which d a b)
-      go (Drawn.at-end e p) = Refusal.at-end e p
+          MayRefuse.at-line l (t .text .parts) (t .text .lines) a (omega (arith, b, same))
+      go (Drawn.missing e a b) = MayRefuse.missing e (which d a b)
+      go (Drawn.at-end e p) = MayRefuse.at-end e p
 
-pub read-listed : (room : ℕ) (s : List ℕ) (n d : ℕ) → readOf room s ≡ refuses n d → Refusal s n d
+pub read-listed : (room : ℕ) (s : List ℕ) (n d : ℕ) → readOf room s ≡ refuses n d → MayRefuse s n d
 read-listed room s n d e = fault-listed (refuses-fault room s n d .0 e)

@@ -23,8 +23,8 @@ use Rattle.scl_tables.specs.Build.{sizedOf}
 use Rattle.scl_tables.specs.Room.{roomOf}
 use Rattle.scl_tables.proofs.Room.{room-within}
 use Rattle.scl_build.specs.Builder.{state, builderOf, afterNew, fitsItems, fitsList, pushed, pushedRatio, afterCents, afterRatio}
-use Rattle.scl_build.specs.Builder.{Built, beside, builderAfter, afterOne, behind, isReady, built, acceptedOf, withCents}
-use Rattle.scl_build.specs.Calls.{Call, saysCall, afterCall, afterCalls, plainPush, plainCall, listAfter, plainCalls}
+use Rattle.scl_build.specs.Builder.{Built, beside, builderAfter, afterOne, behind, isReady, built, counted, acceptedOf, withCents}
+use Rattle.scl_build.specs.Calls.{Call, saysCall, afterCall, afterCalls, plainPush, plainCall, plainAfter, plainCalls}
 use Rattle.scl_build.specs.Calls.{itemsGiven, builderFor, lengthsOf, Acts}
 use Rattle.scl_build.specs.declared.SclBuilder.{SclBuilder}
 use Rattle.scl_build.proofs.Appends.{left-by, behind-written, next-fits, next-items}
@@ -113,24 +113,24 @@ module _ (t : ItemTable) (l : ListTable) where
           usable = usable-more is i (h .usable) x;
         }
 
-    item-goes : (i : Item) → Goes (listAfter is (plainPush room is i)) (afterOne (beside b u) i)
+    item-goes : (i : Item) → Goes (plainAfter is (plainPush room is i)) (afterOne (beside b u) i)
     item-goes i = go (isUsable i) (ltb (length is + 1) room) refl refl
       where
         go : (x y : Bool) → isUsable i ≡ x → ltb (length is + 1) room ≡ y
-            → Goes (listAfter is (pushBy x y is i)) (afterOne (beside b u) i)
+            → Goes (plainAfter is (pushBy x y is i)) (afterOne (beside b u) i)
         go true true x y =
             let r = ltb-true (length is + 1) room y in
             (writtenAt u (length is + 1) i, (left-by b u i (push-more b u i (h .fits) x r ∙ ap gives (one-more i)), held-more i x r))
         go true false x y = (u, (left-by b u i (push-full b u i (h .fits) x (ltb-false (length is + 1) room y)), h))
         go false y x z = (u, (left-by b u i (push-unusable b u i (h .fits) x), h))
 
-    call-goes : (c : Call) → Goes (listAfter is (plainCall room is c)) (afterCall (beside b u) c)
+    call-goes : (c : Call) → Goes (plainAfter is (plainCall room is c)) (afterCall (beside b u) c)
     unfolding pushedRatio afterRatio
     call-goes (Call.cents c) = item-goes (Cents c)
     call-goes (Call.ratio r) = go (asCents r)
       where
         go : (x : Said Float)
-            → Goes (listAfter is (ratioBy room is x)) (beside (builderAfter b (andThen x (λ c. pushed b u (Cents c)))) (afterCents b u x))
+            → Goes (plainAfter is (ratioBy room is x)) (beside (builderAfter b (andThen x (λ c. pushed b u (Cents c)))) (afterCents b u x))
         go (gives c) = item-goes (Cents c)
         go (refuses n d) = (u, (refl, h))
     call-goes (Call.int n) = item-goes (Fraction n Lacking)
@@ -166,6 +166,7 @@ module _ (t : ItemTable) (l : ListTable) where
       usable = table-usable;
       next = next-call;
       scale = scale-plain;
+      answer = ap (counted b) scale-plain;
     }
 
   run-acts : (cs : List Call) (is : List Item) (u : ItemTable) → Held is u →
@@ -174,7 +175,7 @@ module _ (t : ItemTable) (l : ListTable) where
   run-acts [] is u h = acts is u h
   run-acts (c ∷ cs) is u h =
       let g = call-goes is u h c in
-      rw (g .1 .0) (run-acts cs (listAfter is (plainCall room is c)) (g .0) (g .1 .1))
+      rw (g .1 .0) (run-acts cs (plainAfter is (plainCall room is c)) (g .0) (g .1 .1))
 
   -- FROM A NEW BUILDER: after any run of calls it acts as the plain list
   pub calls-act : 0 < room → (cs : List Call) →
@@ -199,12 +200,12 @@ module _ (room : ℕ) (cs : List Call) (gs : List Item)
   left is = room - (length is + 1)
 
   item-accepted : (is : List Item) (i : Item) →
-      plainCalls room (listAfter is (plainPush room is i)) cs ≡ is ++ acceptedOf (room - (length is + 1)) (i ∷ gs)
+      plainCalls room (plainAfter is (plainPush room is i)) cs ≡ is ++ acceptedOf (room - (length is + 1)) (i ∷ gs)
   unfolding acceptedOf
   item-accepted is i = go (isUsable i) (ltb (length is + 1) room) refl refl
     where
       go : (x y : Bool) → isUsable i ≡ x → ltb (length is + 1) room ≡ y
-          → plainCalls room (listAfter is (pushBy x y is i)) cs
+          → plainCalls room (plainAfter is (pushBy x y is i)) cs
           ≡ is ++ pick (x && ltb 0 (left is)) (i ∷ acceptedOf (left is - 1) gs) (acceptedOf (left is) gs)
       go true true x y =
           let n : room - (length (is ++ (i ∷ [])) + 1) ≡ left is - 1 = omega (arith, length-append is (i ∷ [])) in
@@ -214,7 +215,7 @@ module _ (room : ℕ) (cs : List Call) (gs : List Item)
       go false y x z = rest is
 
   ratio-accepted : (is : List Item) (x : Said Float) →
-      plainCalls room (listAfter is (ratioBy room is x)) cs ≡ is ++ acceptedOf (left is) (withCents x gs)
+      plainCalls room (plainAfter is (ratioBy room is x)) cs ≡ is ++ acceptedOf (left is) (withCents x gs)
   ratio-accepted is (gives c) = item-accepted is (Cents c)
   ratio-accepted is (refuses n d) = rest is
 

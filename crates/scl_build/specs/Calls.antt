@@ -20,7 +20,7 @@ use Rattle.scl.specs.declared.Item.the-variants.{Cents, Fraction}
 use Rattle.scl_tables.specs.Build.{sizedOf}
 use Rattle.scl_tables.specs.Room.{roomOf}
 use Rattle.scl_build.specs.Builder.{state, pushed, afterPush, pushedRatio, afterRatio, Built, beside, builderAfter}
-use Rattle.scl_build.specs.Builder.{behind, withCents, built}
+use Rattle.scl_build.specs.Builder.{behind, withCents, built, counted}
 use Rattle.scl_build.specs.declared.SclBuilder.{SclBuilder}
 
 -- a call on a builder: `push_cents`, `push_ratio`, `push_int`, `push_fraction`
@@ -55,27 +55,27 @@ afterCalls s (c ∷ cs) = afterCalls (afterCall s c) cs
 
 -- ---- the plain list
 -- the item that a call pushes: a ratio is its cents, where it has them
-abbrev pub itemOf : Call → Said Item
-itemOf (Call.cents c) = gives (Cents c)
-itemOf (Call.ratio r) = andThen (asCents r) (λ c. gives (Cents c))
-itemOf (Call.int n) = gives (Fraction n Lacking)
-itemOf (Call.fraction n d) = gives (Fraction n (Given d))
+abbrev pub itemPushed : Call → Said Item
+itemPushed (Call.cents c) = gives (Cents c)
+itemPushed (Call.ratio r) = andThen (asCents r) (λ c. gives (Cents c))
+itemPushed (Call.int n) = gives (Fraction n Lacking)
+itemPushed (Call.fraction n d) = gives (Fraction n (Given d))
 
 -- one item more: "10 by the readers' limits, then 12" where all of so many places, place 0 among them, are taken
 abbrev pub plainPush : ℕ → List Item → Item → Said (List Item)
 plainPush room is i = pick (isUsable i) (pick (ltb (length is + 1) room) (gives (is ++ (i ∷ []))) (refuses no-room 0)) (refuses unusable 0)
 
 abbrev pub plainCall : ℕ → List Item → Call → Said (List Item)
-plainCall room is c = andThen (itemOf c) (plainPush room is)
+plainCall room is c = andThen (itemPushed c) (plainPush room is)
 
 -- "a refused push appends nothing"
-abbrev pub listAfter : List Item → Said (List Item) → List Item
-listAfter old (gives is) = is
-listAfter old (refuses n detail) = old
+abbrev pub plainAfter : List Item → Said (List Item) → List Item
+plainAfter old (gives is) = is
+plainAfter old (refuses n detail) = old
 
 unfoldable pub plainCalls : ℕ → List Item → List Call → List Item
 plainCalls room is [] = is
-plainCalls room is (c ∷ cs) = plainCalls room (listAfter is (plainCall room is c)) cs
+plainCalls room is (c ∷ cs) = plainCalls room (plainAfter is (plainCall room is c)) cs
 
 -- the items of all calls: a ratio is its cents, or nothing where it has none
 unfoldable pub itemsGiven : List Call → List Item
@@ -95,8 +95,8 @@ abbrev pub lengthsOf : ItemTable → List ℕ
 lengthsOf t = length (t .kinds) ∷ length (t .cents) ∷ length (t .numers) ∷ length (t .denoms) ∷ []
 
 -- THE BUILDER ACTS AS THE PLAIN LIST: of the lent table t the first places hold 0.0 cents and its items and the others are as they were;
--- the next call says the builder of the list with one item more, or the list's refusal; and a build, into a list's columns l, says the
--- sorted list of the plain list: 13, then 18, and no 10
+-- the next call says the builder of the list with one item more, or the list's refusal; and a build, into a list's columns l, has the
+-- sorted list of the plain list, and says its count: 13, then 18, and no 10
 pub record Acts (t : ItemTable) (l : ListTable) (is : List Item) (s : Built) : Type 0 where
   pub builder : s .builder ≡ builderFor (roomOf t l) is
   pub items : itemsIn (length is) (s .table) ≡ implicit ∷ is
@@ -105,3 +105,4 @@ pub record Acts (t : ItemTable) (l : ListTable) (is : List Item) (s : Built) : T
   pub usable : isItems (length is) (s .table) ≡ true
   pub next : (c : Call) → saysCall s c ≡ andThen (plainCall (roomOf t l) is c) (λ js. gives (builderFor (roomOf t l) js))
   pub scale : built (s .builder) (s .table) l ≡ sizedOf (implicit ∷ is)
+  pub answer : counted (s .builder) (built (s .builder) (s .table) l) ≡ andThen (sizedOf (implicit ∷ is)) (λ es. gives (length is))

@@ -14,7 +14,7 @@ use Rattle.text.specs.Reading.{strict}
 use Rattle.scl_read.specs.ItemText.{NoItem}
 use Rattle.scl_read.specs.Language.{Required, ContentLine, Wrong, scale, Values, WrongEnd, FaultText}
 use Rattle.scl_read.specs.Reader.{readOf}
-use Rattle.scl_read.specs.Refusals.{Refusal}
+use Rattle.scl_read.specs.Refusals.{MayRefuse}
 use Rattle.scl_read.proofs.Language.{refuses-fault}
 
 -- ---- THE NUMBERS OF A LINE, and those after the last
@@ -53,15 +53,15 @@ which (suc zero) a b = inl refl
 which (suc (suc zero)) a b = inr (inl refl)
 which (suc (suc (suc k))) a b = absurd (omega (arith, b))
 
-pub fault-listed : {s : List ℕ} {n d room : ℕ} → FaultText s n d room → Refusal s room n d
-fault-listed (FaultText.no-place e p) = Refusal.no-place e p refl
+pub fault-listed : {s : List ℕ} {n d room : ℕ} → FaultText s n d room → MayRefuse s room n d
+fault-listed (FaultText.no-place e p) = MayRefuse.no-place e p refl
 fault-listed {s} {n} {d} (FaultText.at-lines places says t f) =
     go (fault-drawn scale WrongEnd Line Last (inl refl) full wrong-line (λ w k. bad-line (w .token) k) wrong-end f)
   where
-    go : Drawn scale WrongEnd Line Last (length says) n d → Refusal s (suc places) n d
-    go (Drawn.at-line l a b) = Refusal.at-line l (t .parts) (t .lines) a (omega (arith, b, each-one strict (t .parts) says (t .each)))
-    go (Drawn.missing e a b) = Refusal.missing e (which d a b)
-    go (Drawn.at-end e p) = Refusal.at-end e p
+    go : Drawn scale WrongEnd Line Last (length says) n d → MayRefuse s (suc places) n d
+    go (Drawn.at-line l a b) = MayRefuse.at-line l (t .parts) (t .lines) a (omega (arith, b, each-one strict (t .parts) says (t .each)))
+    go (Drawn.missing e a b) = MayRefuse.missing e (which d a b)
+    go (Drawn.at-end e p) = MayRefuse.at-end e p
 
-pub read-listed : (room : ℕ) (s : List ℕ) (n d : ℕ) → readOf room s ≡ refuses n d → Refusal s room n d
+pub read-listed : (room : ℕ) (s : List ℕ) (n d : ℕ) → readOf room s ≡ refuses n d → MayRefuse s room n d
 read-listed room s n d e = fault-listed (refuses-fault room s n d .0 e)

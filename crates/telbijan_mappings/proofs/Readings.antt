@@ -15,9 +15,11 @@ use Rattle.kbm.specs.declared.Entry.{Entry}
 use Rattle.kbm.specs.declared.Kbm.{Kbm}
 use Rattle.kbm_read.specs.Language.{MappingText, FaultText}
 use Rattle.kbm_read.specs.Reader.{readOf, entriesIn}
+use Rattle.kbm_read.specs.Refusals.{MayRefuse}
 use Rattle.kbm_read.proofs.Inside.{detail-small, read-over}
 use Rattle.kbm_read.proofs.Language.{accepts, refuses-fault}
 use Rattle.kbm_read.proofs.Numbers.{read-kbm-numbered}
+use Rattle.kbm_read.proofs.Refusals.{fault-listed}
 use Rattle.kbm_read.proofs.Tables.{leaves-meaning}
 use Rattle.telbijan_answers.specs.Interface.{result, kept, numberIn, detailIn}
 use Rattle.telbijan_answers.proofs.Interface.{zero-accepted, refused-back}
@@ -35,13 +37,17 @@ module _ (text : List ℕ) (map : List ℤ) (old : Kbm) (r : ℕ) (left : List �
       let b = refused-back (read-kbm-numbered (length map) text) (c .0) e (detail-small f short) in
       (b .0, b .1, b .2, c .1 ∙ rw e, c .2 ∙ ap (λ (s : Said Kbm). kept s old) e)
 
-  -- and where the result is not 0 there is one
-  pub fault-call : (r ≡ 0 → ⊥) → (number detail : ℕ) × FaultText (length map) text number detail
-  fault-call refused = go said refl
+  -- and a result that is not 0 says the earliest fault, which is in the header's list
+  pub fault-call : length text < 2 ^ 56 → (r ≡ 0 → ⊥) →
+      FaultText (length map) text (numberIn r) (detailIn r) × MayRefuse text (numberIn r) (detailIn r)
+  fault-call short nonzero = go said refl
     where
-      go : (s : Said Kbm) → said ≡ s → (number detail : ℕ) × FaultText (length map) text number detail
-      go (gives k) e = absurd (refused (c .0 ∙ ap result e))
-      go (refuses number detail) e = (number, detail, refuses-fault (length map) text number detail .0 e)
+      go : (s : Said Kbm) → said ≡ s → FaultText (length map) text (numberIn r) (detailIn r) × MayRefuse text (numberIn r) (detailIn r)
+      go (gives k) e = absurd (nonzero (c .0 ∙ ap result e))
+      go (refuses number detail) e =
+          let f = refuses-fault (length map) text number detail .0 e in
+          let b = refused-call short number detail f in
+          rw (b .1, b .2) (f, fault-listed f)
 
   -- a text of the language that has room: result 0, the mapping is stored, its entries are in the first places, and behind them stands
   -- what was there

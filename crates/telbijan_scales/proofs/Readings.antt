@@ -17,11 +17,13 @@ use Rattle.sorting.specs.Entries.{Entry}
 use Rattle.text.specs.Part.{part}
 use Rattle.scl_read.specs.Language.{ScaleText, FaultText}
 use Rattle.scl_read.specs.Reader.{descriptionIn, scaleRead, readOf}
+use Rattle.scl_read.specs.Refusals.{MayRefuse}
 use Rattle.scl_read.specs.declared.SclRead.{SclRead}
 use Rattle.scl_read.proofs.Inside.{description-inside, detail-small, behind, read-behind}
 use Rattle.scl_read.proofs.Language.{accepts, accepted, refuses-fault, described}
 use Rattle.scl_read.proofs.Leaves.{leaves-items, leaves-list}
 use Rattle.scl_read.proofs.Numbers.{read-scl-numbered}
+use Rattle.scl_read.proofs.Refusals.{fault-listed}
 use Rattle.telbijan_answers.specs.Interface.{result, kept, numberIn, detailIn}
 use Rattle.telbijan_answers.proofs.Interface.{zero-accepted, refused-back}
 use Rattle.telbijan_scales.specs.Calls.{ReadScl}
@@ -53,13 +55,18 @@ module _ (text : List ℕ) (t : ItemTable) (l : ListTable) (old : SclRead) (r : 
       let b = refused-back (read-scl-numbered (roomOf t l) text) (c .0) e (detail-small f short) in
       (b .0, b .1, b .2, c .1 ∙ rw e, c .2 ∙ rw e, c .3 ∙ ap (λ (s : Said SclRead). kept s old) e)
 
-  -- and where the result is not 0 there is one
-  pub fault-call : (r ≡ 0 → ⊥) → (number detail : ℕ) × FaultText text number detail (roomOf t l)
-  fault-call refused = go said refl
+  -- and a result that is not 0 says the earliest fault, which is in the header's list
+  pub fault-call : length text < 2 ^ 56 → (r ≡ 0 → ⊥) →
+      FaultText text (numberIn r) (detailIn r) (roomOf t l) × MayRefuse text (roomOf t l) (numberIn r) (detailIn r)
+  fault-call short nonzero = go said refl
     where
-      go : (s : Said SclRead) → said ≡ s → (number detail : ℕ) × FaultText text number detail (roomOf t l)
-      go (gives x) e = absurd (refused (c .0 ∙ ap result e))
-      go (refuses number detail) e = (number, detail, refuses-fault (roomOf t l) text number detail .0 e)
+      go : (s : Said SclRead) → said ≡ s →
+          FaultText text (numberIn r) (detailIn r) (roomOf t l) × MayRefuse text (roomOf t l) (numberIn r) (detailIn r)
+      go (gives x) e = absurd (nonzero (c .0 ∙ ap result e))
+      go (refuses number detail) e =
+          let f = refuses-fault (roomOf t l) text number detail .0 e in
+          let b = refused-call short number detail f in
+          rw (b .1, b .2) (f, fault-listed f)
 
   -- a text of the language that has room: result 0, and what is stored and lent is its reading
   pub language-call : {d : List ℕ} {items : List Item} {list : List Entry} → ScaleText text d items list → length items < roomOf t l →

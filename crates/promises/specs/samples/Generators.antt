@@ -35,13 +35,13 @@ abbrev pub dividedAt : SegmentType → ℕ → ℕ → ℕ → ℕ → Said Item
 dividedAt type start size number j = andThen (stepsOf start size (Into number)) (λ steps. itemAt type start size steps j)
 
 -- fractions over one number, and under one
-abbrev pub over : ℕ → List ℕ → List Item
-over denom [] = []
-over denom (n ∷ ns) = Fraction n (Given denom) ∷ over denom ns
+abbrev pub fractionsOver : ℕ → List ℕ → List Item
+fractionsOver denom [] = []
+fractionsOver denom (n ∷ ns) = Fraction n (Given denom) ∷ fractionsOver denom ns
 
-abbrev pub under : ℕ → List ℕ → List Item
-under numer [] = []
-under numer (d ∷ ds) = Fraction numer (Given d) ∷ under numer ds
+abbrev pub fractionsUnder : ℕ → List ℕ → List Item
+fractionsUnder numer [] = []
+fractionsUnder numer (d ∷ ds) = Fraction numer (Given d) ∷ fractionsUnder numer ds
 
 pub record Generators : Type 0 where
   -- generator 1.5, twice up and once down, period 0.5: "sorted ascending", so the highest note and not the period comes last
@@ -52,5 +52,5 @@ pub record Generators : Type 0 where
   pub nearer-up : dividedAt Otonal 2 4 5 1 ≡ gives (Fraction 3 (Given 2))
   pub nearer-down : dividedAt Utonal 2 4 5 4 ≡ gives (Fraction 6 (Given 3))
   -- harmonics 4 to 8, not divided, upwards and downwards
-  pub whole-up : harmonicsOf Otonal 4 4 Lacking ≡ gives (over 4 (5 ∷ 6 ∷ 7 ∷ 8 ∷ []))
-  pub whole-down : harmonicsOf Utonal 4 4 Lacking ≡ gives (under 8 (7 ∷ 6 ∷ 5 ∷ 4 ∷ []))
+  pub whole-up : harmonicsOf Otonal 4 4 Lacking ≡ gives (fractionsOver 4 (5 ∷ 6 ∷ 7 ∷ 8 ∷ []))
+  pub whole-down : harmonicsOf Utonal 4 4 Lacking ≡ gives (fractionsUnder 8 (7 ∷ 6 ∷ 5 ∷ 4 ∷ []))
