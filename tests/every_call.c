@@ -192,6 +192,7 @@ static void mapping_builders(void) {
         build_mapping(), SAID(0, 0), SAME(seen.made.count, 4), SAME(seen.made.octave, 11), SAME(seen.made.start, 5), SAME(seen.made.end, 91), SAME(seen.made.root.offset, -6);
         build_linear(), SAID(15, 0);
     }
+    filled(SCALE, 5, 4), begin_mapping(), push_entry(true), push_entry(false), build_mapping(), SAID(0, 0), SAME(seen.made.count, 2);
     BOTH(entries.count, 5), build_mapping(), SAID(10, 0), build_linear(), SAID(10, 0);
     BOTH(entries.count, 0), BOTH(entries.mapping.root.hz, 0), build_mapping(), SAID(10, 0), build_linear(), SAID(10, 0);
     filled(SCALE, 5, 4), BOTH(mapping.root.hz, 0), begin_mapping(), SAID(10, 0);
