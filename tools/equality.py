@@ -123,7 +123,8 @@ def by_columns(term, table):
 
 
 def abbreviations(text, kind="", module=None):
-    """Those of a file that have one equation with plain parameters, and a type that ends so, by the place that others import them from, if others do."""
+    """Those of a file that have one equation with plain parameters, and a type that ends so: each by its name, and by the place that
+    others import it from, if others do."""
     found = re.findall(rf"^( *)abbrev (?:pub )?(\S+) :[^\n]*{kind}\n\1\2((?: \w+)*) =([^\n]*(?:\n\1 +[^\n]*)*)", text, re.M)
     found = [(name, *rest) for _, name, *rest in found if len(re.findall(rf"^ *{re.escape(name)}(?![^\s({{])", text, re.M)) == 1]
     names, modules = imports(text)
