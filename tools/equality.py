@@ -14,6 +14,14 @@ import re
 TABLES = {"ItemTable": "itemTable", "ListTable": "listTable", "Kbm": "mappingWith", "SclRead": "readWith"}
 VALUES = {"ℕ", "ℤ", "Float", "Bool", "Entry", *TABLES}  # and each struct and enum of the sources; lists, answers and functions of these
 ONE = "abbrev pub One : {A B : Type 0} → (A → B) → B → Type 0\nOne {A} {B} says s = (x y : A) → says x ≡ s → says y ≡ s → x ≡ y\n"
+# what every contract of a call for C is said by, as it must stand
+SAID_IN = "crates/telbijan_answers/specs/Interface.antt"
+SAID_BY = {
+    "code": "code number detail = detail % 2 ^ 56 * 256 + number % 256\n",
+    "result": "result (gives a) = 0\nresult (refuses number detail) = code number detail\n",
+    "kept": "kept (gives a) old = a\nkept (refuses number detail) old = old\n",
+    "fieldOf": "fieldOf part (gives a) = gives (part a)\nfieldOf part (refuses number detail) = refuses number detail\n",
+}
 RESULT = "the result"  # what a contract calls `r`, or otherwise
 ONE_OF = "Rattle.base.specs.Said.One"  # where it is imported from
 JOINS = {"→", "⊎", "↔", "λ", "let", "in", "=", ":", "if", "match"}
