@@ -24,7 +24,8 @@ SAID_BY = {
 }
 RESULT = "the result"  # what a contract calls `r`, or otherwise
 ONE_OF = "Rattle.base.specs.Said.One"  # where it is imported from
-JOINS = {"→", "⊎", "↔", "λ", "let", "in", "=", ":", "if", "match"}
+JOINS = {"λ", "let", "in", "if", "then", "else", "match", "case", "with", "where"}
+BINDS = {"×", "≡", "+", "-", "*", "/", "%", "^", "++", "∷", "[]", "⊥", "{"}  # signs that join no more than their sides
 LENT = "telbijan_answers"  # the crate whose specs have short names for lent tables
 
 
@@ -102,8 +103,9 @@ def split(term, sign):
 
 
 def is_joined(term):
-    """Whether something outside all parentheses binds less than × and ≡ do, so that what these join does not stand by itself."""
-    return isinstance(term, tuple) and any(isinstance(each, str) and (each in JOINS or each.endswith(".")) for each in term)
+    """Whether something outside all parentheses may bind less than × and ≡ do, so that what these join does not stand by itself."""
+    signs = [each for each in term if isinstance(each, str)] if isinstance(term, tuple) else []
+    return any(each in JOINS or each.endswith(".") or not (each in BINDS or re.search(r"\w", each)) for each in signs)
 
 
 def factors(term):
