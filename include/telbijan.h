@@ -426,8 +426,8 @@ typedef struct telbijan_mapping_builder {
 #define TELBIJAN_ROOT(r) (r).reference, (r).hz, (r).offset
 #define TELBIJAN_MAPPING(m) (m)->map, (m)->room, (m)->count, (m)->start, (m)->end, TELBIJAN_ROOT((m)->root), (m)->octave
 
-/* A scale in constant tables, as those in read-only memory are, to be kept as a `const telbijan_scale`: a call that takes one so writes nothing
- * to its tables. */
+/* A scale in constant tables, as those in read-only memory are, to be kept as a `const telbijan_scale`: a call that takes one so
+ * writes nothing to its tables. */
 static inline telbijan_scale telbijan_scale_lent(const uint8_t *kind, const double *cents, const uint32_t *numer, const uint32_t *denom,
     const uint32_t *place, const double *ratio, const int32_t *wraps, size_t room, uint16_t count) {
     telbijan_scale scale;
@@ -497,7 +497,8 @@ static inline telbijan_refusal telbijan_scale_rank2(telbijan_scale *scale, doubl
     return telbijan_refusal_of(telbijan_create_rank2_temperament_scale(generator, positive, negative, period, TELBIJAN_COLUMNS(scale), &scale->count));
 }
 
-/* The ratio of the last item, by telbijan_period: 10. Of a scale without items it is that of place 0, which a read or built scale has as 1.0. */
+/* The ratio of the last item, by telbijan_period: 10. Of a scale without items it is that of place 0, which a read or built scale
+ * has as 1.0. */
 static inline telbijan_refusal telbijan_scale_period(const telbijan_scale *scale, double *period) {
     return telbijan_refusal_of(telbijan_period(TELBIJAN_ITEMS(scale), scale->count, period));
 }

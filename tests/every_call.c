@@ -1,6 +1,7 @@
-/* Makes each call on structs beside the flat one (tests/flat_calls.c has these by themselves), in two worlds of the same memory: the same result,
- * the same values, the same bytes. Rooms are full to the last place or one short of it, and places behind them are watched; every value that
- * a call may set holds 0x5a bytes before it; a refused call leaves its world as it was. Silent and 0 where all is well. */
+/* Makes each call on structs beside the flat one (tests/flat_calls.c has these by themselves), in two worlds of the same memory: the
+ * same result, the same values, the same bytes. Rooms are full to the last place or one short of it, and places behind them are
+ * watched; every value that a call may set holds 0x5a bytes before it; a refused call leaves its world as it was. Silent and 0 where
+ * all is well. */
 #include "worlds.h"
 
 /* The texts: no number twice, none that a default would give, and no end to the last line. The scales differ in their periods alone. */
@@ -192,6 +193,7 @@ static void mapping_builders(void) {
         build_mapping(), SAID(0, 0), SAME(seen.made.count, 4), SAME(seen.made.octave, 11), SAME(seen.made.start, 5), SAME(seen.made.end, 91), SAME(seen.made.root.offset, -6);
         build_linear(), SAID(15, 0);
     }
+    filled(SCALE, 5, 4), begin_mapping(), push_entry(true), push_entry(false), build_mapping(), SAID(0, 0), SAME(seen.made.count, 2);
     BOTH(entries.count, 5), build_mapping(), SAID(10, 0), build_linear(), SAID(10, 0);
     BOTH(entries.count, 0), BOTH(entries.mapping.root.hz, 0), build_mapping(), SAID(10, 0), build_linear(), SAID(10, 0);
     filled(SCALE, 5, 4), BOTH(mapping.root.hz, 0), begin_mapping(), SAID(10, 0);
@@ -273,8 +275,8 @@ static void constants(void) {
         SAME(same_scale(scale, ours.scale), true), SAME(scale.room, 5u), SAME(scale.count, 4);
         SAME(mapping.map, m->map), SAME(mapping.room, 4u), SAME(mapping.count, 3), SAME(mapping.start, 5), SAME(mapping.end, 91);
         SAME(mapping.root.reference, 67), SAME(mapping.root.hz, 300.5), SAME(mapping.root.offset, -6), SAME(mapping.octave, 7);
-        SAME(telbijan_scale_period(&scale, &ours.out.x).number, 0u), SAME(telbijan_mapping_degree_of(&mapping, 67, &ours.out.degree).number, 0u);
-        SAME(ours.out.degree, 1);
+        SAME(telbijan_scale_period(&scale, &ours.out.x).number, 0u);
+        SAME(telbijan_mapping_degree_of(&mapping, 67, &ours.out.degree).number, 0u), SAME(ours.out.degree, 1);
     }
 }
 

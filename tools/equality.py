@@ -15,8 +15,18 @@ import re
 TABLES = {"ItemTable": "itemTable", "ListTable": "listTable", "Kbm": "mappingWith", "SclRead": "readWith"}
 VALUES = {"ℕ", "ℤ", "Float", "Bool", "Entry", *TABLES}  # and each struct and enum of the sources; lists, answers and functions of these
 ONE = "abbrev pub One : {A B : Type 0} → (A → B) → B → Type 0\nOne {A} {B} says s = (x y : A) → says x ≡ s → says y ≡ s → x ≡ y\n"
+# what every contract of a call for C is said by, as it must stand
+SAID_IN = "crates/telbijan_answers/specs/Interface.antt"
+SAID_BY = {
+    "code": "code number detail = detail % 2 ^ 56 * 256 + number % 256\n",
+    "result": "result (gives a) = 0\nresult (refuses number detail) = code number detail\n",
+    "kept": "kept (gives a) old = a\nkept (refuses number detail) old = old\n",
+    "fieldOf": "fieldOf part (gives a) = gives (part a)\nfieldOf part (refuses number detail) = refuses number detail\n",
+}
 RESULT = "the result"  # what a contract calls `r`, or otherwise
 ONE_OF = "Rattle.base.specs.Said.One"  # where it is imported from
+JOINS = {"λ", "let", "in", "if", "then", "else", "match", "case", "with", "where"}
+BINDS = {"×", "≡", "+", "-", "*", "/", "%", "^", "++", "∷", "[]", "⊥", "{"}  # signs that join no more than their sides
 LENT = "telbijan_answers"  # the crate whose specs have short names for lent tables
 
 
@@ -93,9 +103,19 @@ def split(term, sign):
     return [closed(part) for part in parts]
 
 
+def is_joined(term):
+    """Whether something outside all parentheses may bind less than × and ≡ do, so that what these join does not stand by itself."""
+    signs = [each for each in term if isinstance(each, str)] if isinstance(term, tuple) else []
+    return any(each in JOINS or each.endswith(".") or not (each in BINDS or re.search(r"\w", each)) for each in signs)
+
+
 def factors(term):
-    parts = split(term, "×")
+    parts = [term] if is_joined(term) else split(term, "×")
     return [term] if len(parts) == 1 else [factor for part in parts for factor in factors(part)]
+
+
+def sides(factor):
+    return [factor] if is_joined(factor) else split(factor, "≡")
 
 
 def replaced(term, by):
@@ -113,18 +133,20 @@ def by_columns(term, table):
     return tuple(by_columns(each, table) for each in term) if isinstance(term, tuple) else term
 
 
-def abbreviations(text, kind="", folder=None):
-    """Those of a file that have one equation with plain parameters, and a type that ends so; and the folder that others import them from, if others do."""
-    found = re.findall(rf"^( *)abbrev (?:pub )?(\S+) :[^\n]*{kind}\n\1\2((?: \w+)*) =([^\n]*(?:\n\1 +[^\n]*)*)(?=\n(?!\1\2\s)|\Z)", text, re.M)
-    return {name: (parameters.split(), parse(body, imports(text)), folder) for _, name, parameters, body in found}
+def abbreviations(text, kind="", module=None):
+    """Those of a file that have one equation with plain parameters, and a type that ends so: each by its name, and by the place that
+    others import it from, if others do."""
+    found = re.findall(rf"^( *)abbrev (?:pub )?(\S+) :[^\n]*{kind}\n\1\2((?: \w+)*) =([^\n]*(?:\n\1 +[^\n]*)*)", text, re.M)
+    found = [(name, *rest) for _, name, *rest in found if len(re.findall(rf"^ *{re.escape(name)}(?![^\s({{])", text, re.M)) == 1]
+    names, modules = imports(text)
+    names |= {name: {f"{module}.{name}"} for name, *_ in found if module}
+    return {(name, f"{module}.{name}" if module else None): (words.split(), parse(body, (names, modules))) for name, words, body in found}
 
 
 def short_names(crate, texts):
-    """What these texts, the specs of a crate, have for short names of relations and of lent tables."""
-    found, kind = {}, "(?:Type 0|Table)" if crate == LENT else "Type 0"
-    for text in texts:
-        found |= abbreviations(text, kind, f"Rattle.{crate}.specs")
-    return found
+    """What these texts, the specs of a crate by their modules, have for short names of relations and of lent tables."""
+    kind = "(?:Type 0|Table)" if crate == LENT else "Type 0"
+    return {place: found for module, text in texts for place, found in abbreviations(text, kind, module).items()}
 
 
 def unfolded(term, meant):
@@ -132,8 +154,9 @@ def unfolded(term, meant):
     if not isinstance(term, tuple):
         return term
     term = tuple(unfolded(each, meant) for each in term)
-    parameters, body, folder = meant.get(term[0], ((), None, None))
-    if not body or len(parameters) != len(term) - 1 or not all(folder and place.startswith(f"{folder}.") for place in places_of(term[0])):
+    places = places_of(term[0]) if isinstance(term[0], str) else ()
+    parameters, body = next((meant[term[0], place] for place in places or (None,) if (term[0], place) in meant), ((), None))
+    if not body or len(parameters) != len(term) - 1:
         return term
     return unfolded(replaced(body, dict(zip(parameters, term[1:]))), meant)
 
@@ -215,7 +238,7 @@ class Line:
         if len(asked) != 2 or not is_same(asked[1], replaced(asked[0], pairs)) or not words(asked[0]) >= self.results or words(asked[0]) & others:
             return self.wrong(f"asks for {' and '.join(map(shown, asked))}: not the same fact of each result")
         self.inputs -= self.results | others
-        self.facts = [split(factor, "≡") for factor in factors(asked[0])]
+        self.facts = [sides(factor) for factor in factors(asked[0])]
 
     def take_apart(self, table):
         """A table that is named by its columns alone is as many variables: it is made of any columns."""
@@ -232,7 +255,7 @@ def ensured(contract, text, meant):
     for name, said in re.findall(r"\bensures \{ λ (\w+)\.|⌜(.*?)⌝", contract, re.S):
         called = {name: RESULT} if name else called
         if said:
-            facts += [split(factor, "≡") for factor in factors(unfolded(replaced(parse(said, imports(text)), called), meant))]
+            facts += [sides(factor) for factor in factors(unfolded(replaced(parse(said, imports(text)), called), meant))]
     return facts
 
 

@@ -5,6 +5,7 @@ stay, and nothing is said. So it is a fault, in src/, specs/ and proofs/, where
 
 - a sign is declared or bound: a name is made of what `PLAIN` has, so neither `_≡_` nor one that looks like it can be made here;
 - a file has a character that is not seen, or its code one that is not among `SIGNS`;
+- src/ or specs/ import anything under another name, or a file declares what it imports;
 - a word of the logic (`HOMES`, and what else src/ and specs/ import from its libraries) is declared or bound, or imported under another
   name or from another place than its own; the words that are a field's, a case's or a bound name here too are in `ALSO_OURS`, and are no
   definition in specs/. In proofs/ a word may come from any library;
@@ -182,7 +183,10 @@ def audit_characters(file):
 
 
 def audit_words(file, watched):
+    imported = {here for _, _, here in file.uses}
     for name, defines in file.declared():
+        if defines and name in imported:
+            file.fault(f"declares {name}, and imports it")
         if is_sign(name) and name[0] != "«":
             file.fault(f"declares {name}: a sign means what the logic means by it")
         elif name in watched and (name not in ALSO_OURS or (defines and file.kind == "specs")):
@@ -223,7 +227,7 @@ def audit_imports(file, watched):
             file.fault(f"has a module {name}, called as a library is")
     for module, name, here in file.uses:
         elsewhere = not is_library(module)
-        if here != name and ((here in watched and (elsewhere or file.kind != "proofs")) or is_sign(here) or is_sign(name)):
+        if here != name and (file.kind != "proofs" or (here in watched and elsewhere) or is_sign(here) or is_sign(name)):
             file.fault(f"imports {name} of {module} as {here}")
         elif watched.get(name, module) != module and (file.kind != "proofs" or is_sign(name) or (elsewhere and name not in ALSO_OURS)):
             file.fault(f"imports {name} from {module}, which is {watched[name]}'s")

@@ -31,8 +31,8 @@ const CASES: [Case; 7] = [
     (|tally| compared(tally, 128, refused()), "midi: the refusals should be {10}"),
 ];
 
-/// Whether each case is found out, those that are not being said; and whether a call that is compared on both sides is found to lack
-/// nothing.
+/// Whether each case is found out, those that are not being said; whether a call that is compared on both sides is found to lack
+/// nothing; and whether another value, number or detail than the Rust's is a difference.
 pub fn judged() -> bool {
     let faults = |name: &str, cases: fn(&mut Tally)| {
         let mut report = Report::silent();
@@ -51,9 +51,11 @@ pub fn judged() -> bool {
         compared(tally, 60, accepted());
         compared(tally, 128, refused());
         compared(tally, 60, Said::gives(Who::Rust, 61));
+        compared(tally, 128, Said::refused(Who::Rust, 10, 0, ffi::OLD_U8));
+        compared(tally, 128, Said::refused(Who::Rust, 16, 1, ffi::OLD_U8));
     });
     let lacks = |start: &str| lacking.iter().any(|said| said.starts_with(start));
-    if differences != 1 || lacks("telbijan_checked_midi_number: ") || !lacks("telbijan_exp2: no answer was compared") {
+    if differences != 3 || lacks("telbijan_checked_midi_number: ") || !lacks("telbijan_exp2: no answer was compared") {
         println!("judged: {differences} differences, {lacking:?}");
         held = false;
     }

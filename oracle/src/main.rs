@@ -11,7 +11,7 @@
 //! - `oracle differences` prints the rows of docs/DIFFERENCES.md, which the comparison runs.
 //! - `oracle freeze CRATES` writes a sample of the answers for the programs that replay them.
 
-#![deny(dead_code, unused)]
+#![forbid(dead_code, unused)]
 
 mod bench;
 mod bench_tuning;
