@@ -13,7 +13,8 @@ use Rattle.kbm.proofs.Table.{length-numbers}
 use Rattle.kbm.specs.Table.{numbersOf}
 use Rattle.kbm.specs.declared.Entry.{Entry}
 use Rattle.kbm.specs.declared.Kbm.{Kbm}
-use Rattle.listing.proofs.Details.{DetailOf, lines-few, says-lines, fault-line}
+use Rattle.listing.specs.Refusals.{DetailOf}
+use Rattle.listing.proofs.Details.{lines-few, says-lines, fault-line}
 use Rattle.text.proofs.LinesLanguage.{the-lines}
 use Rattle.text.specs.Lines.{Lines}
 use Rattle.kbm_read.specs.Language.{MappingText, FaultText}

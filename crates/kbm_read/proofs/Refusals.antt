@@ -9,7 +9,7 @@ use Rattle.base.specs.Said.{refuses}
 use Rattle.kbm.specs.declared.Entry.{Entry}
 use Rattle.listing.specs.Refusals.{OneOf}
 use Rattle.listing.proofs.Details.{each-one}
-use Rattle.listing.proofs.Refusals.{Drawn, fault-drawn}
+use Rattle.listing.proofs.Refusals.{DrawnAt, drawn-at}
 use Rattle.text.specs.Reading.{strict}
 use Rattle.kbm_read.specs.Language.{Required, required, Wrong, NoEntry, mapping, Values, sizeOf, WrongEnd, FaultText}
 use Rattle.kbm_read.specs.Reader.{readOf}
@@ -64,14 +64,14 @@ module _ {room : ℕ} {s : List ℕ} {n d : ℕ} (t : FaultText room s n d) wher
 
   pub fault-listed : MayRefuse s n d
   fault-listed =
-      go (fault-drawn mapping End Line Last (inl refl) full wrong-line bad-line (λ vs. wrong-end room (sizeOf vs)) (t .fault))
+      go (drawn-at mapping End Line Last (inl refl) full wrong-line bad-line (λ vs. wrong-end room (sizeOf vs)) (t .fault))
     where
-      go : Drawn mapping End Line Last (length (t .says)) n d → MayRefuse s n d
-      go (Drawn.at-line l a b) =
+      go : DrawnAt mapping End Line Last (length (t .says)) n d → MayRefuse s n d
+      go (DrawnAt.at-line l a b) =
           let same = each-one strict (t .text .parts) (t .says) (t .text .each) in
           MayRefuse.at-line l (t .text .parts) (t .text .lines) a (omega (arith, b, same))
-      go (Drawn.missing e a b) = MayRefuse.missing e (which d a b)
-      go (Drawn.at-end e p) = MayRefuse.at-end e p
+      go (DrawnAt.missing e a b) = MayRefuse.missing e (which d a b)
+      go (DrawnAt.at-end e p) = MayRefuse.at-end e p
 
 pub read-listed : (room : ℕ) (s : List ℕ) (n d : ℕ) → readOf room s ≡ refuses n d → MayRefuse s n d
 read-listed room s n d e = fault-listed (refuses-fault room s n d .0 e)

@@ -1,15 +1,15 @@
 -- The detail of a fault is a line of the text, or of 2 which required line is missing, or 0. Assumes nothing.
 use mathlib.Core.Path.{_≡_, refl, sym, _∙_, ap}
 use mathlib.Core.List.{List, [], _∷_}
-use mathlib.Core.Logic.{_⊎_, inl, inr}
+use mathlib.Core.Logic.{inl, inr}
 use Prim.Native.Nat.{ℕ, suc, _+_, _≤_}
 use native.Mathlib.Omega.{arith}
 use lib.ListN.{length, length-append}
-use Rattle.base.specs.Numbers.{line-missing}
 use Rattle.text.proofs.LinesLanguage.{one-lines}
 use Rattle.text.specs.Lines.{Lines}
 use Rattle.text.specs.Reading.{Reading, Meaning, EachLine, Says}
 use Rattle.listing.specs.Listing.{Format, Values, Fault}
+use Rattle.listing.specs.Refusals.{DetailOf}
 
 -- a text has no more lines than bytes, and each line says one thing
 pub lines-few : {s : List ℕ} {ls : List (List ℕ)} → Lines s ls → length ls ≤ length s
@@ -27,10 +27,6 @@ each-one R (l ∷ ls) (x ∷ xs) e = ap suc (each-one R ls xs (e .1))
 -- so a text says as many things as it has lines
 pub says-lines : {R : Reading} {s : List ℕ} {ms : List Meaning} {ls : List (List ℕ)} → Says R s ms → Lines s ls → length ms ≡ length ls
 says-lines {R} {s} {ms} t l = sym (each-one R (t .parts) ms (t .each)) ∙ ap length (sym (one-lines (t .lines)) ∙ one-lines l)
-
--- the detail d of a fault with number n, among so many lines: a line or 0; of 2 which of the required lines is missing
-abbrev pub DetailOf : ℕ → ℕ → ℕ → ℕ → Type 0
-DetailOf lines required n d = (d ≤ lines) ⊎ ((n ≡ line-missing) × (1 ≤ d) × (d ≤ required))
 
 pub fault-line : {F : Format} {End : Values F (F .required) → List (F .Entry) → ℕ → Type 0} {room : ℕ} {ms : List Meaning} {n d : ℕ} →
     Fault F End room ms n d → DetailOf (length ms) (length (F .required)) n d

@@ -11,10 +11,10 @@ use Rattle.listing.specs.Listing.{Format, Values, WrongLine, WrongEntry,
 
 module _ (F : Format) (End : Values F (F .required) → List (F .Entry) → ℕ → Type 0) (Line : ℕ → Type 0) (Last : ℕ → Type 0) where
   -- at a line, for a required line that is missing, or after the last line
-  pub data Drawn (lines n d : ℕ) : Type 0 where
-    at-line : Line n → 1 ≤ d → d ≤ lines → Drawn lines n d
-    missing : n ≡ line-missing → 1 ≤ d → d ≤ length (F .required) → Drawn lines n d
-    at-end : Last n → d ≡ 0 → Drawn lines n d
+  pub data DrawnAt (lines n d : ℕ) : Type 0 where
+    at-line : Line n → 1 ≤ d → d ≤ lines → DrawnAt lines n d
+    missing : n ≡ line-missing → 1 ≤ d → d ≤ length (F .required) → DrawnAt lines n d
+    at-end : Last n → d ≡ 0 → DrawnAt lines n d
 
   module _ (utf8 : Line not-utf8) (full : Line no-room)
       (wrong : (f : F .Required) (w : F .Word) (n : ℕ) → F .Wrong f w n → Line n)
@@ -33,11 +33,11 @@ module _ (F : Format) (End : Values F (F .required) → List (F .Entry) → ℕ 
     entry-draws room es (content m t) n (inl w) = bad (F .word m t) n w
     entry-draws room es (content m t) n (inr w) = rw (w .0) full
 
-    pub fault-drawn : {room : ℕ} {ms : List Meaning} {n d : ℕ} → Fault F End room ms n d → Drawn (length ms) n d
-    fault-drawn {n = n} (Fault.at-required before line after e p done f more rq vs b w) =
-        Drawn.at-line (line-draws f line n w) (omega (arith, p)) (omega (arith, ap length e, p, length-append before (line ∷ after)))
-    fault-drawn {room} {n = n} (Fault.at-entry before line after e p vs es b f w) =
-        Drawn.at-line (entry-draws room es line n w) (omega (arith, p)) (omega (arith, ap length e, p, length-append before (line ∷ after)))
-    fault-drawn (Fault.missing e done f more rq p vs b) =
-        Drawn.missing e (omega (arith, p)) (omega (arith, p, ap length rq, length-append done (f ∷ more)))
-    fault-drawn {n = n} (Fault.at-end e vs es b f w) = Drawn.at-end (end vs es n w) e
+    pub drawn-at : {room : ℕ} {ms : List Meaning} {n d : ℕ} → Fault F End room ms n d → DrawnAt (length ms) n d
+    drawn-at {n = n} (Fault.at-required before line after e p done f more rq vs b w) =
+        DrawnAt.at-line (line-draws f line n w) (omega (arith, p)) (omega (arith, ap length e, p, length-append before (line ∷ after)))
+    drawn-at {room} {n = n} (Fault.at-entry before line after e p vs es b f w) =
+        DrawnAt.at-line (entry-draws room es line n w) (omega (arith, p)) (omega (arith, ap length e, p, length-append before (line ∷ after)))
+    drawn-at (Fault.missing e done f more rq p vs b) =
+        DrawnAt.missing e (omega (arith, p)) (omega (arith, p, ap length rq, length-append done (f ∷ more)))
+    drawn-at {n = n} (Fault.at-end e vs es b f w) = DrawnAt.at-end (end vs es n w) e

@@ -1,4 +1,5 @@
--- The starred samples of document 01: one table in specs/samples/Samples.antt, one theorem in proofs/samples/Starred.antt.
+-- Samples, each table here under one theorem of proofs/samples: the starred ones of document 01 (Samples.antt, proofs/samples/Starred.antt),
+-- and others that tell apart what is easily exchanged.
 pub mod Samples
 pub mod Degrees
 pub mod Generators

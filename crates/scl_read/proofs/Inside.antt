@@ -12,7 +12,8 @@ use lib.Seq.{drop-set-lt, drop-append-seam}
 use borrow.Author.Tests.{ltb-true, ltb-false}
 use Rattle.base.specs.Said.{gives}
 use Rattle.base.specs.Tables.{over}
-use Rattle.listing.proofs.Details.{DetailOf, lines-few, says-lines, fault-line}
+use Rattle.listing.specs.Refusals.{DetailOf}
+use Rattle.listing.proofs.Details.{lines-few, says-lines, fault-line}
 use Rattle.scl.specs.Table.{ItemTable, itemTable, kindOf, centsOf, numerOf, denomAt, implicit, writtenAt}
 use Rattle.scl.specs.declared.Item.{Item}
 use Rattle.scl_tables.specs.Build.{afterList}

@@ -8,7 +8,7 @@ use lib.ListN.{length}
 use Rattle.base.specs.Said.{refuses}
 use Rattle.listing.specs.Refusals.{OneOf}
 use Rattle.listing.proofs.Details.{each-one}
-use Rattle.listing.proofs.Refusals.{Drawn, fault-drawn}
+use Rattle.listing.proofs.Refusals.{DrawnAt, drawn-at}
 use Rattle.scl.specs.declared.Item.{Item}
 use Rattle.text.specs.Reading.{strict}
 use Rattle.scl_read.specs.ItemText.{NoItem}
@@ -56,12 +56,12 @@ which (suc (suc (suc k))) a b = absurd (omega (arith, b))
 pub fault-listed : {s : List ℕ} {n d room : ℕ} → FaultText s n d room → MayRefuse s room n d
 fault-listed (FaultText.no-place e p) = MayRefuse.no-place e p refl
 fault-listed {s} {n} {d} (FaultText.at-lines places says t f) =
-    go (fault-drawn scale WrongEnd Line Last (inl refl) full wrong-line (λ w k. bad-line (w .token) k) wrong-end f)
+    go (drawn-at scale WrongEnd Line Last (inl refl) full wrong-line (λ w k. bad-line (w .token) k) wrong-end f)
   where
-    go : Drawn scale WrongEnd Line Last (length says) n d → MayRefuse s (suc places) n d
-    go (Drawn.at-line l a b) = MayRefuse.at-line l (t .parts) (t .lines) a (omega (arith, b, each-one strict (t .parts) says (t .each)))
-    go (Drawn.missing e a b) = MayRefuse.missing e (which d a b)
-    go (Drawn.at-end e p) = MayRefuse.at-end e p
+    go : DrawnAt scale WrongEnd Line Last (length says) n d → MayRefuse s (suc places) n d
+    go (DrawnAt.at-line l a b) = MayRefuse.at-line l (t .parts) (t .lines) a (omega (arith, b, each-one strict (t .parts) says (t .each)))
+    go (DrawnAt.missing e a b) = MayRefuse.missing e (which d a b)
+    go (DrawnAt.at-end e p) = MayRefuse.at-end e p
 
 pub read-listed : (room : ℕ) (s : List ℕ) (n d : ℕ) → readOf room s ≡ refuses n d → MayRefuse s room n d
 read-listed room s n d e = fault-listed (refuses-fault room s n d .0 e)

@@ -4,3 +4,4 @@ pub mod ItemText
 pub mod Steps
 pub mod Tokens
 pub mod Refusals
+pub mod EachSaid

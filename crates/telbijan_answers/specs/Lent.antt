@@ -1,5 +1,5 @@
 -- The lent tables of a scale in a contract: what stands behind the references, before the call and after it. An `ensures` says
--- `itemsBefore kind cents numer denom` and, of columns that the call may write, `itemsAfter ..`; so for the list. Assumes nothing.
+-- `columnsBefore kind cents numer denom` and, of columns that the call may write, `columnsAfter ..`; so for the list. Assumes nothing.
 use mathlib.Core.List.{List}
 use Prim.Native.Nat.{ℕ}
 use lib.IntN.{ℤ}
@@ -14,12 +14,12 @@ abbrev pub Column : Type 0 → Type 0
 Column A = Both (RefT (List A)) (RefT (List A))
 
 -- ---- items
-abbrev pub itemsBefore : Column ℕ → Column Float → Column ℕ → Column ℕ → ItemTable
-itemsBefore kind cents numer denom =
+abbrev pub columnsBefore : Column ℕ → Column Float → Column ℕ → Column ℕ → ItemTable
+columnsBefore kind cents numer denom =
     itemTable (now (kind .entry)) (now (cents .entry)) (now (numer .entry)) (now (denom .entry))
 
-abbrev pub itemsAfter : Column ℕ → Column Float → Column ℕ → Column ℕ → ItemTable
-itemsAfter kind cents numer denom = itemTable (now (kind .exit)) (now (cents .exit)) (now (numer .exit)) (now (denom .exit))
+abbrev pub columnsAfter : Column ℕ → Column Float → Column ℕ → Column ℕ → ItemTable
+columnsAfter kind cents numer denom = itemTable (now (kind .exit)) (now (cents .exit)) (now (numer .exit)) (now (denom .exit))
 
 -- ---- the sorted list
 abbrev pub listBefore : Column ℕ → Column Float → Column ℤ → ListTable

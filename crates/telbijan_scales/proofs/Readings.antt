@@ -2,24 +2,23 @@
 -- stored and lent; refused exactly for the earliest fault, whose number and detail are in the result, with everything as it was.
 -- Assumes nothing.
 use mathlib.Core.Path.{_≡_, refl, sym, _∙_, ap}
-use mathlib.Core.Bool.{true}
-use mathlib.Core.List.{List, _∷_}
-use Prim.Native.Nat.{ℕ, _^_, _+_, _≤_, _<_}
+use mathlib.Core.List.{List}
+use Prim.Native.Nat.{ℕ, _^_, _+_, _<_}
 use native.Mathlib.Omega.{arith}
 use lib.ListN.{length}
 use Rattle.base.specs.Said.{Said, gives, refuses}
-use Rattle.scl.specs.Table.{ItemTable, itemsIn, implicit, isItems}
+use Rattle.scl.specs.Table.{ItemTable, itemsIn, isItems}
 use Rattle.scl.specs.declared.Item.{Item}
-use Rattle.scl_tables.specs.Build.{afterList}
 use Rattle.scl_tables.specs.Room.{roomOf}
 use Rattle.sorted.specs.Lent.{ListTable, isList}
 use Rattle.sorting.specs.Entries.{Entry}
 use Rattle.text.specs.Part.{part}
 use Rattle.scl_read.specs.Language.{ScaleText, FaultText}
-use Rattle.scl_read.specs.Reader.{descriptionIn, scaleRead, readOf}
+use Rattle.scl_read.specs.Reader.{scaleRead, readOf}
 use Rattle.scl_read.specs.Refusals.{MayRefuse}
 use Rattle.scl_read.specs.declared.SclRead.{SclRead}
-use Rattle.scl_read.proofs.Inside.{description-inside, detail-small, behind, read-behind}
+use Rattle.scl_build.specs.Builder.{behind}
+use Rattle.scl_read.proofs.Inside.{description-inside, detail-small, read-behind}
 use Rattle.scl_read.proofs.Language.{accepts, accepted, refuses-fault, described}
 use Rattle.scl_read.proofs.Leaves.{leaves-items, leaves-list}
 use Rattle.scl_read.proofs.Numbers.{read-scl-numbered}
@@ -27,20 +26,7 @@ use Rattle.scl_read.proofs.Refusals.{fault-listed}
 use Rattle.telbijan_answers.specs.Interface.{result, kept, numberIn, detailIn}
 use Rattle.telbijan_answers.proofs.Interface.{zero-accepted, refused-back}
 use Rattle.telbijan_scales.specs.Calls.{ReadScl}
-
--- what an accepted call stores and leaves of a scale file: the count of its items; its description, as a part of the text; its items after
--- place 0, and its sorted list, both of which later calls take; behind them what was there
-pub record Leaves (text : List ℕ) (t : ItemTable) (l : ListTable) (d : List ℕ) (items : List Item) (list : List Entry)
-    (u : ItemTable) (m : ListTable) (new : SclRead) : Type 0 where
-  pub count : new .scl .count ≡ length items
-  pub starts : new .description .start ≤ new .description .end
-  pub ends : new .description .end ≤ length text
-  pub description : part text (new .description .start) (new .description .end) ≡ d
-  pub items-are : itemsIn (new .scl .count) u ≡ implicit ∷ items
-  pub items-used : isItems (new .scl .count) u ≡ true
-  pub items-behind : behind (length items + 1) u ≡ behind (length items + 1) t
-  pub list-is : m ≡ afterList (gives list) l
-  pub list-used : isList (new .scl .count) m ≡ true
+use Rattle.telbijan_scales.specs.Readings.{ReadLeaves}
 
 module _ (text : List ℕ) (t : ItemTable) (l : ListTable) (old : SclRead) (r : ℕ) (u : ItemTable) (m : ListTable) (new : SclRead)
     (c : ReadScl text t l old r u m new) where
@@ -70,7 +56,7 @@ module _ (text : List ℕ) (t : ItemTable) (l : ListTable) (old : SclRead) (r : 
 
   -- a text of the language that has room: result 0, and what is stored and lent is its reading
   pub language-call : {d : List ℕ} {items : List Item} {list : List Entry} → ScaleText text d items list → length items < roomOf t l →
-      (r ≡ 0) × Leaves text t l d items list u m new
+      (r ≡ 0) × ReadLeaves text t l d items list u m new
   language-call {d} {items} {list} s fits =
       let e = accepts (roomOf t l) text d items list .1 (s, fits) .0 in
       let is : new ≡ scaleRead (length items) text = c .3 ∙ ap (λ (x : Said SclRead). kept x old) e in
@@ -95,7 +81,7 @@ module _ (text : List ℕ) (t : ItemTable) (l : ListTable) (old : SclRead) (r : 
 
   -- ACCEPTED: the text is a scale file that has room, and what is stored and lent is its one reading
   pub accepted-call : r ≡ 0 → (d : List ℕ) × (items : List Item) × (list : List Entry) × ScaleText text d items list ×
-      (length items < roomOf t l) × Leaves text t l d items list u m new
+      (length items < roomOf t l) × ReadLeaves text t l d items list u m new
   accepted-call zero =
       let (x, e) = zero-accepted said (read-scl-numbered (roomOf t l) text) .0 (sym (c .0) ∙ zero) in
       let (d, list, s, fits, is) = accepted (roomOf t l) text x e in

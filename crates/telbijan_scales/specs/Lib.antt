@@ -1,2 +1,3 @@
 pub mod Generators
 pub mod Calls
+pub mod Readings

@@ -5,7 +5,7 @@ use pitch::Ratio;
 ghost use mathlib.Core.Path.{_≡_};
 ghost use Rattle.harmonics.specs.Harmonics.{madeHarmonics};
 ghost use Rattle.rank2.specs.Rank2.{madeRank2};
-ghost use Rattle.telbijan_answers.specs.Lent.{itemsBefore, itemsAfter, listBefore, listAfter};
+ghost use Rattle.telbijan_answers.specs.Lent.{columnsBefore, columnsAfter, listBefore, listAfter};
 ghost use Rattle.telbijan_scales.specs.Calls.{CreateScale};
 ghost use Rattle.telbijan_scales.specs.Generators.{segmentWith, divisionsWith};
 
@@ -52,10 +52,10 @@ pub extern "C" fn telbijan_create_harmonics_scale(
     count: &mut u16,
 ) -> u64
     ensures { λ r. ⌜ CreateScale
-        (madeHarmonics (itemsBefore kind cents numer denom) (listBefore place ratio wraps)
+        (madeHarmonics (columnsBefore kind cents numer denom) (listBefore place ratio wraps)
         (segmentWith otonal) start size (divisionsWith divided divisions))
-        (itemsBefore kind cents numer denom) (listBefore place ratio wraps) (now (count .entry))
-        r (itemsAfter kind cents numer denom) (listAfter place ratio wraps) (now (count .exit)) ⌝ }
+        (columnsBefore kind cents numer denom) (listBefore place ratio wraps) (now (count .entry))
+        r (columnsAfter kind cents numer denom) (listAfter place ratio wraps) (now (count .exit)) ⌝ }
 {
     let segment = segment_of(otonal);
     let into = divisions_of(divided, divisions);
@@ -95,9 +95,9 @@ pub extern "C" fn telbijan_create_rank2_temperament_scale(
     count: &mut u16,
 ) -> u64
     ensures { λ r. ⌜ CreateScale
-        (madeRank2 (itemsBefore kind cents numer denom) (listBefore place ratio wraps) generator positive negative period)
-        (itemsBefore kind cents numer denom) (listBefore place ratio wraps) (now (count .entry))
-        r (itemsAfter kind cents numer denom) (listAfter place ratio wraps) (now (count .exit)) ⌝ }
+        (madeRank2 (columnsBefore kind cents numer denom) (listBefore place ratio wraps) generator positive negative period)
+        (columnsBefore kind cents numer denom) (listBefore place ratio wraps) (now (count .entry))
+        r (columnsAfter kind cents numer denom) (listAfter place ratio wraps) (now (count .exit)) ⌝ }
 {
     let said = rank2::create_rank2_temperament_scale(
         Ratio(generator),

@@ -12,7 +12,7 @@ ghost use Rattle.scl.specs.declared.Item.the-variants.{Cents, Fraction};
 ghost use Rattle.scl_build.specs.Answers.{saysBuilder};
 ghost use Rattle.scl_read.specs.Reader.{saysRead};
 ghost use Rattle.telbijan_answers.specs.Calls.{Stored, StoredPart};
-ghost use Rattle.telbijan_answers.specs.Lent.{itemsBefore, itemsAfter, listBefore, listAfter};
+ghost use Rattle.telbijan_answers.specs.Lent.{columnsBefore, columnsAfter, listBefore, listAfter};
 ghost use Rattle.telbijan_scales.specs.Calls.{ItemAsRatio, readWith, ReadScl, NewScl, PushItem, PushRatio, BuildScl, ExportScl};
 
 // The ratio of an item, stored: 10 for an item that cannot be used, one of an unknown kind too.
@@ -68,9 +68,9 @@ pub extern "C" fn telbijan_read_scl(
     start: &mut usize,
     end: &mut usize,
 ) -> u64
-    ensures { λ r. ⌜ ReadScl (now (text .entry)) (itemsBefore kind cents numer denom) (listBefore place ratio wraps)
+    ensures { λ r. ⌜ ReadScl (now (text .entry)) (columnsBefore kind cents numer denom) (listBefore place ratio wraps)
         (readWith (now (count .entry)) (now (start .entry)) (now (end .entry)))
-        r (itemsAfter kind cents numer denom) (listAfter place ratio wraps)
+        r (columnsAfter kind cents numer denom) (listAfter place ratio wraps)
         (readWith (now (count .exit)) (now (start .exit)) (now (end .exit))) ⌝ }
 {
     let said = scl_read::read_scl(text, kind, cents, numer, denom, place, ratio, wraps);
@@ -104,8 +104,8 @@ pub extern "C" fn telbijan_new_scl(
     wraps: &[i32],
     room: &mut usize,
 ) -> u64
-    ensures { λ r. ⌜ NewScl (itemsBefore kind cents numer denom) (listBefore place ratio wraps) (now (room .entry))
-        r (itemsAfter kind cents numer denom) (now (room .exit)) ⌝ }
+    ensures { λ r. ⌜ NewScl (columnsBefore kind cents numer denom) (listBefore place ratio wraps) (now (room .entry))
+        r (columnsAfter kind cents numer denom) (now (room .exit)) ⌝ }
 {
     store_room(
         SclBuilder::new(kind, cents, numer, denom, place, ratio, wraps),
@@ -140,8 +140,8 @@ pub extern "C" fn telbijan_push_cents(
     value: f64,
     after: &mut usize,
 ) -> u64
-    ensures { λ r. ⌜ PushItem (Cents value) (itemsBefore kind cents numer denom) room count (now (after .entry))
-        r (itemsAfter kind cents numer denom) (now (after .exit)) ⌝ }
+    ensures { λ r. ⌜ PushItem (Cents value) (columnsBefore kind cents numer denom) room count (now (after .entry))
+        r (columnsAfter kind cents numer denom) (now (after .exit)) ⌝ }
 {
     let builder = SclBuilder { room, count };
     store_count(builder.push_cents(kind, cents, numer, denom, value), after)
@@ -159,8 +159,8 @@ pub extern "C" fn telbijan_push_ratio(
     value: f64,
     after: &mut usize,
 ) -> u64
-    ensures { λ r. ⌜ PushRatio value (itemsBefore kind cents numer denom) room count (now (after .entry))
-        r (itemsAfter kind cents numer denom) (now (after .exit)) ⌝ }
+    ensures { λ r. ⌜ PushRatio value (columnsBefore kind cents numer denom) room count (now (after .entry))
+        r (columnsAfter kind cents numer denom) (now (after .exit)) ⌝ }
 {
     let builder = SclBuilder { room, count };
     store_count(
@@ -181,8 +181,8 @@ pub extern "C" fn telbijan_push_int(
     value: u32,
     after: &mut usize,
 ) -> u64
-    ensures { λ r. ⌜ PushItem (Fraction value Lacking) (itemsBefore kind cents numer denom) room count (now (after .entry))
-        r (itemsAfter kind cents numer denom) (now (after .exit)) ⌝ }
+    ensures { λ r. ⌜ PushItem (Fraction value Lacking) (columnsBefore kind cents numer denom) room count (now (after .entry))
+        r (columnsAfter kind cents numer denom) (now (after .exit)) ⌝ }
 {
     let builder = SclBuilder { room, count };
     store_count(builder.push_int(kind, cents, numer, denom, value), after)
@@ -201,8 +201,8 @@ pub extern "C" fn telbijan_push_fraction(
     below: u32,
     after: &mut usize,
 ) -> u64
-    ensures { λ r. ⌜ PushItem (Fraction above (Given below)) (itemsBefore kind cents numer denom) room count (now (after .entry))
-        r (itemsAfter kind cents numer denom) (now (after .exit)) ⌝ }
+    ensures { λ r. ⌜ PushItem (Fraction above (Given below)) (columnsBefore kind cents numer denom) room count (now (after .entry))
+        r (columnsAfter kind cents numer denom) (now (after .exit)) ⌝ }
 {
     let builder = SclBuilder { room, count };
     store_count(
@@ -227,7 +227,7 @@ pub extern "C" fn telbijan_build_scl(
     count: usize,
     items: &mut u16,
 ) -> u64
-    ensures { λ r. ⌜ BuildScl (itemsBefore kind cents numer denom) (listBefore place ratio wraps) room count (now (items .entry))
+    ensures { λ r. ⌜ BuildScl (columnsBefore kind cents numer denom) (listBefore place ratio wraps) room count (now (items .entry))
         r (listAfter place ratio wraps) (now (items .exit)) ⌝ }
 {
     let builder = SclBuilder { room, count };
@@ -249,7 +249,7 @@ pub extern "C" fn telbijan_export_scl(
     out: &mut [u8],
     written: &mut usize,
 ) -> u64
-    ensures { λ r. ⌜ ExportScl (now (description .entry)) (itemsBefore kind cents numer denom) (record { count = count })
+    ensures { λ r. ⌜ ExportScl (now (description .entry)) (columnsBefore kind cents numer denom) (record { count = count })
         (now (out .entry)) (now (written .entry)) r (now (out .exit)) (now (written .exit)) ⌝ }
 {
     let scl = Scl { count };

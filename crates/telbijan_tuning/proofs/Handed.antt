@@ -6,11 +6,11 @@ use lib.Ieee.{Float}
 use Rattle.base.specs.Said.{Said}
 use Rattle.searching.specs.declared.approximation.Approximation.{Approximation}
 use Rattle.telbijan_answers.specs.Interface.{result, kept, fieldOf}
-use Rattle.telbijan_tuning.specs.Calls.{Searched}
+use Rattle.telbijan_tuning.specs.Calls.{SearchStored}
 
 pub handed-both :
     {X : Type 0} (says : X → Said Approximation) (x : X) {s : Said Approximation} {n : ℕ} {v : ℤ} {w : Float} (number : ℤ) (deviation : Float) →
-    says x ≡ s → Searched (says x) number deviation n v w → Searched s number deviation n v w
+    says x ≡ s → SearchStored (says x) number deviation n v w → SearchStored s number deviation n v w
 handed-both says x number deviation told e = (
   e .0 ∙ ap result told,
   e .1 ∙ ap (λ t. kept (fieldOf (λ a. a .«approx_value») t) number) told,

@@ -16,8 +16,8 @@ use Rattle.telbijan_answers.specs.Interface.{result}
 use Rattle.telbijan_answers.specs.Calls.{StoredTwo}
 
 -- what a search found, a degree or a key, and the deviation from it are stored
-abbrev pub Searched : Said Approximation → ℤ → Float → ℕ → ℤ → Float → Type 0
-Searched s old apart r found deviation = StoredTwo (λ a. a .«approx_value») (λ a. a .deviation) s old apart r found deviation
+abbrev pub SearchStored : Said Approximation → ℤ → Float → ℕ → ℤ → Float → Type 0
+SearchStored s old apart r found deviation = StoredTwo (λ a. a .«approx_value») (λ a. a .deviation) s old apart r found deviation
 
 -- of a scale of so many items and a mapping over its table, the pitches of a run of keys and their numbers are written
 abbrev pub PitchesOf : ℕ → ItemTable → Kbm → List ℤ → ℤ → ℕ → List Float → List ℕ → ℕ → List Float → List ℕ → Type 0

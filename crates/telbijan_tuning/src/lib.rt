@@ -8,7 +8,7 @@ use tuning::key_pitches::RunAnswer;
 ghost use Rattle.key.specs.Keys.{key};
 ghost use Rattle.tuning.specs.Run.{saysRun};
 ghost use Rattle.telbijan_answers.specs.Calls.{Answered, Stored};
-ghost use Rattle.telbijan_answers.specs.Lent.{itemsBefore, listBefore};
+ghost use Rattle.telbijan_answers.specs.Lent.{columnsBefore, listBefore};
 ghost use Rattle.telbijan_mappings.specs.Mappings.{rootWith, mappingWith};
 ghost use Rattle.telbijan_tuning.specs.Calls.{PitchesOf};
 ghost use Rattle.telbijan_tuning.specs.Tunings.{periodSaid, relativeSaid, sortedRelativeSaid, pitchSaid, keyPitchSaid};
@@ -24,7 +24,7 @@ pub extern "C" fn telbijan_period(
     count: u16,
     period: &mut f64,
 ) -> u64
-    ensures { λ r. ⌜ Stored (periodSaid count (itemsBefore kind cents numer denom)) (now (period .entry)) r (now (period .exit)) ⌝ }
+    ensures { λ r. ⌜ Stored (periodSaid count (columnsBefore kind cents numer denom)) (now (period .entry)) r (now (period .exit)) ⌝ }
 {
     let scl = Scl { count };
     telbijan_answers::store_ratio(relative::period(scl, kind, cents, numer, denom), period)
@@ -41,7 +41,7 @@ pub extern "C" fn telbijan_relative_pitch_of(
     degree: i32,
     relative: &mut f64,
 ) -> u64
-    ensures { λ r. ⌜ Stored (relativeSaid count (itemsBefore kind cents numer denom) degree)
+    ensures { λ r. ⌜ Stored (relativeSaid count (columnsBefore kind cents numer denom) degree)
         (now (relative .entry)) r (now (relative .exit)) ⌝ }
 {
     let scl = Scl { count };
@@ -65,7 +65,7 @@ pub extern "C" fn telbijan_sorted_relative_pitch_of(
     degree: i32,
     relative: &mut f64,
 ) -> u64
-    ensures { λ r. ⌜ Stored (sortedRelativeSaid count (itemsBefore kind cents numer denom) (listBefore place ratio wraps) degree)
+    ensures { λ r. ⌜ Stored (sortedRelativeSaid count (columnsBefore kind cents numer denom) (listBefore place ratio wraps) degree)
         (now (relative .entry)) r (now (relative .exit)) ⌝ }
 {
     let scl = Scl { count };
@@ -100,7 +100,7 @@ pub extern "C" fn telbijan_pitch_of(
     degree: i32,
     pitch: &mut f64,
 ) -> u64
-    ensures { λ r. ⌜ Stored (pitchSaid count (itemsBefore kind cents numer denom) (rootWith reference hz offset) degree)
+    ensures { λ r. ⌜ Stored (pitchSaid count (columnsBefore kind cents numer denom) (rootWith reference hz offset) degree)
         (now (pitch .entry)) r (now (pitch .exit)) ⌝ }
 {
     let scl = Scl { count };
@@ -126,7 +126,7 @@ pub extern "C" fn telbijan_pitch_of_key(
     number: i32,
     pitch: &mut f64,
 ) -> u64
-    ensures { λ r. ⌜ Stored (keyPitchSaid count (itemsBefore kind cents numer denom) (rootWith reference hz offset) (key number))
+    ensures { λ r. ⌜ Stored (keyPitchSaid count (columnsBefore kind cents numer denom) (rootWith reference hz offset) (key number))
         (now (pitch .entry)) r (now (pitch .exit)) ⌝ }
 {
     let scl = Scl { count };
@@ -154,7 +154,7 @@ pub extern "C" fn telbijan_sorted_pitch_of(
     degree: i32,
     pitch: &mut f64,
 ) -> u64
-    ensures { λ r. ⌜ Stored (sortedPitchSaid count (itemsBefore kind cents numer denom) (listBefore place ratio wraps)
+    ensures { λ r. ⌜ Stored (sortedPitchSaid count (columnsBefore kind cents numer denom) (listBefore place ratio wraps)
         (rootWith reference hz offset) degree) (now (pitch .entry)) r (now (pitch .exit)) ⌝ }
 {
     let scl = Scl { count };
@@ -196,7 +196,7 @@ pub extern "C" fn telbijan_maybe_pitch_of(
     number: i32,
     pitch: &mut f64,
 ) -> u64
-    ensures { λ r. ⌜ Stored (maybePitchSaid count (itemsBefore kind cents numer denom)
+    ensures { λ r. ⌜ Stored (maybePitchSaid count (columnsBefore kind cents numer denom)
         (mappingWith size start end reference hz offset octave) (now (map .entry)) (key number))
         (now (pitch .entry)) r (now (pitch .exit)) ⌝ }
 {
@@ -227,7 +227,7 @@ pub extern "C" fn telbijan_maybe_pitch_of_degree(
     degree: i32,
     pitch: &mut f64,
 ) -> u64
-    ensures { λ r. ⌜ Stored (maybeDegreePitchSaid count (itemsBefore kind cents numer denom)
+    ensures { λ r. ⌜ Stored (maybeDegreePitchSaid count (columnsBefore kind cents numer denom)
         (mappingWith size start end reference hz offset octave) (now (map .entry)) degree)
         (now (pitch .entry)) r (now (pitch .exit)) ⌝ }
 {
@@ -272,7 +272,7 @@ pub extern "C" fn telbijan_pitches_of(
     pitches: &mut [f64],
     numbers: &mut [u32],
 ) -> u64
-    ensures { λ r. ⌜ PitchesOf count (itemsBefore kind cents numer denom) (mappingWith size start end reference hz offset octave)
+    ensures { λ r. ⌜ PitchesOf count (columnsBefore kind cents numer denom) (mappingWith size start end reference hz offset octave)
         (now (map .entry)) first keys (now (pitches .entry)) (now (numbers .entry)) r (now (pitches .exit)) (now (numbers .exit)) ⌝ }
 {
     let scl = Scl { count };

@@ -5,14 +5,14 @@ use scl::Scl;
 use searching::approximation::DegreeSearch;
 use searching::approximation::KeySearch;
 ghost use Rattle.searching.specs.DegreeAnswers.{saysDegreeSearch, saysKeySearch};
-ghost use Rattle.telbijan_answers.specs.Lent.{itemsBefore, listBefore};
+ghost use Rattle.telbijan_answers.specs.Lent.{columnsBefore, listBefore};
 ghost use Rattle.telbijan_mappings.specs.Mappings.{rootWith};
-ghost use Rattle.telbijan_tuning.specs.Calls.{Searched};
+ghost use Rattle.telbijan_tuning.specs.Calls.{SearchStored};
 ghost use Rattle.telbijan_tuning.specs.Searches.{findSaid, findSortedSaid, findPitchSaid, findPitchSortedSaid, findKeySaid};
 
 // Stores the degree that was found, and the deviation.
 fn store_degree(answer: DegreeSearch, number: &mut i32, deviation: &mut f64) -> u64
-    ensures { λ r. ⌜ Searched (saysDegreeSearch answer)
+    ensures { λ r. ⌜ SearchStored (saysDegreeSearch answer)
         (now (number .entry)) (now (deviation .entry)) r (now (number .exit)) (now (deviation .exit)) ⌝ }
 {
     match answer {
@@ -29,7 +29,7 @@ fn store_degree(answer: DegreeSearch, number: &mut i32, deviation: &mut f64) -> 
 
 // Stores the key that was found, and the deviation.
 fn store_key(answer: KeySearch, number: &mut i32, deviation: &mut f64) -> u64
-    ensures { λ r. ⌜ Searched (saysKeySearch answer)
+    ensures { λ r. ⌜ SearchStored (saysKeySearch answer)
         (now (number .entry)) (now (deviation .entry)) r (now (number .exit)) (now (deviation .exit)) ⌝ }
 {
     match answer {
@@ -62,7 +62,7 @@ pub extern "C" fn telbijan_find_by_relative_pitch(
     degree: &mut i32,
     deviation: &mut f64,
 ) -> u64
-    ensures { λ r. ⌜ Searched (findSaid count (itemsBefore kind cents numer denom) (listBefore place ratio wraps) target)
+    ensures { λ r. ⌜ SearchStored (findSaid count (columnsBefore kind cents numer denom) (listBefore place ratio wraps) target)
         (now (degree .entry)) (now (deviation .entry)) r (now (degree .exit)) (now (deviation .exit)) ⌝ }
 {
     let scl = Scl { count };
@@ -98,7 +98,7 @@ pub extern "C" fn telbijan_find_by_relative_pitch_sorted(
     degree: &mut i32,
     deviation: &mut f64,
 ) -> u64
-    ensures { λ r. ⌜ Searched (findSortedSaid count (itemsBefore kind cents numer denom) (listBefore place ratio wraps) target)
+    ensures { λ r. ⌜ SearchStored (findSortedSaid count (columnsBefore kind cents numer denom) (listBefore place ratio wraps) target)
         (now (degree .entry)) (now (deviation .entry)) r (now (degree .exit)) (now (deviation .exit)) ⌝ }
 {
     let scl = Scl { count };
@@ -139,7 +139,7 @@ pub extern "C" fn telbijan_find_by_pitch(
     degree: &mut i32,
     deviation: &mut f64,
 ) -> u64
-    ensures { λ r. ⌜ Searched (findPitchSaid count (itemsBefore kind cents numer denom) (listBefore place ratio wraps)
+    ensures { λ r. ⌜ SearchStored (findPitchSaid count (columnsBefore kind cents numer denom) (listBefore place ratio wraps)
         (rootWith reference hz offset) pitch)
         (now (degree .entry)) (now (deviation .entry)) r (now (degree .exit)) (now (deviation .exit)) ⌝ }
 {
@@ -181,7 +181,7 @@ pub extern "C" fn telbijan_find_by_pitch_sorted(
     degree: &mut i32,
     deviation: &mut f64,
 ) -> u64
-    ensures { λ r. ⌜ Searched (findPitchSortedSaid count (itemsBefore kind cents numer denom) (listBefore place ratio wraps)
+    ensures { λ r. ⌜ SearchStored (findPitchSortedSaid count (columnsBefore kind cents numer denom) (listBefore place ratio wraps)
         (rootWith reference hz offset) pitch)
         (now (degree .entry)) (now (deviation .entry)) r (now (degree .exit)) (now (deviation .exit)) ⌝ }
 {
@@ -224,7 +224,7 @@ pub extern "C" fn telbijan_find_key_by_pitch(
     number: &mut i32,
     deviation: &mut f64,
 ) -> u64
-    ensures { λ r. ⌜ Searched (findKeySaid count (itemsBefore kind cents numer denom) (listBefore place ratio wraps)
+    ensures { λ r. ⌜ SearchStored (findKeySaid count (columnsBefore kind cents numer denom) (listBefore place ratio wraps)
         (rootWith reference hz offset) pitch)
         (now (number .entry)) (now (deviation .entry)) r (now (number .exit)) (now (deviation .exit)) ⌝ }
 {

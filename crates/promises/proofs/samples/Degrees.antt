@@ -9,9 +9,9 @@ use Rattle.explog.specs.Root.{root, rootFrom}
 use Rattle.explog.specs.Rules.{E, L, floorOf, timesPower, powerOf, logOf, logAt, octavesOf}
 use Rattle.scl_tables.specs.Build.{sortedOf}
 use Rattle.searching.specs.Search.{chosenOf, nearestOf, searchOf}
-use Rattle.promises.specs.samples.Degrees.{Degrees}
+use Rattle.promises.specs.samples.Degrees.{DegreeSamples}
 
-pub degrees : Degrees
+pub degrees : DegreeSamples
 unfolding sortedOf searchOf chosenOf nearestOf held le lt eq neg add sub mul div rem round size ofBits ofFields odd climb span ofInt toSigned trunc abs tOf pOf bOf yOf root rootFrom E L floorOf timesPower powerOf logOf logAt octavesOf
 degrees = record {
   downward-sorted = refl;

@@ -10,9 +10,9 @@ use Rattle.generate.specs.Generated.{itemsFrom}
 use Rattle.harmonics.specs.Segment.{harmonicOf}
 use Rattle.rank2.specs.Notes.{ratiosFrom}
 use Rattle.rank2.specs.Rank2.{ascendingRatios, pushedAs}
-use Rattle.promises.specs.samples.Generators.{Generators}
+use Rattle.promises.specs.samples.Generators.{GeneratorSamples}
 
-pub generators : Generators
+pub generators : GeneratorSamples
 unfolding itemsFrom harmonicOf ratiosFrom ascendingRatios pushedAs le lt eq neg add sub mul div rem round size ofBits ofFields odd climb span ofInt toUnsigned trunc abs floor tOf pOf bOf yOf root rootFrom E L floorOf timesPower powerOf logOf logAt octavesOf
 generators = record {
   rank-two = refl;

@@ -101,7 +101,8 @@ record Noted (ls : List (List ℕ)) (ps : List P.Pitch) : Type 0 where
   are : Entries scale words items
   same : AllSame ps items
 
-notes : (ls : List (List ℕ)) (ps : List P.Pitch) → AllUtf8 ls → (v : P.PitchLines ls ps) → AllApart ls ps v → AllWithin ls ps v → Noted ls ps
+notes : (ls : List (List ℕ)) (ps : List P.Pitch) → AllUtf8 ls → (v : P.PitchLines ls ps) → AllApart ls ps v → AllWithin ls ps v →
+    Noted ls ps
 notes [] [] u v a w = record { words = []; items = []; say = tt; are = tt; same = tt }
 notes [] (p ∷ ps) u v a w = absurd v
 notes (l ∷ ls) [] u v a w = absurd v

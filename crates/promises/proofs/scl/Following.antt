@@ -91,8 +91,9 @@ cents-free {t} {minus} x = go (x .writes)
   where
     body : Free 47 (x .whole ++ 46 ∷ x .part)
     body =
+        let whole = free-digits 47 (x .whole) (omega arith) (x .first) in
         let part = free-digits 47 (x .part) (omega arith) (x .second) in
-        each-append (λ c. c ≡ 47 → ⊥) (x .whole) (46 ∷ x .part) (free-digits 47 (x .whole) (omega arith) (x .first)) (λ f. omega (arith, f), part)
+        each-append (λ c. c ≡ 47 → ⊥) (x .whole) (46 ∷ x .part) whole (λ f. omega (arith, f), part)
 
     go : Writes t minus (x .whole) (x .part) → Free 47 t
     go (inl e) = subst (Free 47) (sym (e .1)) body

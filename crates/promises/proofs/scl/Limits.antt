@@ -76,7 +76,8 @@ ratio-within n d (Fraction p q) s h = (omega (arith, s .0, h .0), omega (arith, 
 
 value-within : {t : List ℕ} {p : P.Pitch} (i : Item) (v : P.PitchText t p) → ItemText t i → ValueWithin v
 value-within i (P.PitchText.cents x) y = cents-within x i (value-agrees (P.PitchText.cents x) y) y
-value-within i (P.PitchText.ratio a b n d e x z p q) y = ratio-within n d i (value-agrees (P.PitchText.ratio a b n d e x z p q) y) (item-held y)
+value-within i (P.PitchText.ratio a b n d e x z p q) y =
+    ratio-within n d i (value-agrees (P.PitchText.ratio a b n d e x z p q) y) (item-held y)
 value-within i (P.PitchText.whole n x p) y = ratio-within n 1 i (value-agrees (P.PitchText.whole n x p) y) (item-held y) .0
 
 values-within : (ls : List (List ℕ)) (ps : List P.Pitch) (ws : List ContentLine) (is : List Item) (v : P.PitchLines ls ps) → AllSay ls ws → Entries scale ws is → AllWithin ls ps v

@@ -71,7 +71,7 @@ semitoneList = entry 0 one (pos 0) ∷ upper ∷ []
 abbrev pub nearCents : ℕ → Said Found
 nearCents n = andThen (fromCents (round binary64 false n 10000)) (nearestOf semitoneList (pos 0))
 
-pub record Degrees : Type 0 where
+pub record DegreeSamples : Type 0 where
   -- "override of the period's entry" for a period below 1; 0.9 has the declared degree 1 and the ascending one 3
   pub downward-sorted : sortedOf downward ≡ gives downwardList
   pub downward-found : searchOf downward downwardList (round binary64 false 9 10) ≡ gives downwardFound

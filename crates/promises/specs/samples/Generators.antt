@@ -43,7 +43,7 @@ abbrev pub fractionsUnder : ℕ → List ℕ → List Item
 fractionsUnder numer [] = []
 fractionsUnder numer (d ∷ ds) = Fraction numer (Given d) ∷ fractionsUnder numer ds
 
-pub record Generators : Type 0 where
+pub record GeneratorSamples : Type 0 where
   -- generator 1.5, twice up and once down, period 0.5: "sorted ascending", so the highest note and not the period comes last
   pub rank-two : temperamentOf fifth 2 1 half ≡ gives ascendingNotes
   -- harmonics 27 to 54 divided into 12: the first item is 29/27
