@@ -21,10 +21,10 @@ const FLAT: [Push; 2] = [Int(3), Cents(0.0)];
 
 fn push(builder: &mut Builder, item: Push) -> (&'static str, Result<(), Refusal>) {
     match item {
-        Cents(x) => ("push_cents", builder.push_cents(x)),
-        Ratio(x) => ("push_ratio", builder.push_ratio(x)),
-        Int(x) => ("push_int", builder.push_int(x)),
-        Fraction(x, y) => ("push_fraction", builder.push_fraction(x, y)),
+        Cents(x) => ("Builder::push_cents", builder.push_cents(x)),
+        Ratio(x) => ("Builder::push_ratio", builder.push_ratio(x)),
+        Int(x) => ("Builder::push_int", builder.push_int(x)),
+        Fraction(x, y) => ("Builder::push_fraction", builder.push_fraction(x, y)),
     }
 }
 
@@ -43,7 +43,7 @@ fn build(seen: &mut Tally, n: Lengths, pushes: &[Push], built: bool) {
     let (mut ours, mut theirs, mut room, mut count, mut items) = (Memory::new(), Memory::new(), 7, 0, 8);
     let result = columns!(telbijan_new_scl, (), theirs, n, &mut room);
     let builder = ours.lend(n).builder();
-    if !seen.agree("builder", builder.as_ref().map(|_| ()).map_err(|&x| x), result, ()) {
+    if !seen.agree("Columns::builder", builder.as_ref().map(|_| ()).map_err(|&x| x), result, ()) {
         drop(builder);
         return same(&ours, &theirs, &Memory::new(), false);
     }
@@ -56,7 +56,7 @@ fn build(seen: &mut Tally, n: Lengths, pushes: &[Push], built: bool) {
     }
     if built {
         let result = columns!(telbijan_build_scl, (), theirs, n, room, count, &mut items);
-        seen.agree("build", builder.build().map(|(_, count)| count), result, items);
+        seen.agree("Builder::build", builder.build().map(|(_, count)| count), result, items);
     }
     assert_eq!(ours.bits(), theirs.bits());
 }

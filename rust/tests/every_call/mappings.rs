@@ -71,7 +71,7 @@ fn degrees() {
             let result = unsafe {
                 raw::telbijan_scale_degree_of(map.as_ptr(), places, n.count, n.start, n.end, n.root.reference, n.root.hz, n.root.offset, n.octave, key, &mut degree)
             };
-            seen.agree("degree_of", MappingRef { map: &map[..places], numbers: n }.degree_of(key), result, degree);
+            seen.agree("MappingRef::degree_of", MappingRef { map: &map[..places], numbers: n }.degree_of(key), result, degree);
         }
     }
     seen.done(1);
@@ -91,7 +91,7 @@ fn exports() {
             };
             let mapping = MappingRef { map: &map[..places], numbers: n };
             assert_eq!(mapping.room_for_export(), 73 + 7 * usize::from(n.count));
-            let accepted = seen.agree("export", mapping.export(&mut out[..room]), result, written);
+            let accepted = seen.agree("MappingRef::export", mapping.export(&mut out[..room]), result, written);
             assert_eq!(out, text);
             assert!(accepted || out == [b'#'; 64]);
         }
@@ -105,7 +105,7 @@ fn build(seen: &mut Tally, places: usize, root: Root, entries: &[Option<i16>], o
     // Safety: no memory is lent.
     let result = unsafe { raw::telbijan_kbm_root(root.reference, root.hz, root.offset) };
     let builder = MappingBuilder::new(&mut ours[..places], root, -3..99);
-    if !seen.agree("new", builder.as_ref().map(|_| ()).map_err(|&x| x), result, ()) {
+    if !seen.agree("MappingBuilder::new", builder.as_ref().map(|_| ()).map_err(|&x| x), result, ()) {
         return assert_eq!(ours, theirs);
     }
     let (mut builder, map) = (builder.unwrap(), theirs.as_mut_ptr());
@@ -119,8 +119,8 @@ fn build(seen: &mut Tally, places: usize, root: Root, entries: &[Option<i16>], o
             }
         };
         let accepted = match entry {
-            Some(degree) => seen.agree("push", builder.push(degree), result, ()),
-            None => seen.agree("push_unmapped", builder.push_unmapped(), result, ()),
+            Some(degree) => seen.agree("MappingBuilder::push", builder.push(degree), result, ()),
+            None => seen.agree("MappingBuilder::push_unmapped", builder.push_unmapped(), result, ()),
         };
         assert_eq!(accepted, format!("{builder:?}") != before);
     }
@@ -131,7 +131,7 @@ fn build(seen: &mut Tally, places: usize, root: Root, entries: &[Option<i16>], o
     };
     let built = builder.build(octave);
     assert!(built.is_err() || built.is_ok_and(|built| built.map == &theirs[..places]));
-    seen.agree("build", built.map(|built| built.numbers), result, n);
+    seen.agree("MappingBuilder::build", built.map(|built| built.numbers), result, n);
     assert_eq!(ours, theirs);
 }
 

@@ -24,9 +24,16 @@ fn owned(scale: Result<Scale, Refusal>) -> Result<String, Refusal> {
     scale.map(|scale| held(scale.view()))
 }
 
+/// How often answers were accepted, and how often refused.
+fn sides<T>(answers: impl IntoIterator<Item = Result<T, Refusal>>) -> [u32; 2] {
+    answers.into_iter().fold([0, 0], |[accepted, refused], x| if x.is_ok() { [accepted + 1, refused] } else { [accepted, refused + 1] })
+}
+
 #[test]
 fn scales_read() {
-    for text in [MIXED, ONE, NONE, b"d\n1\n2/1", b"d\n2\n3/2\n", b"", b"d\n1\n3/\n", b"\xff"] {
+    let texts = [MIXED, ONE, NONE, b"d\n1\n2/1", b"d\n2\n3/2\n", b"", b"d\n1\n3/\n", b"\xff"];
+    counted("Scale::read", sides(texts.map(Scale::read)));
+    for text in texts {
         let lines = text.iter().filter(|&&b| b == b'\n').count();
         // where it is accepted, it keeps the places of its items alone
         let room = Scale::read(text).map_or(lines + 2, |scale| usize::from(scale.view().count()) + 1);
@@ -38,21 +45,20 @@ fn scales_read() {
 
 #[test]
 fn scales_computed() {
-    let [mut harmonics, mut rank2] = [[0, 0]; 2];
-    for (otonal, start, size, divisions) in [(true, 8, 5, None), (false, 9, 4, None), (false, 3, 7, Some(4)), (true, 9, 4, Some(0)), (true, 0, 5, None)] {
+    let segments = [(true, 8, 5, None), (false, 9, 4, None), (false, 3, 7, Some(4)), (true, 9, 4, Some(0)), (true, 0, 5, None)];
+    counted("Scale::harmonics", sides(segments.map(|(otonal, start, size, divisions)| Scale::harmonics(otonal, start, size, divisions))));
+    for (otonal, start, size, divisions) in segments {
         let room = usize::from(divisions.unwrap_or(size)) + 1;
-        harmonics[usize::from(Scale::harmonics(otonal, start, size, divisions).is_err())] += 1;
         assert_eq!(owned(Scale::harmonics(otonal, start, size, divisions)), lent(room, |columns| columns.create_harmonics(otonal, start, size, divisions)));
     }
     assert_eq!(Scale::harmonics(true, 8, 5, None).unwrap().view().count(), 5);
-    for (generator, positive, negative, period) in [(1.5, 5, 1, 2.0), (1.25, 2, 3, 3.0), (1.5, 2, 1, 1.0), (1.5, 65_535, 1, 2.0)] {
+    let temperaments = [(1.5, 5, 1, 2.0), (1.25, 2, 3, 3.0), (1.5, 2, 1, 1.0), (1.5, 65_535, 1, 2.0)];
+    counted("Scale::rank2", sides(temperaments.map(|(generator, positive, negative, period)| Scale::rank2(generator, positive, negative, period))));
+    for (generator, positive, negative, period) in temperaments {
         let room = usize::from(positive) + usize::from(negative) + 2;
-        rank2[usize::from(Scale::rank2(generator, positive, negative, period).is_err())] += 1;
         assert_eq!(owned(Scale::rank2(generator, positive, negative, period)), lent(room, |columns| columns.create_rank2(generator, positive, negative, period)));
     }
     assert_eq!(Scale::rank2(1.25, 2, 3, 3.0).unwrap().view().count(), 6);
-    counted("harmonics", harmonics);
-    counted("rank2", rank2);
 }
 
 #[test]
@@ -64,6 +70,7 @@ fn scales_built_and_written() {
             b.push_int(2)
         })
     };
+    counted("Scale::build", sides([scale(2), scale(3)]));
     assert_eq!(owned(scale(3)), lent(4, |columns| Ok(columns.read(b"d\n3\n3/2\n0.0625\n2\n")?.0)));
     assert_eq!(scale(2).unwrap_err().number(), 12);
     assert_eq!(Scale::build(2, |b| b.push_int(3).and(b.push_cents(0.0))).unwrap_err().number(), 18);
@@ -74,7 +81,9 @@ fn scales_built_and_written() {
 
 #[test]
 fn mappings_read_and_written() {
-    for text in [GAPS, LINEAR, b"", b"1\n0\n127\n60\n60\n440.0\n12\n0\n1\n"] {
+    let texts = [GAPS, LINEAR, b"", b"1\n0\n127\n60\n60\n440.0\n12\n0\n1\n"];
+    counted("Mapping::read", sides(texts.map(Mapping::read)));
+    for text in texts {
         let (mut map, owned) = (vec![0; 65_535], Mapping::read(text));
         match read_mapping(text, &mut map) {
             Ok(n) => {
@@ -87,6 +96,7 @@ fn mappings_read_and_written() {
     assert_eq!(Mapping::read(GAPS).unwrap().export().unwrap(), "5\n3\n90\n61\n58\n431.500\n7\n0\nx\n-2\n6\nx\n");
     let outside = Mapping::build(0, Root { reference: 1, hz: 440.0, offset: i32::MAX }, 0..128, None, |_| Ok(())).unwrap();
     assert_eq!(outside.export().unwrap_err().number(), 11);
+    counted("Mapping::export", sides([Mapping::read(GAPS).unwrap().export(), outside.export()]));
 }
 
 #[test]
@@ -98,6 +108,7 @@ fn mappings_built() {
     fill(&mut builder).unwrap();
     let lent = builder.build(Some(-31)).unwrap();
     assert_eq!((built.view().map, built.view().numbers), (lent.map, lent.numbers));
+    counted("Mapping::build", sides([2, 1].map(|entries| Mapping::build(entries, root, -3..99, Some(-31), fill))));
     assert_eq!(Mapping::build(9, root, -3..99, Some(-31), fill).unwrap().view().map, lent.map);
     assert_eq!(Mapping::build(1, root, -3..99, Some(-31), fill).unwrap_err().number(), 12);
     assert_eq!(Mapping::build(2, root, -3..99, None, fill).unwrap_err().number(), 15);

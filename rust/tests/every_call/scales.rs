@@ -34,7 +34,7 @@ fn reads() {
         for n in lengths(items + 1) {
             let (mut ours, mut theirs, mut count, mut start, mut end) = (Memory::new(), Memory::new(), 7, 8, 9);
             let result = columns!(telbijan_read_scl, (text.as_ptr(), text.len()), theirs, n, &mut count, &mut start, &mut end);
-            let accepted = seen.agree("read", ours.lend(n).read(text), result, (count, start..end));
+            let accepted = seen.agree("Columns::read", ours.lend(n).read(text), result, (count, start..end));
             same(&ours, &theirs, &Memory::new(), accepted);
         }
     }
@@ -50,7 +50,7 @@ fn harmonics() {
             let (mut ours, mut theirs, mut count) = (Memory::new(), Memory::new(), 7);
             let first = (divisions.is_some(), divisions.unwrap_or(0));
             let result = columns!(telbijan_create_harmonics_scale, (otonal, start, size, first.0, first.1), theirs, n, &mut count);
-            let accepted = seen.agree("create_harmonics", ours.lend(n).create_harmonics(otonal, start, size, divisions), result, count);
+            let accepted = seen.agree("Columns::create_harmonics", ours.lend(n).create_harmonics(otonal, start, size, divisions), result, count);
             same(&ours, &theirs, &Memory::new(), accepted);
         }
     }
@@ -65,7 +65,7 @@ fn rank2() {
         for n in lengths(8) {
             let (mut ours, mut theirs, mut count) = (Memory::new(), Memory::new(), 7);
             let result = columns!(telbijan_create_rank2_temperament_scale, (generator, positive, negative, period), theirs, n, &mut count);
-            let accepted = seen.agree("create_rank2", ours.lend(n).create_rank2(generator, positive, negative, period), result, count);
+            let accepted = seen.agree("Columns::create_rank2", ours.lend(n).create_rank2(generator, positive, negative, period), result, count);
             same(&ours, &theirs, &Memory::new(), accepted);
         }
     }
@@ -81,19 +81,19 @@ fn relative_pitches() {
         let scale = lent.scale(count);
         assert_eq!(scale.count(), count);
         let result = items!(telbijan_period, theirs, n, count, &mut x);
-        seen.agree("period", scale.period(), result, x);
+        seen.agree("ScaleRef::period", scale.period(), result, x);
         for degree in [-8, -1, 0, 1, 2, 3, 4, 5, 6, 13, i32::MAX] {
             let result = items!(telbijan_relative_pitch_of, theirs, n, count, degree, &mut x);
-            seen.agree("relative_pitch_of", scale.relative_pitch_of(degree), result, x);
+            seen.agree("ScaleRef::relative_pitch_of", scale.relative_pitch_of(degree), result, x);
             let result = columns!(telbijan_sorted_relative_pitch_of, (), theirs, n, count, degree, &mut x);
-            seen.agree("sorted_relative_pitch_of", scale.sorted_relative_pitch_of(degree), result, x);
+            seen.agree("ScaleRef::sorted_relative_pitch_of", scale.sorted_relative_pitch_of(degree), result, x);
         }
         for target in [3.1, 0.7, 1.2, 1.0, 1.4999999, 2e20, -1.0] {
             let mut found = Found { number: 7, deviation: 8.0 };
             let result = columns!(telbijan_find_by_relative_pitch, (), theirs, n, count, target, &mut found.number, &mut found.deviation);
-            seen.agree("find", scale.find(target), result, found);
+            seen.agree("ScaleRef::find", scale.find(target), result, found);
             let result = columns!(telbijan_find_by_relative_pitch_sorted, (), theirs, n, count, target, &mut found.number, &mut found.deviation);
-            seen.agree("find_sorted", scale.find_sorted(target), result, found);
+            seen.agree("ScaleRef::find_sorted", scale.find_sorted(target), result, found);
         }
     }
     seen.done(5);
@@ -110,11 +110,11 @@ fn pitches() {
             let Root { reference, hz, offset } = root;
             for number in [-8, 0, 1, 2, 5, 13, 60, i32::MAX] {
                 let result = items!(telbijan_pitch_of, theirs, n, count, reference, hz, offset, number, &mut x);
-                seen.agree("pitch_of", scale.pitch_of(root, number), result, x);
+                seen.agree("ScaleRef::pitch_of", scale.pitch_of(root, number), result, x);
                 let result = items!(telbijan_pitch_of_key, theirs, n, count, reference, hz, offset, number, &mut x);
-                seen.agree("pitch_of_key", scale.pitch_of_key(root, number), result, x);
+                seen.agree("ScaleRef::pitch_of_key", scale.pitch_of_key(root, number), result, x);
                 let result = columns!(telbijan_sorted_pitch_of, (), theirs, n, count, reference, hz, offset, number, &mut x);
-                seen.agree("sorted_pitch_of", scale.sorted_pitch_of(root, number), result, x);
+                seen.agree("ScaleRef::sorted_pitch_of", scale.sorted_pitch_of(root, number), result, x);
             }
         }
     }
@@ -132,11 +132,11 @@ fn searches() {
             let Root { reference, hz, offset } = root;
             let mut found = Found { number: 7, deviation: 8.0 };
             let result = columns!(telbijan_find_by_pitch, (), theirs, n, count, reference, hz, offset, target, &mut found.number, &mut found.deviation);
-            seen.agree("find_by_pitch", scale.find_by_pitch(root, target), result, found);
+            seen.agree("ScaleRef::find_by_pitch", scale.find_by_pitch(root, target), result, found);
             let result = columns!(telbijan_find_by_pitch_sorted, (), theirs, n, count, reference, hz, offset, target, &mut found.number, &mut found.deviation);
-            seen.agree("find_by_pitch_sorted", scale.find_by_pitch_sorted(root, target), result, found);
+            seen.agree("ScaleRef::find_by_pitch_sorted", scale.find_by_pitch_sorted(root, target), result, found);
             let result = columns!(telbijan_find_key_by_pitch, (), theirs, n, count, reference, hz, offset, target, &mut found.number, &mut found.deviation);
-            seen.agree("find_key_by_pitch", scale.find_key_by_pitch(root, target), result, found);
+            seen.agree("ScaleRef::find_key_by_pitch", scale.find_key_by_pitch(root, target), result, found);
         }
     }
     seen.done(3);
@@ -158,7 +158,7 @@ fn exports() {
                     theirs.denom.as_mut_ptr(), n[3], count, text.as_mut_ptr(), room, &mut written,
                 )
             };
-            let accepted = seen.agree("export", lent.scale(count).export(said, &mut out[..room]), result, written);
+            let accepted = seen.agree("ScaleRef::export", lent.scale(count).export(said, &mut out[..room]), result, written);
             assert_eq!(out, text);
             assert!(accepted || out == [b'#'; 64]);
         }

@@ -40,9 +40,9 @@ fn pitches() {
         let tuning = Tuning { scale: lent.scale(count), mapping: MappingRef { map: &map, numbers: n } };
         for number in [-5, -1, 0, 2, 3, 4, 57, 58, 59, 60, 63, 90, 127, i32::MIN, i32::MAX] {
             let result = mapped!(telbijan_maybe_pitch_of, theirs, lengths, count, map, n, number, &mut x);
-            seen.agree("pitch_of", tuning.pitch_of(number), result, x);
+            seen.agree("Tuning::pitch_of", tuning.pitch_of(number), result, x);
             let result = mapped!(telbijan_maybe_pitch_of_degree, theirs, lengths, count, map, n, number, &mut x);
-            seen.agree("pitch_of_degree", tuning.pitch_of_degree(number), result, x);
+            seen.agree("Tuning::pitch_of_degree", tuning.pitch_of_degree(number), result, x);
         }
     }
     seen.done(2);
@@ -61,7 +61,7 @@ fn runs_of_keys() {
             let result = mapped!(
                 telbijan_pitches_of, theirs, lengths, count, map, n, first, keys as u32, their_hz.as_mut_ptr(), keys, their_numbers.as_mut_ptr(), beside
             );
-            let accepted = seen.agree("pitches_of", tuning.pitches_of(first, &mut hz[..keys], &mut numbers[..beside]), result, ());
+            let accepted = seen.agree("Tuning::pitches_of", tuning.pitches_of(first, &mut hz[..keys], &mut numbers[..beside]), result, ());
             assert_eq!((hz.map(f64::to_bits), numbers), (their_hz.map(f64::to_bits), their_numbers));
             assert!(accepted || (hz, numbers) == ([0.5; PLACES], [77; PLACES]));
         }
