@@ -2,3 +2,4 @@ pub mod Theorems
 pub mod Numbers
 pub mod Handed
 pub mod Details
+pub mod Samples

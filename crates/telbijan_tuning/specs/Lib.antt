@@ -1,3 +1,4 @@
 pub mod Tunings
 pub mod Searches
 pub mod Calls
+pub mod Samples
