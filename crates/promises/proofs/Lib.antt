@@ -3,4 +3,3 @@ pub mod scl
 pub mod tuning
 pub mod samples
 pub mod equal_steps
-pub mod calls

@@ -1,0 +1,3 @@
+pub mod ReadDegree
+pub mod ExportRead
+pub mod ReadExport

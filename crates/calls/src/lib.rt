@@ -1,0 +1,1 @@
+// Calls for C, one after another: what the contracts of two of them say together. Theorems alone.

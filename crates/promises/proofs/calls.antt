@@ -1,4 +1,0 @@
--- Calls for C, one after another: what the contracts of two of them say together.
-pub mod ReadDegree
-pub mod ExportRead
-pub mod ReadExport
