@@ -25,7 +25,7 @@ pow-least : (N p q : ℕ) → Le N 1 q 0 p → (t : ℕ) → Le N t (q ^ t) 0 (p
 pow-least N p q f zero = rw (pow-zero p, pow-zero q) (record { le = le-refl _ })
 pow-least N p q f (suc t) = rw (pow-suc p t, pow-suc q t) (subst (λ (x : ℕ). Le N x (q ^ t * q) 0 (p ^ t * p)) (add-one t) (le-mul (pow-least N p q f t) f))
 
-bern-low : (W u t : ℕ) → (W + t * u) * W ^ t ≤ (W + u) ^ t * W
+pub bern-low : (W u t : ℕ) → (W + t * u) * W ^ t ≤ (W + u) ^ t * W
 bern-low W u zero = rw (pow-zero W, pow-zero (W + u)) (omega arith)
 bern-low W u (suc t) = rw (pow-suc W t, pow-suc (W + u) t) (omega (arith, mul-le-mul-right (W + u) (bern-low W u t)))
 
@@ -81,7 +81,7 @@ module _ (M N B z y c : ℕ) (pos : 0 < M) (nz : N ≢ 0) (sum : N + c ≡ M + 1
   inside : (b : ℕ) → Le N b (M + 2) 0 y → Le N 0 (y * M + 1) (b + 1) (M * M) → B ≡ b
   inside b f g = le-antisymm (at-most b g) (at-least b f)
 
-not-zero : (n : ℕ) → 0 < n → n ≢ 0
+pub not-zero : (n : ℕ) → 0 < n → n ≢ 0
 not-zero n h = omega arith
 
 -- L's 52 bits of y are b where y, in parts of 2 ^ 62, lies from 2 ^ (b / 2 ^ 52) * (1 + 2 / 2 ^ 62) up to below 2 ^ ((b + 1) / 2 ^ 52): the 52

@@ -1,5 +1,5 @@
 -- E on natural numbers alone is E as the rules have it. Assumes nothing.
-use mathlib.Core.Path.{_≡_, refl, sym, ap, _∙_}
+use mathlib.Core.Path.{_≡_, refl, sym, ap, _∙_, subst}
 use mathlib.Core.Bool.{Bool, true, false}
 use Prim.Native.Nat.{ℕ, zero, suc, _+_, _-_, _*_, _/_, _%_, _^_, _≤_, _<_}
 use native.Mathlib.Nat.{le-trans, le-of-eq, add-comm, add-mul, suc-mul, mul-comm, mul-assoc, mul-right-comm, mul-one, mul-sub, mul-div-cancel, div-add-mod', mod-lt, zero-div, le-of-mul-le-mul-right, mul-le-mul-right, div-lt-iff-lt-mul}
@@ -52,7 +52,7 @@ same-floor true Q A D u M p q e =
     ∙ sym (mul-sub D (Q * M) u) ∙ mul-comm D (Q * M - u))
 
 -- ---- the power
-split : (f : ℤ) (F : ℕ) → Diff f F (2 ^ 62) → Diff (floorDiv f (2 ^ 52)) (F / 2 ^ 52) 1024 × (floorMod f (2 ^ 52) ≡ F % 2 ^ 52)
+pub split : (f : ℤ) (F : ℕ) → Diff f F (2 ^ 62) → Diff (floorDiv f (2 ^ 52)) (F / 2 ^ 52) 1024 × (floorMod f (2 ^ 52) ≡ F % 2 ^ 52)
 split (pos a) F h = (omega arith, omega arith)
 split (negsuc a) F h = (omega arith, omega arith)
 
@@ -65,22 +65,35 @@ times-power P (negsuc n) N h =
     round-same binary64 false (P * 1) (2 ^ suc n) (P * 2 ^ N) (2 ^ 1086) (pow-pos (suc n)) (pow-pos 1086)
     (ap (λ (x : ℕ). x * 2 ^ 1086) (mul-one P) ∙ ap (λ (x : ℕ). P * 2 ^ x) (sym h) ∙ ap (λ (x : ℕ). P * x) (pow-add 2 N (suc n)) ∙ sym (mul-assoc P (2 ^ N) (2 ^ suc n)))
 
+-- f is n * 2 ^ 52 + b, and F is f + 1024 * 2 ^ 52
+pub times-at : (P : ℕ) (f : ℤ) (F : ℕ) → Diff f F (2 ^ 62)
+    → timesPower P (floorDiv f (2 ^ 52) -ℤ pos 62) ≡ round binary64 false (P * 2 ^ (F / 2 ^ 52)) (2 ^ 1086)
+times-at P f F h =
+    let n = floorDiv f (2 ^ 52) in
+    times-power P (n -ℤ pos 62) (F / 2 ^ 52)
+    (moved (n -ℤ pos 62) (F / 2 ^ 52 + 0) 1086 (F / 2 ^ 52) 1086 (omega arith)
+    (add n (negsuc 61) (F / 2 ^ 52) 1024 0 62 (split f F h .0) refl))
+
 power-literal : (f : ℤ) (F : ℕ) → Diff f F (2 ^ 62) → plainPower F ≡ powerOf f
 unfolding plainPower powerOf
 power-literal f F h =
-    let s = split f F h in
-    let n = floorDiv f (2 ^ 52) in
-    let d : Diff (n -ℤ pos 62) (F / 2 ^ 52) 1086 = moved (n -ℤ pos 62) (F / 2 ^ 52 + 0) 1086 (F / 2 ^ 52) 1086 (omega arith) (add n (negsuc 61) (F / 2 ^ 52) 1024 0 62 (s .0) refl) in
-    ap (λ (b : ℕ). round binary64 false (pOf b 52 * 2 ^ (F / 2 ^ 52)) (2 ^ 1086)) (sym (s .1)) ∙ sym (times-power (pOf (floorMod f (2 ^ 52)) 52) (n -ℤ pos 62) (F / 2 ^ 52) d)
+    ap (λ (b : ℕ). round binary64 false (pOf b 52 * 2 ^ (F / 2 ^ 52)) (2 ^ 1086)) (sym (split f F h .1))
+    ∙ sym (times-at (pOf (floorMod f (2 ^ 52)) 52) f F h)
 
 -- ---- E
-pub e-literal : (x : Float) → T (fits binary64 x) → T (finite x) → unitsOf x ≤ 900 * 2 ^ 1074 → plainPower (plainFloor x) ≡ powerOf (floorOf x)
+pub floor-literal : (x : Float) → T (fits binary64 x) → T (finite x) → unitsOf x ≤ 900 * 2 ^ 1074
+    → Diff (floorOf x) (plainFloor x) (2 ^ 62)
 unfolding plainFloor floorOf negative
-e-literal (fin s m e) p h b =
+floor-literal (fin s m e) p h b =
     let D = down e in
     let A = m * up e * 2 ^ 52 in
     let u = unitsOf (fin s m e) in
     let v : A * 2 ^ 1022 ≡ u * D = mul-assoc (m * up e) (2 ^ 52) (2 ^ 1022) ∙ whole-units (fin s m e) p h .1 in
-    let l : A ≤ 2 ^ 62 * D = le-of-mul-le-mul-right (le-trans (le-of-eq v) (le-trans (mul-le-mul-right D (le-trans b (lit≤ tt))) (le-of-eq (mul-right-comm (2 ^ 62) (2 ^ 1022) D)))) (pow-pos 1022) in
-    ap plainPower (sym (same-floor s (2 ^ 62) A D u (2 ^ 1022) (down-pos e) (pow-pos 1022) v))
-    ∙ power-literal (floorDiv (signed s A) D) (pick s (2 ^ 62 * D - A) (2 ^ 62 * D + A) / D) (floor-diff s (2 ^ 62) A D (down-pos e) l)
+    let m : u * D ≤ 2 ^ 62 * D * 2 ^ 1022 =
+    le-trans (mul-le-mul-right D (le-trans b (lit≤ tt))) (le-of-eq (mul-right-comm (2 ^ 62) (2 ^ 1022) D)) in
+    let l : A ≤ 2 ^ 62 * D = le-of-mul-le-mul-right (le-trans (le-of-eq v) m) (pow-pos 1022) in
+    subst (λ (F : ℕ). Diff (floorDiv (signed s A) D) F (2 ^ 62)) (same-floor s (2 ^ 62) A D u (2 ^ 1022) (down-pos e) (pow-pos 1022) v)
+    (floor-diff s (2 ^ 62) A D (down-pos e) l)
+
+pub e-literal : (x : Float) → T (fits binary64 x) → T (finite x) → unitsOf x ≤ 900 * 2 ^ 1074 → plainPower (plainFloor x) ≡ powerOf (floorOf x)
+e-literal x p h b = power-literal (floorOf x) (plainFloor x) (floor-literal x p h b)

@@ -57,7 +57,7 @@ one-way M d i j a b c e h =
     let k : i ≡ j = omega arith in
     (k, eq-of-mul-eq-mul-right (2 ^ j) (pow-pos j) M d (ap (λ (x : ℕ). M * 2 ^ x) (sym k) ∙ h))
 
-filled : (m : ℕ) → 0 < m → m < 2 ^ 53 → (2 ^ 52 ≤ m * 2 ^ (53 - size m)) × (m * 2 ^ (53 - size m) < 2 ^ 53)
+pub filled : (m : ℕ) → 0 < m → m < 2 ^ 53 → (2 ^ 52 ≤ m * 2 ^ (53 - size m)) × (m * 2 ^ (53 - size m) < 2 ^ 53)
 filled m p b =
     let z = size m in
     let t = 53 - z in
@@ -70,7 +70,7 @@ filled m p b =
       lt-of-lt-of-le (shl-lt z t (size-lt m)) (le-of-eq (ap (λ (x : ℕ). 2 ^ x) f)),
     )
 
-small : (s : Bool) (m : ℕ) (e : ℤ) → T (fits binary64 (fin s (suc m) e)) → suc m < 2 ^ 53
+pub small : (s : Bool) (m : ℕ) (e : ℤ) → T (fits binary64 (fin s (suc m) e)) → suc m < 2 ^ 53
 small s m e t = fits-says s (suc m) e (omega arith) (is-true (fits binary64 (fin s (suc m) e)) t) .1
 
 -- ---- m and e, from the number of units

@@ -1,14 +1,15 @@
 -- L's turns against the powers of y: 2 ^ B * y' * M ^ n is at most y ^ n * M, and little less. Assumes nothing.
-use mathlib.Core.Path.{_≡_, refl, ap, _∙_, subst}
+use mathlib.Core.Path.{_≡_, refl, subst}
 use mathlib.Core.Bool.{Bool, true, false, not}
 use Prim.Native.Nat.{ℕ, zero, suc, _+_, _*_, _/_, _^_, _≤_, _<_}
-use native.Mathlib.Nat.{le-of-lt, lt-of-le-of-lt, mul-le-mul, mul-le-mul-left, mul-le-mul-right, le-of-mul-le-mul-right, mul-lt-mul-of-pos-left, mul-lt-mul-of-pos-right, lt-of-mul-lt-mul-right, one-mul, pow-zero, pow-suc, div-add-mod', mod-lt}
+use native.Mathlib.Nat.{le-of-lt, lt-of-le-of-lt, mul-le-mul, mul-le-mul-left, mul-le-mul-right, le-of-mul-le-mul-right, mul-lt-mul-of-pos-left, mul-lt-mul-of-pos-right, lt-of-mul-lt-mul-right, pow-zero, pow-suc, div-add-mod', mod-lt}
 use native.Mathlib.Omega.{arith}
 use lib.Dec.{T, leb, leb→le, nleb→lt, lit<}
 use lib.Pow.{pow-add}
 use Rattle.base.specs.Said.{pick}
 use Rattle.powers.specs.Log.{yOf, bOf}
 use Rattle.log_roots.proofs.Ratio.{two-pow}
+use Rattle.log_roots.proofs.Halving.{pow-one}
 
 -- ---- a turn, on any numbers: X is 2 ^ B, Y is y0 ^ n, Z is M ^ n, w is 2 or 1
 square-low : (M X Y Z y w q : ℕ) → 0 < M → X * y * Z ≤ Y * M → M * (w * q) ≤ y * y → X * X * w * q * (Z * Z) ≤ Y * Y * M
@@ -39,9 +40,6 @@ next M n B y y0 s q d w pos e s-low s-high q-low q-high q-above q-below h =
       high = rw (pow-add 2 (B + B) d, pow-add 2 B B, pow-add (M + 1) n n, pow-add y0 n n, ← e) (square-high (M + 1) (2 ^ B) (y0 ^ n) ((M + 1) ^ n) y w q (omega arith) (h .high) f);
     }
 
-pow-one : (n : ℕ) → n ^ 1 ≡ n
-pow-one n = pow-suc n 0 ∙ ap (λ (x : ℕ). x * n) (pow-zero n) ∙ one-mul n
-
 begin : (M y : ℕ) → M ≤ y → y < 2 * M → Turn M 1 0 y y
 begin M y a b = record { above = a; below = b; low = rw (pow-one M, pow-one y) (omega arith); high = rw (pow-one (M + 1), pow-one y) (omega arith) }
 
@@ -68,16 +66,25 @@ turn M n B y y0 s pos s-low s-high t f g h = subst (λ (x : ℕ). Turn M (n + n)
     go false f g = let k = g tt in let l = least in
         next M n B y y0 s s 0 1 pos refl s-low s-high (omega arith) (omega arith) (omega arith) (omega arith) h
 
--- ---- the turns of L
+-- ---- turns one after another: y and B by the rule of L, with M for 2 ^ 62
+abbrev pub Turned : ℕ → (ℕ → ℕ) → (ℕ → ℕ) → Type 0
+Turned M y B = (k : ℕ) → (let s = y k * y k / M in
+    (y (suc k) ≡ pick (leb (2 * M) s) (s / 2) s) × (B (suc k) ≡ B k * 2 + pick (leb (2 * M) s) 1 0))
+
+pub turned : (M y0 : ℕ) (y B : ℕ → ℕ) → 0 < M → M ≤ y0 → y0 < 2 * M → y 0 ≡ y0 → B 0 ≡ 0 → Turned M y B
+    → (k : ℕ) → Turn M (2 ^ k) (B k) (y k) y0
+turned M y0 y B some a b is none rule zero = rw (is, none) (begin M y0 a b)
+turned M y0 y B some a b is none rule (suc k) =
+    let s = y k * y k / M in
+    let e = div-add-mod' (y k * y k) M in
+    let m = mod-lt (y k * y k) {m = M} some in
+    rw (two-pow k, rule k .0, rule k .1) (turn M (2 ^ k) (B k) (y k) y0 s some (omega arith) (omega arith)
+    (leb (2 * M) s) (leb→le (2 * M) s) (nleb→lt (2 * M) s) (turned M y0 y B some a b is none rule k))
+
+-- L's own
 pub turns : (y0 : ℕ) → 2 ^ 62 ≤ y0 → y0 < 2 ^ 63 → (k : ℕ) → Turn (2 ^ 62) (2 ^ k) (bOf y0 k) (yOf y0 k) y0
 unfolding bOf yOf
-turns y0 a b zero = begin (2 ^ 62) y0 a b
-turns y0 a b (suc k) =
-    let y = yOf y0 k in
-    let s = y * y / 2 ^ 62 in
-    let e = div-add-mod' (y * y) (2 ^ 62) in
-    let m = mod-lt (y * y) {m = 2 ^ 62} (lit< tt) in
-    rw (two-pow k) (turn (2 ^ 62) (2 ^ k) (bOf y0 k) y y0 s (lit< tt) (omega arith) (omega arith) (leb (2 ^ 63) s) (leb→le (2 ^ 63) s) (nleb→lt (2 ^ 63) s) (turns y0 a b k))
+turns y0 a b = turned (2 ^ 62) y0 (yOf y0) (bOf y0) (lit< tt) a b refl refl (λ k. (refl, refl))
 
 -- ---- the end
 -- (1 + 1 / M) ^ n is at most (M + 1) / (M + 1 - n)

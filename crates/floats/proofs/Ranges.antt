@@ -4,7 +4,7 @@ use mathlib.Core.Bool.{Bool, true, false, not, _&&_}
 use Prim.Native.Nat.{ℕ, suc, _*_, _^_, _≤_, _<_}
 use native.Mathlib.Nat.{mul-one, one-mul, le-trans, le-of-eq}
 use lib.IntN.{ℤ, pos, negsuc}
-use lib.Dec.{T, ltb→lt}
+use lib.Dec.{T, ltb→lt, lt→ltb}
 use lib.Ieee.{Float, nan, inf, fin, up, down, le, lt, eq, isNan}
 use lib.Ieee.Scale.{finite}
 use lib.Ieee.Positive.{num, den, positive, le→cross, between}
@@ -39,6 +39,9 @@ within-says a b x h =
 
 pub within-finite : {a b : ℕ} {x : Float} → Within a b x → T (finite x)
 within-finite (within-fin m e p l h) = tt
+
+pub within-positive : {a b : ℕ} {x : Float} → Within a b x → T (positive x)
+within-positive (within-fin m e p l h) = lt→ltb 0 m p
 
 pub within-no-nan : {a b : ℕ} {x : Float} → Within a b x → T (not (isNan x))
 unfolding isNan

@@ -1,4 +1,5 @@
 pub mod Ratio
+pub mod Halving
 pub mod Roots
 pub mod Rows
 pub mod One

@@ -1,12 +1,11 @@
 -- The roots of two against powers of two, and the products of them by the bits of a number. Assumes nothing.
 use mathlib.Core.Path.{_≡_, refl, sym, ap, _∙_, subst, subst₃}
-use mathlib.Core.Logic.{_≢_}
-use mathlib.Core.Bool.{Bool, true, false, not, _&&_}
+use mathlib.Core.Bool.{Bool, true, false, _&&_}
 use mathlib.Core.List.{List}
 use Prim.Native.Nat.{ℕ, zero, suc, _+_, _-_, _*_, _/_, _%_, _^_, _≤_, _<_}
-use native.Mathlib.Nat.{le-refl, zero-add, mul-le-mul-left, mul-le-mul-right, add-zero, add-suc, add-assoc, mul-one, mul-assoc, mul-pos, pow-suc, pow-zero, mod-lt, div-div-eq-div-mul}
+use native.Mathlib.Nat.{zero-add, add-zero, add-suc, add-assoc, mul-one, mul-assoc, mul-pos, pow-suc, pow-zero, mod-lt}
 use native.Mathlib.Omega.{arith}
-use lib.Dec.{T, eqb, leb, ltb, eqb→eq, leb→le, ltb→lt, lit≤, lit<}
+use lib.Dec.{T, eqb, leb, leb→le, lit≤, lit<}
 use lib.ListN.{length, getD}
 use lib.Ieee.Fits.{and-l, and-r}
 use Rattle.base.specs.Said.{pick}
@@ -14,18 +13,14 @@ use Rattle.powers.proofs.Every.{every, at-each}
 use Rattle.power_parts.proofs.Bits.{cut, bit-of, upto, upto-at}
 use Rattle.log_roots.specs.Table.{roots}
 use Rattle.log_roots.specs.Roots.{bit, lowOf, highOf, Rooted}
-use Rattle.log_roots.proofs.Ratio.{Le, le-root, le-of, le-mul, le-twice, two-pow}
+use Rattle.log_roots.proofs.Ratio.{Le, two-pow}
+use Rattle.log_roots.proofs.Halving.{Pair, root-most, root-least, digit, low-step, high-step}
 
 -- entry k + 1 against entry k
 right : ℕ → Bool
 right k =
     leb (getD roots (suc k) 0 * getD roots (suc k) 0) (2 ^ 100 * getD roots k 0)
-    && (leb (2 ^ 100 * (getD roots k 0 + 2)) ((getD roots (suc k) 0 + 2) * (getD roots (suc k) 0 + 2)) && ltb 0 (getD roots k 0))
-
-record Pair (M t u : ℕ) : Type 0 where
-  low : u * u ≤ M * t
-  high : M * (t + 2) ≤ (u + 2) * (u + 2)
-  some : 0 < t
+    && leb (2 ^ 100 * (getD roots k 0 + 2)) ((getD roots (suc k) 0 + 2) * (getD roots (suc k) 0 + 2))
 
 pair : (k : ℕ) → k < 52 → Pair (2 ^ 100) (getD roots k 0) (getD roots (suc k) 0)
 unfolding right upto roots
@@ -33,25 +28,15 @@ pair k h =
     let t = upto-at right 52 k tt h in
     let c1 = leb (getD roots (suc k) 0 * getD roots (suc k) 0) (2 ^ 100 * getD roots k 0) in
     let c2 = leb (2 ^ 100 * (getD roots k 0 + 2)) ((getD roots (suc k) 0 + 2) * (getD roots (suc k) 0 + 2)) in
-    let c3 = ltb 0 (getD roots k 0) in
-    let u = and-r c1 (c2 && c3) t in
-    record { low = leb→le _ _ (and-l c1 (c2 && c3) t); high = leb→le _ _ (and-l c2 c3 u); some = ltb→lt _ _ (and-r c2 c3 u) }
+    record { low = leb→le _ _ (and-l c1 c2 t); high = leb→le _ _ (and-r c1 c2 t) }
 
 pub most : (k : ℕ) → k ≤ 52 → Le (2 ^ k) 0 (getD roots k 0) 1 (2 ^ 100)
 unfolding roots
-most zero h = record { le = lit≤ tt }
-most (suc k) h = rw (two-pow k) (le-root (le-of (most k (omega arith)) (lit< tt) (square (2 ^ 100) (getD roots k 0) (getD roots (suc k) 0) (pair k h .low))))
-  where
-    square : (M t u : ℕ) → u * u ≤ M * t → u * u * M ≤ t * (M * M)
-    square M t u h = omega (arith, mul-le-mul-right M h)
+most = root-most (2 ^ 100) 52 (λ k. getD roots k 0) (lit< tt) refl pair
 
 pub least : (k : ℕ) → k ≤ 52 → Le (2 ^ k) 1 (2 ^ 100) 0 (getD roots k 0 + 2)
 unfolding roots
-least zero h = record { le = lit≤ tt }
-least (suc k) h = rw (two-pow k) (le-root (le-of (least k (omega arith)) (omega arith) (square (2 ^ 100) (getD roots k 0) (getD roots (suc k) 0) (pair k h .high))))
-  where
-    square : (M t u : ℕ) → M * (t + 2) ≤ (u + 2) * (u + 2) → M * M * (t + 2) ≤ M * ((u + 2) * (u + 2))
-    square M t u h = omega (arith, mul-le-mul-left M h)
+least = root-least (2 ^ 100) 52 (λ k. getD roots k 0) (lit< tt) refl pair
 
 -- ---- part after part
 pub low-split : (b s n m : ℕ) → lowOf b s (n + m) ≡ lowOf b s n * lowOf b (s + n) m
@@ -99,42 +84,28 @@ high-next b k = λ i. highOf b 0 k * pick (bit b (suc (zero-add k i))) (getD roo
 abbrev top : ℕ → ℕ → ℕ
 top b k = b / 2 ^ (30 - k)
 
-digit : (b k : ℕ) → k < 30 → top b (suc k) ≡ top b k + top b k + b / 2 ^ (30 - suc k) % 2
-digit b k h =
-    let e : 30 - k ≡ suc (30 - suc k) = omega arith in
-    let f : b / 2 ^ (30 - k) ≡ b / 2 ^ (30 - suc k) / 2 = ap (λ (x : ℕ). b / 2 ^ x) e ∙ ap (λ (x : ℕ). b / x) (pow-suc 2 (30 - suc k)) ∙ sym (div-div-eq-div-mul b (2 ^ (30 - suc k)) 2) in
-    omega arith
-
-same : (n p : ℕ) → Le n 0 p 0 p
-same n p = record { le = le-refl _ }
-
-low-step : (n j d X Z u W : ℕ) (t : Bool) → d < 2 → (T t → d ≡ 1) → (T (not t) → d ≢ 1) → Le (n + n) 0 u 1 W → Le n 0 X j Z → Le (n + n) 0 (X * pick t u W) (j + j + d) (Z * W)
-low-step n j d X Z u W true two f g tm h = rw (f tt) (le-mul (le-twice h) tm)
-low-step n j d X Z u W false two f g tm h = let m = g tt in let z : d ≡ 0 = omega arith in rw z (le-mul (le-twice h) (same (n + n) W))
-
-high-step : (n j d X Z u W : ℕ) (t : Bool) → d < 2 → (T t → d ≡ 1) → (T (not t) → d ≢ 1) → Le (n + n) 1 W 0 u → Le n j Z 0 X → Le (n + n) (j + j + d) (Z * W) 0 (X * pick t u W)
-high-step n j d X Z u W true two f g tm h = rw (f tt) (le-mul (le-twice h) tm)
-high-step n j d X Z u W false two f g tm h = let m = g tt in let z : d ≡ 0 = omega arith in rw z (le-mul (le-twice h) (same (n + n) W))
+bit-small : (b k : ℕ) → b / 2 ^ (30 - k) % 2 < 2
+bit-small b k = mod-lt (b / 2 ^ (30 - k)) {m = 2} (lit< tt)
 
 pub low-power : (b : ℕ) → b < 2 ^ 30 → (k : ℕ) → k ≤ 30 → Le (2 ^ k) 0 (lowOf b 0 k) (top b k) ((2 ^ 100) ^ k)
 unfolding lowOf
 low-power b small zero h = let z : b / 2 ^ 30 ≡ 0 = omega arith in rw (z, pow-zero (2 ^ 100)) (record { le = lit≤ tt })
 low-power b small (suc k) h =
-    let d = b / 2 ^ (30 - suc k) % 2 in
+    let r : Le (2 ^ k + 2 ^ k) 0 (getD roots (suc k) 0) 1 (2 ^ 100) = rw (two-pow k) at (most (suc k) (omega arith)) in
     subst (λ (X : ℕ). Le (2 ^ suc k) 0 X (top b (suc k)) ((2 ^ 100) ^ suc k)) (sym (low-next b k))
-    (subst₃ (λ (n j Z : ℕ). Le n 0 (lowOf b 0 k * pick (eqb d 1) (getD roots (suc k) 0) (2 ^ 100)) j Z) (sym (two-pow k)) (sym (digit b k h)) (sym (pow-suc (2 ^ 100) k))
-    (low-step (2 ^ k) (top b k) d (lowOf b 0 k) ((2 ^ 100) ^ k) (getD roots (suc k) 0) (2 ^ 100) (eqb d 1) (mod-lt (b / 2 ^ (30 - suc k)) {m = 2} (lit< tt)) (eqb→eq d 1)
-    (λ t e. subst (λ (x : ℕ). T (not (eqb x 1))) e t) (rw (two-pow k) at (most (suc k) (omega arith))) (low-power b small k (omega arith))))
+    (subst₃ (λ (n j Z : ℕ). Le n 0 (lowOf b 0 k * pick (bit b (suc k)) (getD roots (suc k) 0) (2 ^ 100)) j Z)
+    (sym (two-pow k)) (sym (digit 30 b k h)) (sym (pow-suc (2 ^ 100) k))
+    (low-step (b / 2 ^ (30 - suc k) % 2) (bit-small b (suc k)) r (low-power b small k (omega arith))))
 
 pub high-power : (b : ℕ) → b < 2 ^ 30 → (k : ℕ) → k ≤ 30 → Le (2 ^ k) (top b k) ((2 ^ 100) ^ k) 0 (highOf b 0 k)
 unfolding highOf
 high-power b small zero h = let z : b / 2 ^ 30 ≡ 0 = omega arith in rw (z, pow-zero (2 ^ 100)) (record { le = lit≤ tt })
 high-power b small (suc k) h =
-    let d = b / 2 ^ (30 - suc k) % 2 in
+    let r : Le (2 ^ k + 2 ^ k) 1 (2 ^ 100) 0 (getD roots (suc k) 0 + 2) = rw (two-pow k) at (least (suc k) (omega arith)) in
     subst (λ (X : ℕ). Le (2 ^ suc k) (top b (suc k)) ((2 ^ 100) ^ suc k) 0 X) (sym (high-next b k))
-    (subst₃ (λ (n j Z : ℕ). Le n j Z 0 (highOf b 0 k * pick (eqb d 1) (getD roots (suc k) 0 + 2) (2 ^ 100))) (sym (two-pow k)) (sym (digit b k h)) (sym (pow-suc (2 ^ 100) k))
-    (high-step (2 ^ k) (top b k) d (highOf b 0 k) ((2 ^ 100) ^ k) (getD roots (suc k) 0 + 2) (2 ^ 100) (eqb d 1) (mod-lt (b / 2 ^ (30 - suc k)) {m = 2} (lit< tt)) (eqb→eq d 1)
-    (λ t e. subst (λ (x : ℕ). T (not (eqb x 1))) e t) (rw (two-pow k) at (least (suc k) (omega arith))) (high-power b small k (omega arith))))
+    (subst₃ (λ (n j Z : ℕ). Le n j Z 0 (highOf b 0 k * pick (bit b (suc k)) (getD roots (suc k) 0 + 2) (2 ^ 100)))
+    (sym (two-pow k)) (sym (digit 30 b k h)) (sym (pow-suc (2 ^ 100) k))
+    (high-step (b / 2 ^ (30 - suc k) % 2) (bit-small b (suc k)) r (high-power b small k (omega arith))))
 
 pub high-pos : (b s n : ℕ) → 0 < highOf b s n
 unfolding highOf
