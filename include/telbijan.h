@@ -167,10 +167,12 @@ uint64_t telbijan_ratio_nearest_fraction(double value, uint16_t limit, uint16_t 
 
 /* ---- E and L for C: the power of two and its logarithm, the same on every machine. */
 
-/* E(x), the power 2^x, stored; 18 outside -900..900. */
+/* E(x), the power 2^x, stored; 18 outside -900..900. It is above the true power by one part in 2^53 at most, and below it by less
+   than one in 2^51: within 8e-13 cents. What a caller computes before and after rounds again. */
 uint64_t telbijan_exp2(double x, double *power);
 
-/* L(x), the base 2 logarithm, stored; 18 outside 2^-900..2^900. */
+/* L(x), the base 2 logarithm, stored; 18 outside 2^-900..2^900. It is above the true logarithm by |L(x)| * 2^-53 at most, and below
+   it by less than that plus 2^-51: up to 32 octaves, within 5e-12 cents. What a caller computes before and after rounds again. */
 uint64_t telbijan_log2(double x, double *logarithm);
 
 /* ---- Scales for C: seven lent columns, the items' four and the sorted list's three, and beside them the count of items. */

@@ -25,9 +25,11 @@ macro_rules! numbers {
 }
 
 numbers! {
-    /// 2^x; 18 outside -900..900.
+    /// 2^x; 18 outside -900..900. Above the true power by one part in 2^53 at most, below it by less than one in 2^51: within 8e-13
+    /// cents; what is computed before and after rounds again.
     exp2 = telbijan_exp2(x);
-    /// The base 2 logarithm; 18 outside 2^-900..2^900.
+    /// The base 2 logarithm; 18 outside 2^-900..2^900. Above the true one by |r| * 2^-53 at most, r the answer, below it by less than
+    /// that plus 2^-51: up to 32 octaves, within 5e-12 cents; what is computed before and after rounds again.
     log2 = telbijan_log2(x);
     /// The ratio of so many octaves; 18 outside -900..900.
     from_octaves = telbijan_ratio_from_octaves(octaves);

@@ -1,3 +1,4 @@
 pub mod ReadDegree
 pub mod ExportRead
 pub mod ReadExport
+pub mod NearTrue

@@ -1,1 +1,1 @@
-// Calls for C, one after another: what the contracts of two of them say together. Theorems alone.
+// Calls for C: what the contract of one says, or those of two, one after the other. Theorems alone.

@@ -1,0 +1,12 @@
+pub mod Orders
+pub mod CoreE
+pub mod CoreL
+pub mod Rounded
+pub mod Root
+pub mod Cut
+pub mod AnswerE
+pub mod AnswerL
+pub mod LogParts
+pub mod Theorems
+pub mod Samples
+pub mod Needed
