@@ -2,7 +2,8 @@
 use mathlib.Core.Path.{_≡_, refl, sym, ap, subst}
 use mathlib.Core.Bool.{Bool, true, false}
 use Prim.Native.Nat.{ℕ, _+_, _*_, _/_, _%_, _^_, _≤_, _<_}
-use native.Mathlib.Nat.{le-trans, le-of-lt, lt-of-le-of-lt, mul-pos, mul-le-mul, mul-le-mul-left, mul-le-mul-right, le-of-mul-le-mul-left, div-add-mod'}
+use native.Mathlib.Nat.{le-trans, le-of-lt, lt-of-le-of-lt, mul-pos, mul-le-mul, mul-le-mul-left, mul-le-mul-right, le-of-mul-le-mul-left}
+use native.Mathlib.Nat.{div-add-mod'}
 use native.Mathlib.Omega.{arith}
 use lib.Dec.{T, lit≤, lit<}
 use lib.Pow.{pow-pos, pow-mono}
@@ -25,7 +26,8 @@ use Rattle.explog.proofs.LiteralE.{split, times-at, floor-literal}
 use Rattle.explog.proofs.Plain.{plainFloor}
 use Rattle.explog.proofs.Range.{e-range}
 use Rattle.accuracy.specs.Accuracy.{CoreE, AccurateE, LowE, HighE}
-use Rattle.accuracy.proofs.Orders.{left-in, right-in, left-out, right-out, of-below-power, of-above-power, strict-at, to-at-most, to-above, signed-diff}
+use Rattle.accuracy.proofs.Orders.{left-in, right-in, left-out, right-out, of-below-power, of-above-power, strict-at, to-at-most}
+use Rattle.accuracy.proofs.Orders.{to-above, signed-diff}
 use Rattle.accuracy.proofs.Root.{one-more}
 use Rattle.accuracy.proofs.Cut.{lifted, floor-least, floor-most, floor-between}
 use Rattle.accuracy.proofs.Rounded.{Rounded, round-value, rounded}
@@ -67,7 +69,8 @@ module _ (P n : ℕ) (low-p : 2 ^ 62 ≤ P) (high-p : P ≤ 2 ^ 63) (low-n : 124
   under : P * 2 ^ n * 2 ^ 1074 < 2 ^ 2097 * 2 ^ 1086
   under = lt-of-le-of-lt (mul-le-mul-right (2 ^ 1074) (mul-le-mul high-p (pow-mono high-n))) (lit< tt)
 
-  rounded-power : (g h : ℕ) → HasValue (round binary64 false (P * 2 ^ n) (2 ^ 1086)) false g h → Rounded (P * 2 ^ n * h) (g * 2 ^ 1086)
+  rounded-power : (g h : ℕ) → HasValue (round binary64 false (P * 2 ^ n) (2 ^ 1086)) false g h
+      → Rounded (P * 2 ^ n * h) (g * 2 ^ 1086)
   rounded-power g h v = rounded _ _ (pow-pos 1086) normal under false false g h v .0
 
   power-positive : T (positive (round binary64 false (P * 2 ^ n) (2 ^ 1086)))

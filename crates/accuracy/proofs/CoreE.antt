@@ -2,7 +2,8 @@
 use mathlib.Core.Path.{_≡_, refl, sym, subst, subst₃}
 use mathlib.Core.Bool.{Bool, true, false}
 use Prim.Native.Nat.{ℕ, zero, suc, _+_, _-_, _*_, _/_, _%_, _^_, _≤_, _<_}
-use native.Mathlib.Nat.{le-trans, le-of-lt, lt-of-le-of-lt, mul-pos, mul-le-mul-left, mul-le-mul-right, le-of-mul-le-mul-left, lt-of-mul-lt-mul-right, pow-lt-pow-left, div-one, div-add-mod', mod-lt}
+use native.Mathlib.Nat.{le-trans, le-of-lt, lt-of-le-of-lt, mul-pos, mul-le-mul-left, mul-le-mul-right, le-of-mul-le-mul-left}
+use native.Mathlib.Nat.{lt-of-mul-lt-mul-right, pow-lt-pow-left, div-one, div-add-mod', mod-lt}
 use native.Mathlib.Omega.{arith}
 use lib.Dec.{eqb, lit≤, lit<}
 use Rattle.base.specs.Said.{pick}
@@ -37,7 +38,8 @@ t-least : (k : ℕ) → k ≤ 52 → Le (2 ^ k) 1 (2 ^ 62) 0 (tOf k + 2)
 t-least = root-least (2 ^ 62) 52 tOf (lit< tt) t-first t-pair
 
 -- ---- a step: Q is P * F / M, rounded down, and F is T or M. With a + 4 for a, Q stays as near as P was with a
-loses : (M a P T Q : ℕ) → 1000 ≤ M → a ≤ 204 → M ≤ T → M ≤ Q → P * T < Q * M + M → P * (M + a) * (T + 2) ≤ Q * (M + (a + 4)) * M
+loses : (M a P T Q : ℕ) → 1000 ≤ M → a ≤ 204 → M ≤ T → M ≤ Q → P * T < Q * M + M
+    → P * (M + a) * (T + 2) ≤ Q * (M + (a + 4)) * M
 loses M a P T Q big small above-t above-q h =
     let one : P * T ≤ Q * (M + 1) = omega arith in
     let two : P * M ≤ P * T = mul-le-mul-left P above-t in
@@ -67,8 +69,8 @@ record Steps (M n j P a : ℕ) : Type 0 where
   most : Le n 0 P j M
   least : Le n j (M * M) 0 (P * (M + a))
 
-module _ (M n j P T Q a d : ℕ) (big : 1000 ≤ M) (small : a ≤ 204) (some : M ≤ P) (above-t : M ≤ T) (above-q : M ≤ Q) (two : d < 2)
-    (low : Q * M ≤ P * pick (eqb d 1) T M) (high : P * pick (eqb d 1) T M < Q * M + M)
+module _ (M n j P T Q a d : ℕ) (big : 1000 ≤ M) (small : a ≤ 204) (some : M ≤ P) (above-t : M ≤ T) (above-q : M ≤ Q)
+    (two : d < 2) (low : Q * M ≤ P * pick (eqb d 1) T M) (high : P * pick (eqb d 1) T M < Q * M + M)
     (t-high : Le (n + n) 0 T 1 M) (t-low : Le (n + n) 1 M 0 (T + 2)) (h : Steps M n j P a) where
   next : Steps M (n + n) (j + j + d) Q (a + 4)
   next =
@@ -120,7 +122,8 @@ pub core-e : (b : ℕ) → b < 2 ^ 52 → CoreE b (pOf b 52)
 core-e b small =
     let P = pOf b 52 in
     let p = powers b 52 (lit≤ tt) in
-    let s : Steps (2 ^ 62) (2 ^ 52) b P 208 = subst (λ (x : ℕ). Steps (2 ^ 62) (2 ^ 52) x P 208) (div-one b) (steps b small 52 (lit≤ tt)) in
+    let s : Steps (2 ^ 62) (2 ^ 52) b P 208 =
+    subst (λ (x : ℕ). Steps (2 ^ 62) (2 ^ 52) x P 208) (div-one b) (steps b small 52 (lit≤ tt)) in
     let g = ended (2 ^ 62) (2 ^ 52) b P (lit< tt) (p .above) (le-of-lt (power-below b 52 P (lit≤ tt) p)) (s .least) in
     let w = whole 62 (2 ^ 52) b P (lit< tt) (s .most) g in
     record { low = w .0; high = w .1 }

@@ -1,7 +1,8 @@
 -- 2 ^ V ≤ x ^ (2 ^ 52) < 2 ^ (V + 2), for x = m * 2 ^ e and L's V, both of either sign. Assumes nothing.
 use mathlib.Core.Path.{_≡_, refl, sym, ap, _∙_}
 use Prim.Native.Nat.{ℕ, suc, _+_, _-_, _*_, _^_, _≤_, _<_}
-use native.Mathlib.Nat.{mul-pos, mul-le-mul-left, mul-lt-mul-of-pos-left, le-of-mul-le-mul-right, lt-of-mul-lt-mul-right, one-le-pow, add-zero, zero-add, add-mul}
+use native.Mathlib.Nat.{mul-pos, mul-le-mul-left, mul-lt-mul-of-pos-left, le-of-mul-le-mul-right, lt-of-mul-lt-mul-right, one-le-pow}
+use native.Mathlib.Nat.{add-zero, zero-add, add-mul}
 use native.Mathlib.Omega.{arith}
 use lib.Dec.{lit≤, lit<}
 use lib.Pow.{pow-add, pow-pos}
@@ -22,7 +23,8 @@ module _ (M N B z m σ τ : ℕ) (is : M ≡ 2 ^ (τ + σ)) (some : 0 < M) (turn
   y-is = mul-pow m (2 ^ σ) N ∙ ap (λ (x : ℕ). m ^ N * x) (pow-mul 2 σ N)
 
   z-is : M ^ N ≡ 2 ^ (τ * N) * 2 ^ (σ * N)
-  z-is = ap (λ (x : ℕ). x ^ N) is ∙ pow-mul 2 (τ + σ) N ∙ ap (λ (x : ℕ). 2 ^ x) (add-mul τ σ N) ∙ pow-add 2 (τ * N) (σ * N)
+  z-is =
+      ap (λ (x : ℕ). x ^ N) is ∙ pow-mul 2 (τ + σ) N ∙ ap (λ (x : ℕ). 2 ^ x) (add-mul τ σ N) ∙ pow-add 2 (τ * N) (σ * N)
 
   pub low-of : 2 ^ (τ * N + B) ≤ m ^ N
   low-of = rw (pow-add 2 (τ * N) B) (go _ _ _ _ _ _
@@ -90,7 +92,8 @@ module _ (m : ℕ) (low-m : 2 ^ 52 ≤ m) (high-m : m < 2 ^ 53) where
     v-high : Below (2 ^ 52) (v +ℤ pos 2) (m * 2 ^ j) (2 ^ i)
     v-high = to-below (v +ℤ pos 2) v-two (moved-high (2 ^ 52) (52 * 2 ^ 52 + (B + 2)) m i j m-high)
 
-pub core-l : (m : ℕ) (e : ℤ) → 2 ^ 52 ≤ m → m < 2 ^ 53 → CoreL m e ((e +ℤ pos 52) *ℤ pos (2 ^ 52) +ℤ pos (bOf (m * 2 ^ 10) 52))
+pub core-l : (m : ℕ) (e : ℤ) → 2 ^ 52 ≤ m → m < 2 ^ 53
+    → CoreL m e ((e +ℤ pos 52) *ℤ pos (2 ^ 52) +ℤ pos (bOf (m * 2 ^ 10) 52))
 core-l m (pos n) a b =
     record { low = v-low m a b (pos n) n 0 (sym (add-zero n)); high = v-high m a b (pos n) n 0 (sym (add-zero n)) }
 core-l m (negsuc n) a b =

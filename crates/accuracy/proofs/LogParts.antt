@@ -24,7 +24,8 @@ pub record LogParts (x : Float) : Type 0 where
   pub is : logAt m e ≡ logOf x
 
 -- t zeros
-shifted : (m : ℕ) (e : ℤ) (t j i : ℕ) → Diff e j i → HasValue (fin false m e) false (m * 2 ^ t * up (e -ℤ pos t)) (down (e -ℤ pos t))
+shifted : (m : ℕ) (e : ℤ) (t j i : ℕ) → Diff e j i
+    → HasValue (fin false m e) false (m * 2 ^ t * up (e -ℤ pos t)) (down (e -ℤ pos t))
 shifted m e t j i d =
     let f = e -ℤ pos t in
     let less : Diff f j (i + t) = moved f (j + 0) (i + t) j (i + t) (omega arith) (subtract e (pos t) j i t 0 d (sym (add-zero t))) in (
@@ -33,10 +34,13 @@ shifted m e t j i d =
           (go (up e) (down e) (up f) (down f) (2 ^ i) (2 ^ j) (2 ^ t) (same-power e j i d) (same-power f j (i + t) less) (pow-add 2 i t)),
     )
   where
-    go : (u w u' w' I J K : ℕ) → u * I ≡ J * w → u' * 2 ^ (i + t) ≡ J * w' → 2 ^ (i + t) ≡ I * K → m * u * w' * I ≡ m * K * u' * w * I
-    go u w u' w' I J K a b c = omega (arith, ap (λ (z : ℕ). m * w' * z) a, ap (λ (z : ℕ). m * w * z) b, ap (λ (z : ℕ). m * w * u' * z) c)
+    go : (u w u' w' I J K : ℕ) → u * I ≡ J * w → u' * 2 ^ (i + t) ≡ J * w' → 2 ^ (i + t) ≡ I * K
+        → m * u * w' * I ≡ m * K * u' * w * I
+    go u w u' w' I J K a b c =
+        omega (arith, ap (λ (z : ℕ). m * w' * z) a, ap (λ (z : ℕ). m * w * z) b, ap (λ (z : ℕ). m * w * u' * z) c)
 
-of-parts : (n : ℕ) (e : ℤ) (j i : ℕ) → Diff e j i → fits binary64 (fin false (suc n) e) ≡ true → LogParts (fin false (suc n) e)
+of-parts : (n : ℕ) (e : ℤ) (j i : ℕ) → Diff e j i → fits binary64 (fin false (suc n) e) ≡ true
+    → LogParts (fin false (suc n) e)
 unfolding logOf
 of-parts n e j i d fit =
     let t = 53 - size (suc n) in

@@ -11,6 +11,7 @@ use lib.IntN.{pos, negsuc, _+ℤ_}
 use lib.Ieee.{fin, le, round, size, ofBits, neg}
 use Rattle.base.specs.Said.{gives, pick}
 use Rattle.log_roots.proofs.Ratio.{Le, le-at, pow-mul}
+use Rattle.log_roots.proofs.Halving.{same}
 use Rattle.explog.specs.Exp.{tOf, pOf}
 use Rattle.explog.specs.Log.{yOf, bOf}
 use Rattle.explog.specs.Root.{root, rootFrom}
@@ -27,7 +28,8 @@ lossy : pOf (3 * 2 ^ 49) 52 ≡ 5980616842327661683
 unfolding pOf tOf root rootFrom
 lossy = refl
 
-pub more-is-needed : (pOf (3 * 2 ^ 49) 52 ≡ 5980616842327661683) × ((5980616842327661683 + 2) ^ (2 ^ 52) ≤ 2 ^ (62 * 2 ^ 52 + 3 * 2 ^ 49))
+pub more-is-needed : (pOf (3 * 2 ^ 49) 52 ≡ 5980616842327661683)
+    × ((5980616842327661683 + 2) ^ (2 ^ 52) ≤ 2 ^ (62 * 2 ^ 52 + 3 * 2 ^ 49))
 more-is-needed = (lossy, power-le (5980616842327661683 + 2) 8 499 (2 ^ 49) (lit≤ tt))
 
 -- ---- L's turns with 80 binary places, where L has 62: m / 2 ^ 52 is 2 ^ (B / 2 ^ k) at least
@@ -126,6 +128,14 @@ log-up-is-needed = (
       (lt-at (2 ^ 43) _ (468 * 2 ^ 43 + (44 * 2 ^ 43 + 1)) _ _ (2 ^ 43 * 2 ^ 53) _ _ (not-zero (2 ^ 43 * 2 ^ 53) (lit< tt)) (lit≤ tt)
       (moved-high (2 ^ 43) (44 * 2 ^ 43 + 1) (2 ^ 44 + 1) 0 468 (power-under 44 (2 ^ 43) (2 ^ 43 + 1) refl (lit< tt)))),
 )
+
+-- ---- LowL's at most: both are 0 at x = 1
+one-log : L (fin false 1 (pos 0)) ≡ gives (fin false 0 (pos 0))
+unfolding L logOf logAt octavesOf bOf yOf le round size ofBits
+one-log = refl
+
+pub equal-is-met : (L (fin false 1 (pos 0)) ≡ gives (fin false 0 (pos 0))) × AtMost (1 * 2 ^ 53) (pos (0 * (2 ^ 53 - 1))) 1 1
+equal-is-met = (one-log, to-at-most (pos 0) {j = 0} {i = 0} refl (same (1 * 2 ^ 53) 1))
 
 -- ---- HighL's |r| * 2 ^ -53, by nothing: r + 2 ^ -51 ≤ log2 x at x = 2 ^ 512 * (1 + 2 ^ -45), where r is 512
 log-down : L (fin false (2 ^ 45 + 1) (pos 467)) ≡ gives (fin false 1 (pos 9))

@@ -2,7 +2,8 @@
 use mathlib.Core.Path.{_≡_, refl, sym, ap, _∙_, subst}
 use mathlib.Core.Bool.{Bool, not}
 use Prim.Native.Nat.{ℕ, _+_, _-_, _*_, _/_, _%_, _^_, _≤_, _<_, compare, Ordering, Ordering·lt, Ordering·eq, Ordering·gt}
-use native.Mathlib.Nat.{le-trans, le-of-eq, mul-le-mul-right, le-of-mul-le-mul-right, mul-comm, mul-assoc, mul-right-comm, mul-pos, div-add-mod', mod-lt, le-div-iff-mul-le}
+use native.Mathlib.Nat.{le-trans, le-of-eq, mul-le-mul-right, le-of-mul-le-mul-right, mul-comm, mul-assoc, mul-right-comm, mul-pos}
+use native.Mathlib.Nat.{div-add-mod', mod-lt, le-div-iff-mul-le}
 use native.Mathlib.Omega.{arith}
 use lib.Dec.{T, isLe, isEq, leb→le, nleb→lt, eqb→eq}
 use lib.Pow.{pow-add, pow-pos}
@@ -20,8 +21,8 @@ use Rattle.rounding.proofs.Scale.{not-over}
 abbrev Half : ℕ → ℕ → ℕ → Type 0
 Half t a b = (2 * (t * b) ≤ 2 * a + b) × (2 * a ≤ 2 * (t * b) + b)
 
-nearest-half : (q r b a : ℕ) (o : Ordering) → q * b + r ≡ a → r < b → (T (isLe o) → r * 2 ≤ b) → (T (not (isLe o)) → b < r * 2)
-    → (T (isEq o) → r * 2 ≡ b) → Half (nearest q o) a b
+nearest-half : (q r b a : ℕ) (o : Ordering) → q * b + r ≡ a → r < b
+    → (T (isLe o) → r * 2 ≤ b) → (T (not (isLe o)) → b < r * 2) → (T (isEq o) → r * 2 ≡ b) → Half (nearest q o) a b
 nearest-half q r b a Ordering·lt e l f g h = let k = f tt in omega arith
 nearest-half q r b a Ordering·eq e l f g h = let k = h tt in let w : q % 2 ≤ 1 = omega arith in omega (arith, mul-le-mul-right b w)
 nearest-half q r b a Ordering·gt e l f g h = let k = g tt in omega arith
@@ -29,7 +30,8 @@ nearest-half q r b a Ordering·gt e l f g h = let k = g tt in omega arith
 closest-half : (a b : ℕ) → 0 < b → Half (closest a b) a b
 closest-half a b p =
     let r = a % b in
-    nearest-half (a / b) r b a (compare (r * 2) b) (div-add-mod' a b) (mod-lt a p) (leb→le (r * 2) b) (nleb→lt (r * 2) b) (eqb→eq (r * 2) b)
+    nearest-half (a / b) r b a (compare (r * 2) b) (div-add-mod' a b) (mod-lt a p)
+    (leb→le (r * 2) b) (nleb→lt (r * 2) b) (eqb→eq (r * 2) b)
 
 -- ---- G is n, rounded: above it or below it by one part in 2 ^ 53 at most, of n and of G
 pub record Rounded (n G : ℕ) : Type 0 where
@@ -54,14 +56,16 @@ in-parts n G m K k l some e f h = record {
 
 -- ---- a / c, rounded
 module _ (a c : ℕ) (some : 0 < c) (normal : 2 ^ 52 * c ≤ a * 2 ^ 1074) where
-  on-grid : (n k : ℕ) → n ≡ a * 2 ^ 1074 → k ≡ size (n / c) - 53 → 53 ≤ size (n / c) → Rounded n (closest n (c * 2 ^ k) * 2 ^ k * c)
+  on-grid : (n k : ℕ) → n ≡ a * 2 ^ 1074 → k ≡ size (n / c) - 53 → 53 ≤ size (n / c)
+      → Rounded n (closest n (c * 2 ^ k) * 2 ^ k * c)
   on-grid n k en ek N =
       let u = c * 2 ^ k in
       let U : 0 < u = mul-pos some (pow-pos k) in
       let s : 52 + k < size (n / c) = omega arith in
       let r : 2 ^ (52 + k) * c ≤ n = le-div-iff-mul-le some .0 (size-reaches (n / c) (52 + k) s) in
       let z : 2 ^ 52 * u ≡ 2 ^ (52 + k) * c =
-      ap (λ (z : ℕ). 2 ^ 52 * z) (mul-comm c (2 ^ k)) ∙ sym (mul-assoc (2 ^ 52) (2 ^ k) c) ∙ ap (λ (z : ℕ). z * c) (sym (pow-add 2 52 k)) in
+      ap (λ (z : ℕ). 2 ^ 52 * z) (mul-comm c (2 ^ k))
+      ∙ sym (mul-assoc (2 ^ 52) (2 ^ k) c) ∙ ap (λ (z : ℕ). z * c) (sym (pow-add 2 52 k)) in
       let l : 2 ^ 52 * u ≤ n = le-trans (le-of-eq z) r in
       of-half n u (closest n u) (closest n u * 2 ^ k * c)
       (mul-assoc (closest n u) (2 ^ k) c ∙ ap (λ (z : ℕ). closest n u * z) (mul-comm (2 ^ k) c)) (closest-half n u U) l

@@ -29,7 +29,8 @@ pub exp-core : (b : ℕ) → b < 2 ^ 52 → CoreE b (pOf b 52)
 exp-core = core-e
 
 -- "2^V is at most x to the power 2^52, less than 2^(V+2)", with "V = (e+52)*2^52 + B": for each m of 53 bits, and any e
-pub log-core : (m : ℕ) (e : ℤ) → 2 ^ 52 ≤ m → m < 2 ^ 53 → CoreL m e ((e +ℤ pos 52) *ℤ pos (2 ^ 52) +ℤ pos (bOf (m * 2 ^ 10) 52))
+pub log-core : (m : ℕ) (e : ℤ) → 2 ^ 52 ≤ m → m < 2 ^ 53
+    → CoreL m e ((e +ℤ pos 52) *ℤ pos (2 ^ 52) +ℤ pos (bOf (m * 2 ^ 10) 52))
 log-core = core-l
 
 -- ---- "From these derive a stated bound on the final f64 of each": of P and of V the cores are all that is asked, and of P its size

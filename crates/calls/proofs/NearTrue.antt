@@ -15,7 +15,8 @@ use Rattle.accuracy.specs.Accuracy.{AccurateE, AccurateL}
 use Rattle.accuracy.proofs.Theorems.{exp-accurate, log-accurate}
 
 -- a call that answers v in its range, and 18 outside
-stored : (s : Said Float) (v old : Float) (b : Bool) (r : ℕ) (new : Float) → s ≡ pick b (gives v) (refuses 18 0) → Stored s old r new
+stored : (s : Said Float) (v old : Float) (b : Bool) (r : ℕ) (new : Float)
+    → s ≡ pick b (gives v) (refuses 18 0) → Stored s old r new
     → ((r ≡ 0) ↔ (b ≡ true)) × (r ≡ 0 → s ≡ gives new)
 stored s v old true r new e c =
     (((λ z. refl), (λ t. c .0 ∙ ap result e)), (λ z. e ∙ ap gives (sym (c .1 ∙ ap (λ (s : Said Float). kept s old) e))))

@@ -95,5 +95,6 @@ floor-literal (fin s m e) p h b =
     subst (λ (F : ℕ). Diff (floorDiv (signed s A) D) F (2 ^ 62)) (same-floor s (2 ^ 62) A D u (2 ^ 1022) (down-pos e) (pow-pos 1022) v)
     (floor-diff s (2 ^ 62) A D (down-pos e) l)
 
-pub e-literal : (x : Float) → T (fits binary64 x) → T (finite x) → unitsOf x ≤ 900 * 2 ^ 1074 → plainPower (plainFloor x) ≡ powerOf (floorOf x)
+pub e-literal : (x : Float) → T (fits binary64 x) → T (finite x) → unitsOf x ≤ 900 * 2 ^ 1074
+    → plainPower (plainFloor x) ≡ powerOf (floorOf x)
 e-literal x p h b = power-literal (floorOf x) (plainFloor x) (floor-literal x p h b)

@@ -17,7 +17,8 @@ pub pow-one : (n : ℕ) → n ^ 1 ≡ n
 pow-one n = pow-suc n 0 ∙ omega (arith, ap (λ (x : ℕ). x * n) (pow-zero n))
 
 -- the k-th of them is 2 ^ (1 / 2 ^ k) * M at most, and with 2 more at least
-module _ (M top : ℕ) (t : ℕ → ℕ) (some : 0 < M) (first : t 0 ≡ 2 * M) (pair : (k : ℕ) → k < top → Pair M (t k) (t (suc k))) where
+module _ (M top : ℕ) (t : ℕ → ℕ) (some : 0 < M) (first : t 0 ≡ 2 * M)
+    (pair : (k : ℕ) → k < top → Pair M (t k) (t (suc k))) where
   pub root-most : (k : ℕ) → k ≤ top → Le (2 ^ k) 0 (t k) 1 M
   root-most zero h = record { le = rw (pow-one (t 0), pow-one M) (omega (arith, first)) }
   root-most (suc k) h = rw (two-pow k) (le-root (le-of (root-most k (omega arith)) some (square (t k) (t (suc k)) (pair k h .low))))
@@ -38,11 +39,12 @@ pub digit : (n b k : ℕ) → k < n → b / 2 ^ (n - suc k) ≡ b / 2 ^ (n - k) 
 digit n b k h =
     let e : n - k ≡ suc (n - suc k) = omega arith in
     let f : b / 2 ^ (n - k) ≡ b / 2 ^ (n - suc k) / 2 =
-    ap (λ (x : ℕ). b / 2 ^ x) e ∙ ap (λ (x : ℕ). b / x) (pow-suc 2 (n - suc k)) ∙ sym (div-div-eq-div-mul b (2 ^ (n - suc k)) 2) in
+    ap (λ (x : ℕ). b / 2 ^ x) e ∙ ap (λ (x : ℕ). b / x) (pow-suc 2 (n - suc k))
+    ∙ sym (div-div-eq-div-mul b (2 ^ (n - suc k)) 2) in
     omega arith
 
 -- ---- a product X with one factor more, for the next digit d: u where it is 1, else W, which is 1 in parts of W
-same : (n p : ℕ) → Le n 0 p 0 p
+pub same : (n p : ℕ) → Le n 0 p 0 p
 same n p = record { le = le-refl _ }
 
 module _ {n j X Z u W : ℕ} where
