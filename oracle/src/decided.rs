@@ -12,14 +12,18 @@ fn falls_back() {
     FALLEN_BACK.with(|count| count.set(count.get() + 1));
 }
 
-/// In the place of the crate `powers`, whose steps are the slow way: P is computed here, and B.
-mod powers {
-    use super::second;
+/// P after the steps up to `to`, from what it is after those up to `from`.
+pub fn steps(b: u64, p: u64, from: u64, to: u64) -> u64 {
+    let step = |p: u128, k: u64| if b >> (52 - k) & 1 == 1 { (p * second::t(k as usize)) >> 62 } else { p };
+    (from + 1..=to).fold(u128::from(p), step) as u64
+}
 
+/// In the place of the crate `powers`, whose steps are the slow way: P is computed here, and B. E's answers 0 unless asked from step ten
+/// on, so that a slow way which begins elsewhere is found wrong.
+mod powers {
     pub fn power_steps(b: u64, p: u64, from: u64, to: u64) -> u64 {
         super::falls_back();
-        let step = |p: u128, k: u64| if b >> (52 - k) & 1 == 1 { (p * second::t(k as usize)) >> 62 } else { p };
-        (from + 1..=to).fold(u128::from(p), step) as u64
+        if from == 10 { super::steps(b, p, from, to) } else { 0 }
     }
 
     pub fn log_bits(y: u64) -> u64 {
@@ -40,6 +44,16 @@ mod rounding {
 }
 
 include!(concat!(env!("OUT_DIR"), "/tables.rs"));
+
+/// What E's first table has for b.
+pub fn first_steps(b: u64) -> u64 {
+    power_first::first_steps(b)
+}
+
+/// Whether the slow way's stand-in answers from step ten on, and from no other.
+pub fn slow_from_ten() -> bool {
+    (0..=52).all(|from| (powers::power_steps(0, 1 << 62, from, 52) == 1 << 62) == (from == 10))
+}
 
 /// Of these inputs, each with what it should answer: how many the tables did not decide, and how many came out otherwise.
 pub struct Asked {

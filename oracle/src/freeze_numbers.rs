@@ -4,7 +4,7 @@ use crate::freeze::{List, float, written};
 use crate::inputs::{Random, f64_limits, i32_limits, u32_limits};
 use crate::pitch::{ONES, One, TWOS, Two};
 use crate::tally::{Said, Who};
-use crate::{key, math, pitch, powers};
+use crate::{first_table, key, math, pitch, powers};
 use tune::key::PianoKey;
 use tune::math::odd_factors_u16;
 use tune::pitch::Ratio;
@@ -56,6 +56,10 @@ pub fn pitches(list: &mut List) {
         let x = some(&mut random, k);
         list.push(&format!("exp2 {}", float(x)), powers::said(tune::powers::e(x)), written);
         list.push(&format!("log2 {}", float(x)), powers::said(tune::powers::l(x)), written);
+    }
+    for (parts, _, _) in first_table::QUARTERS {
+        let x = parts as f64 / 2048.0;
+        list.push(&format!("exp2 {}", float(x)), powers::said(tune::powers::e(x)), written);
     }
     for One(name, _, theirs, _) in &ONES {
         for k in 0..28 {

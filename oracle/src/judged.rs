@@ -3,6 +3,7 @@
 
 use crate::calls;
 use crate::ffi;
+use crate::powers;
 use crate::tally::{Code, Report, Said, Tally, Who};
 
 /// A call that is compared, and what it should answer.
@@ -32,7 +33,7 @@ const CASES: [Case; 7] = [
 ];
 
 /// Whether each case is found out, those that are not being said; whether a call that is compared on both sides is found to lack
-/// nothing; and whether another value, number or detail than the Rust's is a difference.
+/// nothing; whether another value, number or detail than the Rust's is a difference; and whether what E's own tests must see is seen.
 pub fn judged() -> bool {
     let faults = |name: &str, cases: fn(&mut Tally)| {
         let mut report = Report::silent();
@@ -61,6 +62,10 @@ pub fn judged() -> bool {
     }
     if calls::lacking(&calls::taken()).len() < 100 || Code::refusal(16, 0) != ffi::checked_midi_number(128).0 {
         println!("judged: nothing is compared, and too little is lacking");
+        held = false;
+    }
+    for unseen in powers::unseen() {
+        println!("judged: not seen: {unseen}");
         held = false;
     }
     held

@@ -30,6 +30,7 @@ mod ffi_generators;
 mod ffi_kbm;
 mod ffi_scl;
 mod ffi_tuning;
+mod first_table;
 mod floats;
 mod freeze;
 mod freeze_entries;

@@ -5,17 +5,19 @@
 
 use crate::decided::{self, Asked};
 use crate::ffi;
+use crate::first_table;
 use crate::inputs::{Random, f64_limits, fixed};
 use crate::lent::Float;
 use crate::tally::{Code, Report, Said, Tally, Who};
+use std::collections::BTreeSet;
 use tune::powers;
 
 const RANDOM: usize = 1_000_000;
 
 /// Of so many inputs, how many the tables of E and of L may leave to the steps.
-const INPUTS: usize = 20_000;
-const MOST_OF_E: usize = 1_000;
-const MOST_OF_L: usize = 800;
+const INPUTS: usize = 200_000;
+const MOST_OF_E: usize = 7_600;
+const MOST_OF_L: usize = 6_400;
 
 pub fn exponents() -> impl Iterator<Item = f64> {
     let mut random = Random::new(6);
@@ -42,21 +44,31 @@ pub fn values() -> impl Iterator<Item = f64> {
     }))
 }
 
-/// Fractions of 52 bits: each pattern of seven bits at each place, below it zeros, ones or random bits, with the numbers up to `near` beside it.
+/// The fractions of 52 bits up to `near` beside these.
+fn beside(near: i64, all: impl Iterator<Item = u64>) -> impl Iterator<Item = u64> {
+    all.flat_map(move |f| (-near..=near).map(move |d| f.wrapping_add_signed(d) & ((1 << 52) - 1)))
+}
+
+/// Each pattern of the ten highest bits, those of E's first table: its first fraction and its last, with the numbers up to `near` beside.
+fn patterns(near: i64) -> impl Iterator<Item = u64> {
+    beside(near, fixed(0..1u64 << 10).flat_map(|i| [i << 42, (i << 42) + (1 << 42) - 1]))
+}
+
+/// Fractions of 52 bits: each pattern of eight bits at each place, below it zeros, ones or random bits, with the numbers up to `near` beside it.
 fn fractions(near: i64) -> impl Iterator<Item = u64> {
     let mut random = Random::new(8);
-    let all = (0..52).flat_map(|place| (0..128u64).map(move |bits| (place, bits)));
-    all.flat_map(move |(place, bits)| {
+    let all = (0..52).flat_map(|place| (0..256u64).map(move |bits| (place, bits)));
+    let all = all.flat_map(move |(place, bits)| {
         let (below, high) = ((1u64 << place) - 1, bits << place);
-        let other = random.next() & !((below << 7) | 0x7f);
+        let other = random.next() & !((below << 8) | 0xff);
         [high, high | below, other | high, other | high | (random.next() & below)]
-    })
-    .flat_map(move |f| (-near..=near).map(move |d| f.wrapping_add_signed(d) & ((1 << 52) - 1)))
+    });
+    beside(near, all)
 }
 
 /// Exponents whose fractions are those, in 1..2, 0..1, -1..0 and -2..-1; and others next to them, in 41..42, where an f64 has fewer bits.
 fn border_exponents(near: i64) -> impl Iterator<Item = f64> {
-    fractions(near).flat_map(|f| {
+    fractions(near).chain(patterns(near)).flat_map(|f| {
         let x = 1.0 + f as f64 * 2f64.powi(-52);
         [x, x - 1.0, x - 2.0, x - 3.0, x + 40.0]
     })
@@ -84,6 +96,7 @@ pub fn compare(all: &mut Report) {
             tally.same(x, ffi::one(ffi::telbijan_exp2, x), said(powers::e(x)));
         }
         decides(tally, |random| random.unit() * 20.0 - 10.0, decided::powers_of, MOST_OF_E);
+        first_table::compare(tally);
     });
     all.function("log2", &[18], |tally| {
         for x in values().chain(border_values(1)) {
@@ -100,6 +113,23 @@ fn decides(tally: &mut Tally, input: fn(&mut Random) -> f64, asked: fn(&[f64]) -
     let Asked { undecided, wrong } = asked(&inputs);
     tally.require(wrong == 0, "the code that is counted is not the library's");
     tally.require(undecided <= most, format!("the tables seldom decide: not in {undecided} of {INPUTS} cases"));
+}
+
+/// For `oracle judged`: what would pass unseen.
+pub fn unseen() -> Vec<String> {
+    let mut all = first_table::unseen();
+    let mut held = |name: &str, holds: bool| if !holds { all.push(name.to_string()) };
+    let places: BTreeSet<(u64, u64)> = patterns(0).map(|f| (f >> 42, f % (1 << 42))).collect();
+    held("a pattern left out", places == (0..1 << 10).flat_map(|i| [(i, 0), (i, (1 << 42) - 1)]).collect());
+    held("neighbours left out", beside(1, [0, 7].into_iter()).eq([(1 << 52) - 1, 0, 1, 6, 7, 8]));
+    held("a slow way from elsewhere", decided::slow_from_ten());
+    for most in [MOST_OF_E, MOST_OF_L] {
+        let seldom = |inputs: &[f64]| Asked { undecided: inputs.len() / 25, wrong: 0 };
+        let mut report = Report::silent();
+        report.function("judged, must differ", &[], |tally| decides(tally, |random| random.unit(), seldom, most));
+        held("tables that seldom decide", report.differences() == 1);
+    }
+    all
 }
 
 /// Many more numbers than the comparison has: the borders with more neighbours, then random numbers up to `count`, for each of E and L.

@@ -12,7 +12,7 @@ use lib.Ieee.Scale.{finite}
 use lib.Ieee.Exact.{HasValue}
 use lib.Count.{ones, ones-le}
 use Rattle.base.specs.Said.{gives, One}
-use Rattle.base.proofs.Said.{one-result}
+use Rattle.base.proofs.Said.{one-result, same-value}
 use Rattle.floats.specs.Floats.{twoTo, zeroF, oneF, abs}
 use Rattle.floats.specs.Ranges.{inReach, negligible}
 use Rattle.floats.specs.Answers.{saysFloat}
@@ -108,8 +108,15 @@ exp2-one x = float-one (E x)
 pub log2-one : (x : Float) → One saysFloat (L x)
 log2-one x = float-one (L x)
 
--- where no middle of two f64s lies from so many below r as b has set bits to 14 above it, P rounds to the cell of r
-pub near-rounds : (b r u w n : ℕ) → u + ones b ≤ 511 → w ≤ u + 498 → 124 ≤ n → n ≤ 1924 → Near b r → (r + u) % 1024 < w
+-- and so do the test of E's range and E inside it
+pub is-in-powers-one : (x : Float) → One (λ r. r) (inPowers x)
+is-in-powers-one x = one-result (inPowers x)
+
+pub power-one : (x : Float) → One gives (E x)
+power-one x q r p s = same-value q r (p ∙ sym s)
+
+-- where no middle of two f64s lies from so many below r as b has set bits to 11 above it, P rounds to the cell of r
+pub near-rounds : (b r u w n : ℕ) → u + ones b ≤ 511 → w ≤ u + 501 → 124 ≤ n → n ≤ 1924 → Near b r → (r + u) % 1024 < w
     → ofBits binary64 ((n - 2) * 2 ^ 52 + (r + u) / 1024) ≡ round binary64 false (pOf b 52 * 2 ^ n) (2 ^ 1086)
 near-rounds b r u w n l h from to q t =
     let p = powers b 52 (lit≤ tt) in

@@ -1,4 +1,4 @@
--- The product of six numbers by five roundings down, against P, on any numbers. Assumes nothing.
+-- The product of five numbers by four roundings down, against P, on any numbers. Assumes nothing.
 use mathlib.Core.Path.{_≡_, ap}
 use Prim.Native.Nat.{ℕ, _+_, _-_, _*_, _^_, _≤_, _<_}
 use native.Mathlib.Nat.{lt-of-not-le, lt-of-le-of-lt, lt-of-lt-of-le, mul-le-mul, mul-le-mul-left, mul-le-mul-right, mul-lt-mul-of-pos-right, le-of-mul-le-mul-right, lt-of-mul-lt-mul-right, mul-pos}
@@ -27,9 +27,10 @@ low-end P A X Z H K pos h g = le-of-mul-le-mul-right {k = Z} (omega (arith, mul-
 scaled : (P K M R e : ℕ) → P * (K * (4096 * M)) ≤ R → 16 * R ≤ e * (K * M) → 65536 * P * (K * M) ≤ e * (K * M)
 scaled P K M R e h k = omega arith
 
--- and from above: what was cut off comes to less than 15
-module _ (M A G1 G2 G3 G4 D q1 q2 q3 q4 q P : ℕ) (big : 2 ^ 52 ≤ M) (f1 : Floor M A G1 q1) (f2 : Floor M G2 G3 q2) (f3 : Floor M q1 q2 q3) (f4 : Floor M q3 G4 q4) (f : Floor M q4 D q)
-    (a-below : A < 2 * M) (a2 : 16384 * G2 ≤ 16385 * M) (a3 : 16384 * G3 ≤ 16385 * M) (a4 : 16384 * G4 ≤ 16385 * M) (q1-below : q1 < 2 * M) (q3-below : q3 < 2 * M) (q4-below : q4 < 2 * M)
+-- and from above: what was cut off comes to less than 12
+module _ (M A G1 G2 G3 D q1 q2 q3 q P : ℕ) (big : 2 ^ 52 ≤ M)
+    (f1 : Floor M A G1 q1) (f2 : Floor M G2 G3 q2) (f3 : Floor M q1 q2 q3) (f : Floor M q3 D q)
+    (a-below : A < 2 * M) (a2 : 16384 * G2 ≤ 16385 * M) (a3 : 16384 * G3 ≤ 16385 * M) (q1-below : q1 < 2 * M) (q3-below : q3 < 2 * M)
     (d-below : D ≤ M + 2 ^ 32) where
   one : A * (G1 + 1) ≤ (q1 + 3) * M
   one = let h = f1 .high in omega arith
@@ -40,28 +41,25 @@ module _ (M A G1 G2 G3 G4 D q1 q2 q3 q4 q P : ℕ) (big : 2 ^ 52 ≤ M) (f1 : Fl
   three : (q1 + 3) * (16 * q2 + 49) ≤ (16 * q3 + 163) * M
   three = let h = f3 .high in let p = pair-near M 16384 G2 G3 q2 (omega arith) a2 a3 (f2 .low) in omega arith
 
-  four : (16 * q3 + 163) * (G4 + 1) ≤ (16 * q4 + 212) * M
-  four = let h = f4 .high in omega arith
+  four : (16 * q3 + 163) * (4096 * D + 1300) ≤ (65536 * q + 774785) * M
+  four = let h = f .high in omega arith
 
-  five : (16 * q4 + 212) * (4096 * D + 1300) ≤ (65536 * q + 975489) * M
-  five = let h = f .high in omega arith
-
-  six : (a g1 g2 g3 g4 C u v w x e : ℕ) → a * g1 * (16 * (g2 * g3)) ≤ u * M * (v * M) → u * v ≤ w * M → w * g4 ≤ x * M → x * C ≤ e * M
-      → 16 * (a * (g1 * g2 * g3 * g4 * C)) ≤ e * (M * M * M * M * M)
-  six a g1 g2 g3 g4 C u v w x e h k l m =
+  five : (a g1 g2 g3 C u v w e : ℕ) → a * g1 * (16 * (g2 * g3)) ≤ u * M * (v * M) → u * v ≤ w * M → w * C ≤ e * M
+      → 16 * (a * (g1 * g2 * g3 * C)) ≤ e * (M * M * M * M)
+  five a g1 g2 g3 C u v w e h k l =
       let h3 : a * g1 * (16 * (g2 * g3)) ≤ w * (M * M * M) = omega (arith, mul-le-mul-right (M * M) k) in
-      let h4 : a * g1 * (16 * (g2 * g3)) * g4 ≤ x * (M * M * M * M) = omega (arith, mul-le-mul-right g4 h3, mul-le-mul-right (M * M * M) l) in
-      let h5 : a * g1 * (16 * (g2 * g3)) * g4 * C ≤ e * (M * M * M * M * M) = omega (arith, mul-le-mul-right C h4, mul-le-mul-right (M * M * M * M) m) in
-      omega (arith, h5)
+      let h4 : a * g1 * (16 * (g2 * g3)) * C ≤ e * (M * M * M * M) = omega (arith, mul-le-mul-right C h3, mul-le-mul-right (M * M * M) l) in
+      omega (arith, h4)
 
-  all-cut : 16 * (A * ((G1 + 1) * (G2 + 1) * (G3 + 1) * (G4 + 1) * (4096 * D + 1300))) ≤ (65536 * q + 975489) * (M * M * M * M * M)
-  all-cut = six A (G1 + 1) (G2 + 1) (G3 + 1) (G4 + 1) (4096 * D + 1300) (q1 + 3) (16 * q2 + 49) (16 * q3 + 163) (16 * q4 + 212) (65536 * q + 975489) (mul-le-mul one two) three four five
+  all-cut : 16 * (A * ((G1 + 1) * (G2 + 1) * (G3 + 1) * (4096 * D + 1300))) ≤ (65536 * q + 774785) * (M * M * M * M)
+  all-cut = five A (G1 + 1) (G2 + 1) (G3 + 1) (4096 * D + 1300) (q1 + 3) (16 * q2 + 49) (16 * q3 + 163) (65536 * q + 774785)
+      (mul-le-mul one two) three four
 
-  pub least : P * (M * M * M * M * (4096 * M)) ≤ A * ((G1 + 1) * (G2 + 1) * (G3 + 1) * (G4 + 1) * (4096 * D + 1300)) → P ≤ q + 14
+  pub least : P * (M * M * M * (4096 * M)) ≤ A * ((G1 + 1) * (G2 + 1) * (G3 + 1) * (4096 * D + 1300)) → P ≤ q + 11
   least h =
-      let k : 65536 * P * (M * M * M * M * M) ≤ (65536 * q + 975489) * (M * M * M * M * M) = scaled P (M * M * M * M) M _ _ h all-cut in
+      let k : 65536 * P * (M * M * M * M) ≤ (65536 * q + 774785) * (M * M * M * M) = scaled P (M * M * M) M _ _ h all-cut in
       let pos : 0 < M = omega arith in
-      let l : 65536 * P ≤ 65536 * q + 975489 = le-of-mul-le-mul-right k (mul-pos (mul-pos (mul-pos (mul-pos pos pos) pos) pos) pos) in
+      let l : 65536 * P ≤ 65536 * q + 774785 = le-of-mul-le-mul-right k (mul-pos (mul-pos (mul-pos pos pos) pos) pos) in
       omega (arith, l)
 
 pub highest : (q P c K : ℕ) → 0 < K → c < 256 → 256 * (q * K) ≤ (256 * P + 257 * c) * K → q ≤ P + c

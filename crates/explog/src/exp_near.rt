@@ -15,8 +15,8 @@ const LAST: u64 = 1024;
 
 const BELOW_MIDDLE: u64 = 511;
 
-// The parts that are left where P is above its number by 14 at most.
-const DECIDED: u64 = 1009;
+// The parts that are left where P is above its number by 11 at most.
+const DECIDED: u64 = 1012;
 
 // P after E's 52 steps, the first ones from a table.
 fn power_bits(b: u64) -> u64
@@ -33,10 +33,8 @@ fn near_power(b: u64) -> u64
     let head = wide::mul_shift62(power_first::first_steps(b), power_products::product_1(b));
     let tail = wide::mul_shift62(power_products::product_2(b), power_products::product_3(b));
     let body = wide::mul_shift62(head, tail);
-    let most = wide::mul_shift62(body, power_products::product_4(b));
-    let high = power_sums::sum_1(b) + power_sums::sum_2(b);
-    let low = power_sums::sum_3(b) + power_sums::sum_4(b);
-    wide::mul_shift62(most, ONE + (high + low))
+    let rest = power_sums::sum_1(b) + power_sums::sum_2(b) + power_sums::sum_3(b);
+    wide::mul_shift62(body, ONE + rest)
 }
 
 // The f64 nearest to P * 2^(n - 1086): by the number near P where no middle of two f64s can lie between them, else by P. The near one

@@ -3,10 +3,11 @@ mod exp_near;
 mod log_near;
 
 ghost use mathlib.Core.Path.{_≡_};
+ghost use mathlib.Core.Bool.{true};
 ghost use Prim.Native.Nat.{_+_, _-_, _*_, _/_, _^_, _≤_, _<_};
 ghost use lib.Dec.{leb};
 ghost use lib.Ieee.{neg};
-ghost use Rattle.base.specs.Said.{pick};
+ghost use Rattle.base.specs.Said.{pick, gives};
 ghost use Rattle.floats.specs.Answers.{saysFloat};
 ghost use Rattle.explog.specs.Rules.{E, L, inPowers};
 
@@ -53,7 +54,7 @@ fn floor_sum(negative: bool, d: u64, k: u64) -> u64
 }
 
 // Whether x lies in -900..900, where E is defined.
-fn is_in_powers(x: f64) -> bool
+pub fn is_in_powers(x: f64) -> bool
     ensures { λ r. ⌜ r ≡ inPowers x ⌝ }
 {
     let low = x >= -900.0;
@@ -61,14 +62,22 @@ fn is_in_powers(x: f64) -> bool
     low & high
 }
 
+// E(x), the power 2^x, for x in -900..900. A number and no answer, so that it comes back in a register.
+pub fn power(x: f64) -> f64
+    requires { ⌜ inPowers x ≡ true ⌝ }
+    ensures { λ r. ⌜ gives r ≡ E x ⌝ }
+{
+    let parts = floats::unpack(x);
+    let f = floor_sum(parts.negative, parts.digits, parts.exponent);
+    exp_near::nearest_to_power(f % PARTS, f / PARTS)
+}
+
 // E(x), the power 2^x: 18 outside -900..900.
 pub fn exp2(x: f64) -> floats::FloatAnswer
     ensures { λ r. ⌜ saysFloat r ≡ E x ⌝ }
 {
     if is_in_powers(x) {
-        let parts = floats::unpack(x);
-        let f = floor_sum(parts.negative, parts.digits, parts.exponent);
-        floats::FloatAnswer::Is(exp_near::nearest_to_power(f % PARTS, f / PARTS))
+        floats::FloatAnswer::Is(power(x))
     } else {
         floats::FloatAnswer::Refused(base::Refusal {
             number: base::BEYOND_REACH,

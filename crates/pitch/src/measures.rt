@@ -12,9 +12,10 @@ impl Ratio {
     pub fn from_octaves(octaves: f64) -> RatioAnswer
         ensures { λ r. ⌜ saysRatio r ≡ fromOctaves octaves ⌝ }
     {
-        match explog::exp2(octaves) {
-            FloatAnswer::Is(power) => crate::checked_ratio(power),
-            FloatAnswer::Refused(refusal) => RatioAnswer::Refused(refusal),
+        if explog::is_in_powers(octaves) {
+            RatioAnswer::Is(Ratio(explog::power(octaves)))
+        } else {
+            RatioAnswer::Refused(crate::OUT_OF_REACH)
         }
     }
 

@@ -5,5 +5,5 @@ use Rattle.powers.specs.Inner.{Power}
 use Rattle.powers.proofs.Theorems.{power-steps-one}
 
 module _ (b q r : ℕ) where
-  pub first-steps-one : Power b 7 q → Power b 7 r → q ≡ r
-  first-steps-one = power-steps-one b 7 q r
+  pub first-steps-one : Power b 10 q → Power b 10 r → q ≡ r
+  first-steps-one = power-steps-one b 10 q r

@@ -5,14 +5,11 @@ use Rattle.power_parts.specs.Parts.{Part}
 use Rattle.power_parts.proofs.One.{part-one}
 
 module _ (b q r : ℕ) where
-  pub product-1-one : Part b 7 7 q → Part b 7 7 r → q ≡ r
-  product-1-one = part-one b 7 7 q r
+  pub product-1-one : Part b 10 8 q → Part b 10 8 r → q ≡ r
+  product-1-one = part-one b 10 8 q r
 
-  pub product-2-one : Part b 14 6 q → Part b 14 6 r → q ≡ r
-  product-2-one = part-one b 14 6 q r
+  pub product-2-one : Part b 18 7 q → Part b 18 7 r → q ≡ r
+  product-2-one = part-one b 18 7 q r
 
-  pub product-3-one : Part b 20 6 q → Part b 20 6 r → q ≡ r
-  product-3-one = part-one b 20 6 q r
-
-  pub product-4-one : Part b 26 6 q → Part b 26 6 r → q ≡ r
-  product-4-one = part-one b 26 6 q r
+  pub product-3-one : Part b 25 7 q → Part b 25 7 r → q ≡ r
+  product-3-one = part-one b 25 7 q r

@@ -1,38 +1,32 @@
--- `Ratio::from_octaves` meets its contract: E, and its result checked.
+-- `Ratio::from_octaves` meets its contract: E inside -900..900, whose result is always in the range; else 18.
 -- Assumes nothing.
-use Rattle.base.proofs.Said.{and-then}
-use Rattle.floats.specs.Answers.{saysFloat}
-use Rattle.pitch.specs.Given.{computed}
+use mathlib.Core.Path.{_≡_, sym, ap, _∙_}
+use mathlib.Core.Bool.{true}
+use lib.Ieee.{Float, binary64, fits}
 use borrow.Author.Needs.{needs}
-use mathlib.Core.Path.{_∙_}
+use Rattle.base.specs.Said.{gives, andThen}
+use Rattle.explog.specs.Rules.{E}
+use Rattle.explog.proofs.EndsE.{power-refused}
+use Rattle.explog.proofs.Theorems.{exp-reach}
+use Rattle.pitch.specs.Given.{computed}
 use Rattle.pitch.proofs.Ratio.from_octaves.Statement.{statement}
 use Rattle.pitch.proofs.Ratio.from_octaves.Tie as tie
 
-exp2-requires : tie.Need-exp2-requires
-exp2-requires c κs = search needs
+-- what E gives needs no test
+in-range : (x r : Float) → fits binary64 x ≡ true → gives r ≡ E x → gives r ≡ andThen (E x) computed
+in-range x r f e = let inside = exp-reach x r f (sym e) in rw inside at (ap (λ s. andThen s computed) e)
 
-enum-known-power : tie.Need-enum-known-power
-enum-known-power c = search needs
+is-in-powers-requires : tie.Need-is-in-powers-requires
+is-in-powers-requires c κs = search needs
 
-checked-ratio-requires : tie.Need-checked-ratio-requires
-checked-ratio-requires c κs = search needs
-
-enum-known-refusal : tie.Need-enum-known-refusal
-enum-known-refusal c = search needs
+power-requires : tie.Need-power-requires
+power-requires c κs = sym (c .before .is-in-powers .ensures) ∙ c .if1 .taken
 
 returns : tie.Need-returns
-returns c = c .checked-ratio .ensures ∙ and-then saysFloat computed (c .before .before .before .before .exp2 .ensures) (c .before .before .power .given .1)
+returns c = in-range _ _ (search needs) (c .power .ensures)
 
 returns-2 : tie.Need-returns-2
-returns-2 c = and-then saysFloat computed (c .before .before .before .exp2 .ensures) (c .before .refusal .given .1)
+returns-2 c = ap (λ s. andThen s computed) (power-refused _ (sym (c .before .is-in-powers .ensures) ∙ c .if1 .left))
 
 pub from-octaves-spec : {M : Type 1} → statement M
-from-octaves-spec =
-    tie.close
-    (tie.spec
-    exp2-requires
-    enum-known-power
-    checked-ratio-requires
-    enum-known-refusal
-    returns
-    returns-2)
+from-octaves-spec = tie.close (tie.spec is-in-powers-requires power-requires returns returns-2)

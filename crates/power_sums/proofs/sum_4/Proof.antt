@@ -1,7 +1,0 @@
--- What the table has for these bits. Assumes nothing.
-use mathlib.Core.Path.{refl}
-use Rattle.power_sums.proofs.sum_4.Statement.{statement}
-use Rattle.power_sums.proofs.sum_4.Tie as tie
-
-pub sum-4-spec : {M : Type 1} → statement M
-sum-4-spec = tie.close (tie.spec (λ c κs. tt) (λ c. c .sum-4-at .ensures (c .before .args .b) refl))
