@@ -1,5 +1,5 @@
--- Whole numbers with a sign: how large sums and products become (`mag` of -(a + 1) is a), and division rounded down.
--- Assumes nothing.
+-- Whole numbers: of two one is below the other, or not; with a sign, how large sums and products become (`mag` of -(a + 1) is a), and
+-- division rounded down. Assumes nothing.
 use mathlib.Core.Path.{_≡_, refl, sym, ap}
 use mathlib.Core.Logic.{_⊎_, inl, inr}
 use mathlib.Core.Bool.{Bool, true, false, true≢false}
@@ -9,12 +9,20 @@ use native.Mathlib.Omega.{arith}
 use lib.Dec.{ltb, leb}
 use lib.IntN.{ℤ, pos, negsuc, negℤ, subℕ, _+ℤ_, _-ℤ_, _*ℤ_}
 use lib.Signed.{mag, ltZ, leZ}
-use borrow.Author.Tests.{ltb-true, le-ltb, leb-true}
+use borrow.Author.Tests.{ltb-true, ltb-false, le-ltb, leb-true}
 use Rattle.base.specs.Integers.{floorDiv, floorMod, inI32}
 
 pub bool-cases : (t : Bool) → (t ≡ true) ⊎ (t ≡ false)
 bool-cases true = inl refl
 bool-cases false = inr refl
+
+-- below a number, or not
+pub split : (c n : ℕ) → (c < n) ⊎ (n ≤ c)
+split c n = go (ltb c n) refl
+  where
+    go : (t : Bool) → ltb c n ≡ t → (c < n) ⊎ (n ≤ c)
+    go true e = inl (ltb-true c n e)
+    go false e = inr (ltb-false c n e)
 
 mag-subℕ : (a b : ℕ) → mag (subℕ a b) ≤ a + b
 mag-subℕ a b = elim (bool-cases (ltb a b)) [ inl h ↦ simp h (omega arith) | inr h ↦ simp h (omega arith) ]

@@ -3,18 +3,20 @@ use mathlib.Core.Path.{_≡_, sym, ap, _∙_, subst}
 use mathlib.Core.Bool.{Bool, true, false, not}
 use Prim.Native.Nat.{ℕ, _+_, _-_, _*_, _^_, _≤_, _<_}
 use borrow.Author.Tests.{le-leb, lt-leb}
+use native.Mathlib.Nat.{le-trans}
 use native.Mathlib.Omega.{arith}
-use lib.Dec.{T, leb, leb→le, nleb→lt}
+use lib.Dec.{T, leb, leb→le, nleb→lt, lit≤}
 use lib.Ieee.{Float, binary64, round, neg, fits}
 use Rattle.base.specs.Said.{gives, refuses, pick}
 use Rattle.floats.specs.Ranges.{inReach}
-use Rattle.floats.specs.Units.{unitsOf, Unpacked}
+use Rattle.floats.specs.Units.{Unpacked}
 use Rattle.floats.proofs.Sign.{round-neg}
+use Rattle.floats.proofs.Units.{full-digits}
 use Rattle.explog.specs.Log.{bOf}
 use Rattle.explog.specs.Rules.{L}
 use Rattle.explog.proofs.Plain.{plainLog, nearestDiff}
 use Rattle.explog.proofs.LiteralL.{l-literal}
-use Rattle.explog.proofs.Range.{l-range, some}
+use Rattle.explog.proofs.Range.{l-range}
 
 -- the nearest to (a - b) / c, by which is the larger
 pub diff-up : (a b c : ℕ) → b ≤ a → round binary64 false (a - b) c ≡ nearestDiff a b c
@@ -39,7 +41,7 @@ sided a b c r q = go (leb b a) (leb→le b a) (nleb→lt b a)
 
 -- an x that has a logarithm has 53 digits
 pub digits-full : (x : Float) (s : Bool) (d k : ℕ) → Unpacked x s d k → inReach x ≡ true → 2 ^ 52 ≤ d
-digits-full x s d k p t = p .normal (some d k (unitsOf x) (p .is) (p .small) (l-range x t .1))
+digits-full x s d k p t = full-digits p (le-trans (lit≤ tt) (l-range x t .1))
 
 module _ (x : Float) (s : Bool) (d k B : ℕ) (p : Unpacked x s d k) (t : inReach x ≡ true) (f : fits binary64 x ≡ true) (e : B ≡ bOf (d * 2 ^ 10) 52) where
   log-is : (r : Float) → r ≡ nearestDiff (k * 2 ^ 52 + B) (1022 * 2 ^ 52) (2 ^ 52) → gives r ≡ L x

@@ -16,10 +16,11 @@ use Rattle.floats.specs.Ranges.{inReach}
 use Rattle.floats.specs.Units.{unitsOf}
 use Rattle.floats.proofs.Ranges.{Within, within-fin, reach-says}
 use Rattle.floats.proofs.Decode.{Located, located, units-of}
+use Rattle.floats.proofs.Units.{not-subnormal}
 use Rattle.explog.specs.Log.{bOf}
 use Rattle.explog.specs.Rules.{L, logOf}
 use Rattle.explog.proofs.Plain.{plainLog}
-use Rattle.explog.proofs.Range.{l-range, some}
+use Rattle.explog.proofs.Range.{l-range}
 use Rattle.explog.proofs.LiteralL.{l-literal}
 use Rattle.powers.proofs.Turns.{b-size}
 use Rattle.explog.proofs.Far.{bits-above, bits-below}
@@ -48,7 +49,7 @@ of-located {s = s} {q = q} {j = j} (within-fin m e p lo hi) f t l =
     let x = fin false m e in
     let u = units-of x s (q * 2 ^ j) (l .value) .0 in
     let h = l-range x t in
-    let n = l .normal (some q j (unitsOf x) u (l .small) (h .1)) in
+    let n = l .normal (not-subnormal q j (unitsOf x) u (l .small) (le-trans (lit≤ tt) (h .1))) in
     record {
       d = q;
       k = j;

@@ -6,10 +6,11 @@ use mathlib.Core.Logic.{inl, inr}
 use Prim.Native.Nat.{ℕ, suc, _+_, _-_, _*_, _^_, _≤_, _<_}
 use native.Mathlib.Nat.{le-trans, le-of-eq, lt-of-le-of-lt, mul-one, one-mul, mul-comm, mul-assoc, mul-right-comm, mul-left-comm, add-comm, mul-le-mul, mul-le-mul-right, mul-le-mul-left, eq-or-lt-of-le, mul-pos, zero-mul}
 use native.Mathlib.Omega.{arith}
-use lib.Dec.{T, ltb, eqb, lt→ltb, eqb-refl, lit<}
+use lib.Dec.{T, ltb, eqb, lt→ltb, eqb-refl, lit<, lit≤}
 use lib.Pow.{pow-pos, pow-add, pow-mono, pow-lt}
 use lib.IntN.{ℤ, pos, negsuc}
-use lib.Ieee.{Float, nan, inf, fin, binary64, up, down, round, le, lt, eq, ofBits, div}
+use lib.Ieee.{Float, nan, inf, fin, binary64, up, down, round, le, lt, eq, ofBits, ofInt, div}
+use lib.Ieee.Back.{round-whole}
 use lib.Ieee.Exact.{HasValue, round-exact}
 use lib.Ieee.Fits.{down-pos, and-i, up-pos}
 use lib.Ieee.Order.{round-mono, le-of-values}
@@ -101,6 +102,17 @@ quotient-within a b n k (fin false m e) (fin false i d) sa sb v w p l h =
     (round-within a b (n * (down e * down d)) (k * (down e * down d)) sa sb (mul-pos p (mul-pos (down-pos e) (down-pos d)))
     (le-trans (mul-le-mul-right (down e * down d) l) (le-of-eq (mul-right-comm n (2 ^ a) (down e * down d))))
     (le-trans (mul-le-mul-right (down e * down d) h) (le-of-eq (mul-assoc (2 ^ b) k (down e * down d)))))
+
+-- of 16 bits each, as floats
+whole-value : (n : ℕ) → n ≤ 65535 → HasValue (ofInt binary64 (pos n)) false n 1
+unfolding ofInt
+whole-value n h = round-whole binary64 false n (le-trans h (lit≤ tt))
+
+pub fraction-within : (n d : ℕ) → 1 ≤ n → n ≤ 65535 → 1 ≤ d → d ≤ 65535 →
+    Within 16 16 (div binary64 (ofInt binary64 (pos n)) (ofInt binary64 (pos d)))
+fraction-within n d a b c e =
+    quotient-within 16 16 n d (ofInt binary64 (pos n)) (ofInt binary64 (pos d)) (lit≤ tt) (lit≤ tt)
+    (whole-value n b) (whole-value d e) c (omega (arith, a, e)) (omega (arith, b, c))
 
 -- a ratio turned over
 not-zero : (m : ℕ) → 0 < m → m ≡ 0 → ⊥

@@ -3,21 +3,19 @@
 -- best counts. Assumes nothing.
 use mathlib.Core.Path.{_≡_, refl, sym, ap, _∙_, subst}
 use mathlib.Core.Bool.{Bool, true, false, _&&_}
-use Prim.Native.Nat.{ℕ, suc, _-_, _+_, _≤_, _<_}
+use Prim.Native.Nat.{ℕ, suc, _-_, _+_, _≤_}
 use native.Mathlib.Nat.{le-trans}
 use native.Mathlib.Omega.{arith}
 use borrow.Author.Tests.{le-ltb, le-leb}
 use lib.Dec.{lit<, lit≤}
-use lib.IntN.{ℤ, pos}
+use lib.IntN.{ℤ}
 use lib.Ieee.{Float, inf, binary64, fits, div, neg, lt, ofInt, toSigned}
-use lib.Ieee.Back.{round-whole}
 use lib.Ieee.Bits.{is-true}
-use lib.Ieee.Exact.{HasValue}
 use lib.Ieee.Fits.{ofInt-fits}
 use Rattle.base.specs.Said.{Said, gives, andThen, pick}
 use Rattle.floats.specs.Floats.{floor, count, oneF}
 use Rattle.floats.specs.Ranges.{inReach, inSearch}
-use Rattle.floats.proofs.Between.{quotient-within, over-within, inverse-within, within-more, within-reach}
+use Rattle.floats.proofs.Between.{fraction-within, over-within, inverse-within, within-more, within-reach}
 use Rattle.floats.proofs.Ranges.{Within, within-fin, search-says}
 use Rattle.floats.proofs.Sized.{Sized, sized-more, floor-sized, signed-sized, sized-count}
 use Rattle.math.specs.OddPart.{halvedWhileEven}
@@ -106,15 +104,8 @@ module _ (r : Float) (f : fits binary64 r ≡ true) (s : inSearch r ≡ true) wh
       }
 
 -- ---- the walk
-whole-value : (n : ℕ) → n ≤ 65535 → HasValue (ofInt binary64 (pos n)) false n 1
-unfolding ofInt
-whole-value n h = round-whole binary64 false n (le-trans h (lit≤ tt))
-
-pub fraction-within : (f : Fraction) → Proper f → Within 16 16 (floatOf f)
-fraction-within f p =
-    quotient-within 16 16 (f .numer) (f .denom) (ofInt binary64 (pos (f .numer))) (ofInt binary64 (pos (f .denom))) (lit≤ tt) (lit≤ tt)
-    (whole-value (f .numer) (p .numer-held)) (whole-value (f .denom) (p .denom-held)) (p .denom-some)
-    (omega (arith, p .denom-held, p .numer-some)) (omega (arith, p .denom-some, p .numer-held))
+pub proper-within : (f : Fraction) → Proper f → Within 16 16 (floatOf f)
+proper-within f p = fraction-within (f .numer) (f .denom) (p .numer-some) (p .numer-held) (p .denom-some) (p .denom-held)
 
 upward-within : {a : ℕ} (x : Float) → a ≤ 900 → Within a a x → Within a a (upward x)
 unfolding upward
@@ -128,7 +119,7 @@ upward-within {a} x h w = go (lt (neg oneF) x && lt x oneF)
 pub deviation-reach : (target : Float) (f : Fraction) → Within 128 128 target → Proper f →
     (inReach (div binary64 target (floatOf f)) ≡ true) × (inReach (upward (div binary64 target (floatOf f))) ≡ true)
 deviation-reach target f t p =
-    let w : Within 144 144 (div binary64 target (floatOf f)) = over-within (lit≤ tt) (lit≤ tt) t (fraction-within f p) in
+    let w : Within 144 144 (div binary64 target (floatOf f)) = over-within (lit≤ tt) (lit≤ tt) t (proper-within f p) in
     (reach-of {a = 144} {b = 144} (lit≤ tt) (lit≤ tt) w, reach-of {a = 144} {b = 144} (lit≤ tt) (lit≤ tt) (upward-within (div binary64 target (floatOf f)) (lit≤ tt) w))
 
 -- the fraction in the middle of a state of the walk, where its numbers have 16 bits
@@ -160,7 +151,7 @@ module _ (target : Float) (limit : ℕ) (some : 1 ≤ limit) (t : Within 128 128
   below (within-fin m e p l h) = refl
 
   one-nearer : lt (upward deviation-one) (upward (inf false)) ≡ true
-  one-nearer = below (upward-within deviation-one (lit≤ tt) (over-within (lit≤ tt) (lit≤ tt) t (fraction-within one one-proper)))
+  one-nearer = below (upward-within deviation-one (lit≤ tt) (over-within (lit≤ tt) (lit≤ tt) t (proper-within one one-proper)))
 
   improved-one : improved widest one deviation-one limit ≡ walkOf (fraction 0 1) (fraction 1 0) one deviation-one
   unfolding improved

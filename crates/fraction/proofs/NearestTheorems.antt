@@ -17,7 +17,7 @@ use Rattle.fraction.specs.NearestFraction.{fraction, widest, turns, walk
 use Rattle.pitch.specs.Ratios.{upward}
 use Rattle.fraction.specs.declared.NearestFraction.{NearestFraction}
 use Rattle.fraction.specs.declared.Walk.{Walk}
-use Rattle.fraction.proofs.NearestAnswers.{BeforeWalk, before-walk, fraction-within, deviation-reach, middle-proper, counted}
+use Rattle.fraction.proofs.NearestAnswers.{BeforeWalk, before-walk, proper-within, deviation-reach, middle-proper, counted}
 use Rattle.fraction.proofs.States.{Counted, state-walked}
 use Rattle.fraction.proofs.WalkEnds.{walked-end}
 
@@ -70,7 +70,7 @@ pub middle-in-reach : {r : Float} (d : BeforeWalk r) (limit k n m : ℕ) →
     (let w = walked k widest (div binary64 r (d .power)) limit in
     n ≡ w .low .numer + w .high .numer → m ≡ w .low .denom + w .high .denom → n ≤ 65535 → m ≤ 65535 → inReach (floatOf (fraction n m)) ≡ true)
 middle-in-reach {r} d limit k n m p q h g =
-    within-reach (within-more (lit≤ tt) (lit≤ tt) (fraction-within (fraction n m) (middle-proper (state-walked (div binary64 r (d .power)) limit k) n m p q h g)))
+    within-reach (within-more (lit≤ tt) (lit≤ tt) (proper-within (fraction n m) (middle-proper (state-walked (div binary64 r (d .power)) limit k) n m p q h g)))
 
 answers-best : (target : Float) (octaves : ℤ) (limit : ℕ) → 1 ≤ limit → Within 128 128 target → InLimit limit (bestFor target octaves limit)
 unfolding bestFor

@@ -1,12 +1,9 @@
 -- The UTF-8 encodings by their four lengths. Assumes nothing.
-use mathlib.Core.Path.{_≡_, refl}
+use mathlib.Core.Path.{_≡_}
 use mathlib.Core.List.{[], _∷_}
-use mathlib.Core.Bool.{Bool, true, false}
-use mathlib.Core.Logic.{_⊎_, inl, inr}
 use Prim.Native.Nat.{ℕ, _+_, _/_, _%_, _≤_, _<_}
 use native.Mathlib.Omega.{arith}
-use lib.Dec.{ltb}
-use borrow.Author.Tests.{lt-ltb, le-ltb, ltb-true, ltb-false}
+use borrow.Author.Tests.{lt-ltb, le-ltb}
 use Rattle.utf8.specs.Characters.{encode}
 
 pub enc1 : (c : ℕ) → c < 0x80 → encode c ≡ c ∷ []
@@ -24,11 +21,3 @@ enc3 c l h = rw (le-ltb c 0x80 (omega arith), le-ltb c 0x800 l, lt-ltb c 0x10000
 pub enc4 : (c : ℕ) → 0x10000 ≤ c → encode c ≡ (0xF0 + c / 262144) ∷ (0x80 + c / 4096 % 64) ∷ (0x80 + c / 64 % 64) ∷ (0x80 + c % 64) ∷ []
 unfolding encode
 enc4 c l = rw (le-ltb c 0x80 (omega arith), le-ltb c 0x800 (omega arith), le-ltb c 0x10000 l)
-
--- below a number, or not
-pub split : (c n : ℕ) → (c < n) ⊎ (n ≤ c)
-split c n = go (ltb c n) refl
-  where
-    go : (t : Bool) → ltb c n ≡ t → (c < n) ⊎ (n ≤ c)
-    go true e = inl (ltb-true c n e)
-    go false e = inr (ltb-false c n e)

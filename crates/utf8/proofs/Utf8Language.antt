@@ -15,7 +15,8 @@ use Rattle.utf8.specs.declared.State.{State}
 use Rattle.utf8.specs.declared.Step.{Step}
 use Rattle.utf8.specs.declared.Step.the-variants.{Go, Stop}
 use Rattle.utf8.proofs.Utf8Steps.{lead-at, step-in, step-lead}
-use Rattle.utf8.proofs.Encodings.{enc1, enc2, enc3, enc4, split}
+use Rattle.base.proofs.Integers.{split}
+use Rattle.utf8.proofs.Encodings.{enc1, enc2, enc3, enc4}
 
 differ : _≡_ {A = ℕ} 0 1 → ⊥
 differ e = omega arith

@@ -16,7 +16,8 @@ use Rattle.text.specs.Lines.{NoLF, EndsCR, Lines}
 use Rattle.text.specs.ReadLine.{strictly, meanings}
 use Rattle.text.specs.Reading.{Comment, strict, Splits, Token, Meaning, content, Line, EachLine, Says}
 use Rattle.white.specs.White.{WhiteSpace, Trimmed}
-use Rattle.utf8.proofs.Encodings.{enc1, enc2, enc3, enc4, split}
+use Rattle.base.proofs.Integers.{split}
+use Rattle.utf8.proofs.Encodings.{enc1, enc2, enc3, enc4}
 use Rattle.text.proofs.LineLanguage.{one-strict-text}
 use Rattle.writing.specs.Lines.{linesText}
 

@@ -30,7 +30,7 @@ use Rattle.kbm_read.proofs.Tables.{leaves-meaning}
 use Rattle.key.specs.declared.PianoKey.{PianoKey}
 use Rattle.promises.specs.kbm.KeysOfText.{entryTokens, lastKey, Inside, Outside, steps, Counts, NotMapped, MappedTo, Silent, TooFar, SaidOf}
 use Rattle.kbm_write.specs.Export.{lastKeyOf}
-use Rattle.utf8.proofs.Encodings.{split}
+use Rattle.base.proofs.Integers.{split}
 use Rattle.promises.proofs.kbm.Values.{letter-integer}
 use Rattle.promises.proofs.kbm.Range.{inside, inside-back, outside, outside-back}
 

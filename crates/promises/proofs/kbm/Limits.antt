@@ -18,7 +18,7 @@ use Rattle.integers.proofs.AtLine.{typed-int}
 use Rattle.kbm_read.proofs.Tables.{typed-all}
 use Rattle.kbm_write.specs.Published as P
 use Rattle.text.specs.Reading.{strict, Meaning, Line, EachLine}
-use Rattle.utf8.proofs.Encodings.{split}
+use Rattle.base.proofs.Integers.{split}
 use Rattle.text.proofs.LinesLanguage.{one-lines}
 use Rattle.promises.specs.kbm.Limits.{AllUtf8, WithinLimits}
 use Rattle.promises.proofs.kbm.Agree.{same-number, written-degrees, seven, read-values}

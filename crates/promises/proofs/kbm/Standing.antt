@@ -11,7 +11,8 @@ use Rattle.writing.proofs.Plain.{Plain, Word, each-right}
 use Rattle.utf8.specs.Characters.{Each, inBytes, encode}
 use Rattle.text.specs.Reading.{Comment, strict, Splits, Stops, Meaning, invalid, comment, content, Line, EachLine}
 use Rattle.white.specs.White.{WhiteSpace, Trimmed}
-use Rattle.utf8.proofs.Encodings.{enc1, enc2, enc3, enc4, split}
+use Rattle.base.proofs.Integers.{split}
+use Rattle.utf8.proofs.Encodings.{enc1, enc2, enc3, enc4}
 use Rattle.promises.specs.scl.Limits.{Apart}
 
 -- no white character is a graphic one of ASCII

@@ -9,7 +9,8 @@ use lib.ListN.{length}
 use borrow.Author.Tests.{lt-ltb, le-ltb}
 use Rattle.base.specs.Said.{pick}
 use Rattle.utf8.specs.Characters.{Each, inBytes, Row, Scalar, encode, Utf8}
-use Rattle.utf8.proofs.Encodings.{enc1, enc2, enc3, enc4, split}
+use Rattle.base.proofs.Integers.{split}
+use Rattle.utf8.proofs.Encodings.{enc1, enc2, enc3, enc4}
 use Rattle.white.specs.White.{WhiteSpace, Trimmed}
 
 -- a byte that goes on with a character
