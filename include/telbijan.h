@@ -48,6 +48,7 @@ extern "C" {
 #define TELBIJAN_KEY_OUT_OF_RANGE 16 /* the key is outside the range */
 #define TELBIJAN_UNMAPPED_KEY 17 /* the key is unmapped */
 #define TELBIJAN_BEYOND_REACH 18 /* beyond reach: a period of 1.0, 0 divisions, or a computed pitch or ratio outside its range */
+#define TELBIJAN_NO_FRACTION 29 /* no fraction: the odd limit is 0 */
 
 /* A scale is seven columns, each lent with its length, and `count` beside them. Four columns hold the items, place for place: `kind`,
  * `cents`, `numer`, `denom`. Place 0 holds the implicit 0.0 cents, item j stands at place j, and the last item is the period. The
@@ -164,6 +165,12 @@ uint64_t telbijan_ratio_total_cmp(double value, double other, int32_t *order);
 /* The nearest fraction that the walk finds within the odd limit, octaves taken off: numer, denom, deviation and octaves are
    stored; 10 outside 2^-64..2^64. */
 uint64_t telbijan_ratio_nearest_fraction(double value, uint16_t limit, uint16_t *numer, uint16_t *denom, double *deviation, int32_t *octaves);
+
+/* The best fraction: of all n / d with n and d from 1 to 65535 whose odd parts are within the odd limit, the one nearest to the value, by
+   the larger over the smaller; where two are as near, the smaller denominator, then the smaller numerator: it is in lowest terms. Octaves
+   are not taken off. Stored are numer, denom and deviation, value / (numer / denom); 10 outside 2^-64..2^64, then 29 for limit 0. The time
+   grows with the limit: about half a microsecond at 9, a quarter of a millisecond at 65535. */
+uint64_t telbijan_ratio_best_fraction(double value, uint16_t limit, uint16_t *numer, uint16_t *denom, double *deviation);
 
 /* ---- E and L for C: the power of two and its logarithm, the same on every machine. */
 
@@ -363,6 +370,7 @@ static inline const char *telbijan_reason(uint32_t number) {
     case TELBIJAN_KEY_OUT_OF_RANGE: return "the key is outside the range";
     case TELBIJAN_UNMAPPED_KEY: return "the key is unmapped";
     case TELBIJAN_BEYOND_REACH: return "beyond reach: a period of 1.0, 0 divisions, or a computed pitch or ratio outside its range";
+    case TELBIJAN_NO_FRACTION: return "no fraction: the odd limit is 0";
     default: return "no number of this library";
     }
 }

@@ -282,25 +282,43 @@ static void constants(void) {
 
 /* ---- The header's own names. */
 
-static const char *const REASONS[] = {
-    "accepted", "a line is not UTF-8", "a required line is missing", "not an integer of its type", "not a cents value", "not a numerator", "not a denominator", "not a decimal", "not a mapping entry",
-    "a numeral with an exponent, a word, or over 18 digits", "a value, a state or a lent table that cannot be used", "a number leaves its type", "what was lent is too small", "over 65,535 entries",
-    "the text has another count of notes or entries than it says", "a builder with entries and no formal octave", "the key is outside the range", "the key is unmapped",
-    "beyond reach: a period of 1.0, 0 divisions, or a computed pitch or ratio outside its range", "no number of this library",
+static const struct named {
+    uint32_t name, number;
+    const char *reason;
+} NAMED[] = {
+    {TELBIJAN_ACCEPTED, 0, "accepted"},
+    {TELBIJAN_NOT_UTF8, 1, "a line is not UTF-8"},
+    {TELBIJAN_LINE_MISSING, 2, "a required line is missing"},
+    {TELBIJAN_INT_VALUE, 3, "not an integer of its type"},
+    {TELBIJAN_CENTS_VALUE, 4, "not a cents value"},
+    {TELBIJAN_NUMER, 5, "not a numerator"},
+    {TELBIJAN_DENOM, 6, "not a denominator"},
+    {TELBIJAN_FLOAT_VALUE, 7, "not a decimal"},
+    {TELBIJAN_KEYBOARD_MAPPING, 8, "not a mapping entry"},
+    {TELBIJAN_UNSUPPORTED_NUMERAL, 9, "a numeral with an exponent, a word, or over 18 digits"},
+    {TELBIJAN_UNUSABLE, 10, "a value, a state or a lent table that cannot be used"},
+    {TELBIJAN_OVERFLOW, 11, "a number leaves its type"},
+    {TELBIJAN_NO_ROOM, 12, "what was lent is too small"},
+    {TELBIJAN_TOO_LARGE, 13, "over 65,535 entries"},
+    {TELBIJAN_INCONSISTENT_COUNT, 14, "the text has another count of notes or entries than it says"},
+    {TELBIJAN_FORMAL_OCTAVE_MISSING, 15, "a builder with entries and no formal octave"},
+    {TELBIJAN_KEY_OUT_OF_RANGE, 16, "the key is outside the range"},
+    {TELBIJAN_UNMAPPED_KEY, 17, "the key is unmapped"},
+    {TELBIJAN_BEYOND_REACH, 18, "beyond reach: a period of 1.0, 0 divisions, or a computed pitch or ratio outside its range"},
+    {TELBIJAN_NO_FRACTION, 29, "no fraction: the odd limit is 0"},
 };
 
-static const uint32_t NUMBERS[] = {
-    TELBIJAN_ACCEPTED, TELBIJAN_NOT_UTF8, TELBIJAN_LINE_MISSING, TELBIJAN_INT_VALUE, TELBIJAN_CENTS_VALUE, TELBIJAN_NUMER, TELBIJAN_DENOM, TELBIJAN_FLOAT_VALUE, TELBIJAN_KEYBOARD_MAPPING,
-    TELBIJAN_UNSUPPORTED_NUMERAL, TELBIJAN_UNUSABLE, TELBIJAN_OVERFLOW, TELBIJAN_NO_ROOM, TELBIJAN_TOO_LARGE, TELBIJAN_INCONSISTENT_COUNT, TELBIJAN_FORMAL_OCTAVE_MISSING, TELBIJAN_KEY_OUT_OF_RANGE,
-    TELBIJAN_UNMAPPED_KEY, TELBIJAN_BEYOND_REACH,
-};
+/* Each number has its name and its sentence, and there are no others: a number between has that of no number. */
+static void numbers(void) {
+    uint32_t j, known = 0;
+    for (j = 0; j < sizeof NAMED / sizeof NAMED[0]; j++)
+        SAME(NAMED[j].name, NAMED[j].number), TEXT(telbijan_reason(NAMED[j].number), NAMED[j].reason);
+    for (j = 0; j < 1000; j++)
+        known += strcmp(telbijan_reason(j), "no number of this library") != 0;
+    SAME(known, sizeof NAMED / sizeof NAMED[0]);
+}
 
 static void names(void) {
-    uint32_t j;
-    for (j = 0; j < 20; j++)
-        TEXT(telbijan_reason(j), REASONS[j]);
-    for (j = 0; j < 19; j++)
-        SAME(NUMBERS[j], j);
     SAME(TELBIJAN_CENTS, 0), SAME(TELBIJAN_FRACTION, 1), SAME(TELBIJAN_WHOLE, 2), SAME(TELBIJAN_UNMAPPED, INT32_MIN);
     SAME(TELBIJAN_KBM_ROOM(0), 73u), SAME(TELBIJAN_KBM_ROOM(65535), 73u + 7u * 65535u);
     SAME(TELBIJAN_SCL_ROOM(0, 0), 7u), SAME(TELBIJAN_SCL_ROOM(6, 65535), 6u + 7u + 22u * 65535u);
@@ -324,6 +342,7 @@ int main(void) {
     ends_of_runs();
     unusable();
     constants();
+    numbers();
     names();
     return faults != 0;
 }

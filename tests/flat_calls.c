@@ -64,6 +64,11 @@ static void ratios(void) {
     SAME(telbijan_ratio_is_negligible(1.5, &b), 0), SAME(b, false);
     SAME(telbijan_ratio_total_cmp(1.5, 2, &i), 0), SAME(i, -1), SAME(telbijan_ratio_total_cmp(-1, 2, &i), 10), SAME(i, -1);
     STORES(telbijan_ratio_nearest_fraction(0.75, 11, &m, &n, &x, &i), 1), SAME(m, 3), SAME(n, 2), SAME(i, -1);
+    STORES(telbijan_ratio_best_fraction(0.75, 11, &m, &n, &x), 1), SAME(m, 3), SAME(n, 4);
+    STORES(telbijan_ratio_best_fraction(3, 1, &m, &n, &x), 0.75), SAME(m, 4), SAME(n, 1);
+    STORES(telbijan_ratio_best_fraction(1.575, 9, &m, &n, &x), 1.0125), SAME(m, 14), SAME(n, 9);
+    SAME(telbijan_ratio_best_fraction(1.575, 0, &m, &n, &x), 29), SAME(telbijan_ratio_best_fraction(-1.575, 0, &m, &n, &x), 10);
+    SAME(m, 14), SAME(n, 9), NEAR(x, 1.0125);
     STORES(telbijan_item_as_ratio(1, 700, 3, 2, &x), 1.5), STORES(telbijan_item_as_ratio(0, 1200, 3, 2, &x), 2);
     SAME(telbijan_item_as_ratio(3, 700, 3, 2, &x), 10), SAME(telbijan_item_as_ratio(0, 40000, 3, 2, &x), 10), NEAR(x, 2);
 }

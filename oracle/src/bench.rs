@@ -1,6 +1,7 @@
 //! Times of the proved library beside the Rust, in one run, as ratios: `cargo run --profile speed -- bench`. Each pair is timed in turns, and the
 //! shortest of the turns counts, so that other work on the machine matters little.
 
+use crate::best::Rules;
 use crate::lent::Float;
 use crate::probe;
 use crate::ffi_scl::{self, Columns, Push};
@@ -29,7 +30,8 @@ pub fn shortest(calls: &mut [&mut dyn FnMut()]) -> Vec<Duration> {
 /// A line: what it is, the time of one call of ours, and ours over each of the others.
 pub fn line(name: &str, calls: usize, times: &[Duration], others: &[&str]) {
     let ours = times[0].as_secs_f64();
-    print!("{name:<40} {:>9.1} ns a call", ours * 1e9 / calls as f64);
+    let each = ours * 1e9 / calls as f64;
+    if each < 10_000.0 { print!("{name:<40} {each:>9.1} ns a call") } else { print!("{name:<40} {:>9.1} us a call", each / 1000.0) }
     for (time, other) in times[1..].iter().zip(others) {
         print!("   {:>5.2} x {other}", ours / time.as_secs_f64());
     }
@@ -80,6 +82,30 @@ fn fractions() {
             &mut || ratios.iter().for_each(|&x| { black_box(Ratio::from_float(x).nearest_fraction(limit)); }),
         ]);
         line(&format!("nearest_fraction, limit {limit}"), ratios.len(), &times, &["the Rust"]);
+    }
+}
+
+/// The nearest of all, beside the old call and, where few numbers are allowed, beside all pairs of them.
+fn best_fractions() {
+    let mut random = Random::new(203);
+    let ratios: Vec<f64> = (0..32).map(|_| random.ratio(3)).collect();
+    for (limit, few) in [(9, true), (31, true), (1_023, false), (65_535, false)] {
+        let rules = Rules::within(limit);
+        let mut ours = || ratios.iter().for_each(|&x| { black_box(ffi::best_fraction(x, limit)); });
+        let mut old = || ratios.iter().for_each(|&x| { black_box(ffi::nearest_fraction(x, limit)); });
+        let mut pairs = || ratios.iter().for_each(|&x| { black_box(rules.allowed.by_all_pairs(x)); });
+        let mut calls: Vec<&mut dyn FnMut()> = vec![&mut ours, &mut old];
+        calls.extend(few.then_some(&mut pairs as &mut dyn FnMut()));
+        let times = shortest(&mut calls);
+        line(&format!("best_fraction, limit {limit}"), ratios.len(), &times, &["the old call", "all pairs, in Rust"]);
+    }
+}
+
+/// The same where it takes longest, for the ratio 1, at many limits.
+fn longest_fractions() {
+    for limit in [1, 5, 9, 15, 31, 255, 1_023, 9_999, 65_535] {
+        let times = shortest(&mut [&mut || (0..32).for_each(|_| { black_box(ffi::best_fraction(black_box(1.0), limit)); })]);
+        line(&format!("best_fraction of 1.0, limit {limit}"), 32, &times, &[]);
     }
 }
 
@@ -278,6 +304,8 @@ fn builds() {
 pub fn bench() {
     exponents_and_values();
     fractions();
+    best_fractions();
+    longest_fractions();
     texts();
     comments();
     scale_files();

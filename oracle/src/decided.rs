@@ -50,6 +50,11 @@ pub fn first_steps(b: u64) -> u64 {
     power_first::first_steps(b)
 }
 
+/// The upper and the lower half of a product, as the crate `wide` computes them.
+pub fn halves(u: u64, v: u64) -> (u64, u64) {
+    (wide::high_product(u, v), wide::low_product(u, v))
+}
+
 /// Whether the slow way's stand-in answers from step ten on, and from no other.
 pub fn slow_from_ten() -> bool {
     (0..=52).all(|from| (powers::power_steps(0, 1 << 62, from, 52) == 1 << 62) == (from == 10))

@@ -151,6 +151,31 @@ fn alike() -> Vec<Row> {
     ]
 }
 
+/// What the Rust does not have, beside its `nearest_fraction`.
+fn best() -> Vec<Row> {
+    const NAME: &str = "`best_fraction`, beside `nearest_fraction`";
+    vec![
+        row(NAME, "1.575, limit 9: numerator, denominator", || old_pair(1.575, 9), "(8, 5)", || our_best(1.575, 9), "(14, 9)"),
+        row(NAME, "0.75, limit 11: numerator, denominator", || old_pair(0.75, 11), "(3, 2)", || our_best(0.75, 11), "(3, 4)"),
+        row(NAME, "1.25, limit 3: numerator, denominator", || old_pair(1.25, 3), "(4, 3)", || our_best(1.25, 3), "(4, 3)"),
+        row(NAME, "1.25, limit 0: numerator, denominator", || old_pair(1.25, 0), "(0, 0)", || our_best(1.25, 0), "29"),
+        row(NAME, "NaN, limit 3: numerator, denominator", || old_pair(NAN, 3), "(0, 0)", || our_best(NAN, 3), "10"),
+        row(NAME, "0.0, limit 0: numerator, denominator", || old_pair(0.0, 0), "(0, 0)", || our_best(0.0, 0), "10"),
+    ]
+}
+
+fn old_pair(x: f64, limit: u16) -> String {
+    rust(|| {
+        let (numer, denom, _) = fraction(x, limit);
+        (numer, denom)
+    })
+}
+
+fn our_best(x: f64, limit: u16) -> String {
+    let (code, (numer, denom, _)) = ffi::best_fraction(x, limit);
+    here((code, (numer, denom)))
+}
+
 fn fraction(x: f64, limit: u16) -> (u16, u16, i32) {
     let found = ratio(x).nearest_fraction(limit);
     (found.numer, found.denom, found.num_octaves)
@@ -162,7 +187,7 @@ fn our_fraction(x: f64, limit: u16) -> String {
 }
 
 pub fn rows() -> Vec<Row> {
-    [integers(), powers(), made(), of_zero(), of_two(), alike(), scales(), mappings(), tunings()].into_iter().flatten().collect()
+    [integers(), powers(), made(), of_zero(), of_two(), alike(), best(), scales(), mappings(), tunings()].into_iter().flatten().collect()
 }
 
 pub fn compare(all: &mut Report) {

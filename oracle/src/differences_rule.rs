@@ -4,9 +4,10 @@
 use crate::differences::{Row, rows};
 
 /// What rows call a function that the comparison calls otherwise.
-const CALLED: [(&str, &str); 17] = [
+const CALLED: [(&str, &str); 18] = [
     ("pitch_times", "pitch times ratio"),
     ("pitch_over", "pitch over ratio"),
+    ("best_fraction", "best_fraction, beside nearest_fraction"),
     ("parse f64", "decimal"),
     ("Scl::import", "scale"),
     ("PitchValue::as_ratio", "as_ratio of an item"),

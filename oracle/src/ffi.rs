@@ -36,6 +36,7 @@ mod raw {
         fn telbijan_ratio_is_negligible(value: f64, negligible: *mut bool) -> u64;
         fn telbijan_ratio_total_cmp(value: f64, other: f64, order: *mut i32) -> u64;
         fn telbijan_ratio_nearest_fraction(value: f64, limit: u16, numer: *mut u16, denom: *mut u16, deviation: *mut f64, octaves: *mut i32) -> u64;
+        fn telbijan_ratio_best_fraction(value: f64, limit: u16, numer: *mut u16, denom: *mut u16, deviation: *mut f64) -> u64;
     }
 }
 
@@ -125,4 +126,18 @@ pub fn nearest_fraction(x: f64, limit: u16) -> (Code, Nearest) {
         (Code(code), (numer, denom, octaves))
     });
     (code, (numer, denom, deviation, octaves))
+}
+
+/// Numerator, denominator and deviation.
+pub type Best = (u16, u16, Float);
+
+pub const OLD_BEST: Best = (OLD_U16, OLD_U16, Float::Untouched);
+
+pub fn best_fraction(x: f64, limit: u16) -> (Code, Best) {
+    let (code, deviation, (numer, denom)) = lend(|deviation| {
+        let (mut numer, mut denom) = (OLD_U16, OLD_U16);
+        let code = unsafe { raw::telbijan_ratio_best_fraction(x, limit, &mut numer, &mut denom, deviation) };
+        (Code(code), (numer, denom))
+    });
+    (code, (numer, denom, deviation))
 }

@@ -86,6 +86,7 @@ pub fn hex(bytes: &[u8]) -> String {
 fn first(list: &mut List) {
     freeze_numbers::integers(list);
     freeze_numbers::pitches(list);
+    freeze_numbers::best_fractions(list);
     freeze_text::texts(list);
     freeze_kbm::mappings(list);
 }
@@ -93,6 +94,16 @@ fn first(list: &mut List) {
 fn second(list: &mut List) {
     freeze_scl::scales(list);
     freeze_entries::entry_lists(list);
+}
+
+/// The calls that a program has, by its source, and that no question asks for.
+fn unasked(name: &str, questions: &[String]) -> Result<Vec<String>> {
+    let source = fs::read_to_string(format!("{}/../crates/{name}/src/main.rt", env!("CARGO_MANIFEST_DIR")))?;
+    let listed = source.split("b\"").nth(1).and_then(|rest| rest.split('"').next()).unwrap_or_default();
+    let fields: Vec<&str> = listed.split(' ').collect();
+    let calls = fields.chunks(3).map(|call| call[0]).filter(|call| !call.is_empty());
+    let asked = |call: &str| questions.iter().any(|question| question.split(' ').nth(1) == Some(call));
+    Ok(calls.filter(|call| !asked(call)).map(str::to_string).collect())
 }
 
 pub fn freeze(crates: &str) -> Result<()> {
@@ -106,6 +117,10 @@ pub fn freeze(crates: &str) -> Result<()> {
         let (questions, answers) = (text(&list.questions), text(&list.answers));
         if questions.len() > MOST {
             return Err(Error::other(format!("{name}: {} bytes are more than {MOST}", questions.len())));
+        }
+        let unasked = unasked(name, &list.questions)?;
+        if !unasked.is_empty() {
+            return Err(Error::other(format!("{name}: no question asks for {}", unasked.join(", "))));
         }
         let by = |whose: Who| list.said.iter().filter(|(who, _)| *who == whose).count();
         fs::write(format!("{crates}/{name}/stdin"), &questions)?;

@@ -1,5 +1,7 @@
 //! Frozen answers on integers, keys, E, L, pitches and ratios.
 
+use crate::best::Rules;
+use crate::best_cases::{ANSWERS, REFUSALS, TRAPS};
 use crate::freeze::{List, float, written};
 use crate::inputs::{Random, f64_limits, i32_limits, u32_limits};
 use crate::pitch::{ONES, One, TWOS, Two};
@@ -93,5 +95,17 @@ pub fn pitches(list: &mut List) {
         for limit in [[0u16, 3, 5, 9, 15, 65_535][k % 6], 3] {
             list.push(&format!("nearest_fraction {} {limit}", float(x)), pitch::nearest(x, limit), |(n, d, deviation, octaves)| format!("{n} {d} {} {octaves}", written(deviation)));
         }
+    }
+}
+
+/// The nearest of all fractions: of the known answers and refusals some, and random ratios within limits of every size.
+pub fn best_fractions(list: &mut List) {
+    let mut random = Random::new(113);
+    let known = ANSWERS.into_iter().step_by(3).chain(TRAPS.into_iter().step_by(5)).map(|(x, limit, ..)| (x, limit));
+    let refused = REFUSALS.into_iter().step_by(2).map(|(x, limit, _)| (x, limit));
+    let drawn = [1u16, 5, 11, 31, 999, 20_001, 65_533, 65_535].map(|limit| (random.ratio(12), limit));
+    for (x, limit) in known.chain(refused).chain(drawn) {
+        let said = Rules::within(limit).said(x);
+        list.push(&format!("best_fraction {} {limit}", float(x)), said, |(n, d, deviation)| format!("{n} {d} {}", written(deviation)));
     }
 }

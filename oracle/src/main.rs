@@ -15,6 +15,9 @@
 
 mod bench;
 mod bench_tuning;
+mod best;
+mod best_cases;
+mod best_wrong;
 mod calls;
 mod decided;
 mod differences;
@@ -54,6 +57,7 @@ mod pitch;
 mod powers;
 mod probe;
 mod rules;
+mod rules_best;
 mod rules_scl;
 mod rules_tuning;
 mod rust_kbm;
@@ -123,6 +127,7 @@ fn compare_all(all: &mut tally::Report) {
     floats::compare(all);
     powers::compare(all);
     pitch::compare(all);
+    best::compare(all);
     texts::compare(all);
     numerals::compare(all);
     scl_read::compare(all);

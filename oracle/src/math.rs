@@ -50,5 +50,9 @@ pub fn compare(all: &mut Report) {
         for number in fixed(0..=u16::MAX) {
             tally.same(number, ffi::odd_factors_u16(number), Said::gives(Who::Rust, math::odd_factors_u16(number)));
         }
+        // answers that another program found, and 0, whose odd part is 0
+        for (number, odd) in fixed([(0, 0), (1, 1), (3, 3), (24, 3), (256, 1), (49_152, 3), (65_535, 65_535)]) {
+            tally.require(ffi::odd_factors_u16(number).1 == odd, number);
+        }
     });
 }

@@ -11,6 +11,7 @@ macro_rules! numbers {
                 $(pub fn $raw($($x: f64,)+ answer: *mut f64) -> u64;)+
                 pub fn telbijan_ratio_is_negligible(value: f64, negligible: *mut bool) -> u64;
                 pub fn telbijan_ratio_nearest_fraction(value: f64, limit: u16, numer: *mut u16, denom: *mut u16, deviation: *mut f64, octaves: *mut i32) -> u64;
+                pub fn telbijan_ratio_best_fraction(value: f64, limit: u16, numer: *mut u16, denom: *mut u16, deviation: *mut f64) -> u64;
             }
         }
         $(
@@ -101,5 +102,38 @@ pub fn nearest_fraction(ratio: f64, limit: u16) -> Result<NearestFraction, Refus
     let mut f = NearestFraction { numer: 0, denom: 0, deviation: 0.0, octaves: 0 };
     // Safety: the call stores the four parts, where it is accepted.
     let result = unsafe { raw::telbijan_ratio_nearest_fraction(ratio, limit, &mut f.numer, &mut f.denom, &mut f.deviation, &mut f.octaves) };
+    Refusal::of(result).map(|()| f)
+}
+
+/// The best fraction for a ratio, and how far the ratio lies above it.
+#[derive(Clone, Copy, Debug, PartialEq)]
+pub struct BestFraction {
+    /// The fraction's numerator.
+    pub numer: u16,
+    /// Its denominator.
+    pub denom: u16,
+    /// How far the ratio lies above the fraction, a ratio.
+    pub deviation: f64,
+}
+
+/// The fraction nearest to a ratio of all that there are within an odd limit: numerator and denominator are from 1 to 65,535, and their
+/// odd parts at most the limit. No octaves are taken off. Of two that are as near it is the one with the smaller denominator, then the
+/// smaller numerator: it is in lowest terms. 10 for a ratio outside 2^-64..2^64, then 29 for odd limit 0. The time grows with the limit:
+/// about half a microsecond at 9, a quarter of a millisecond at 65,535.
+///
+/// ```
+/// use telbijan::{number, ratio};
+///
+/// let best = ratio::best_fraction(1.575, 9)?;
+/// assert_eq!((best.numer, best.denom, best.deviation), (14, 9, 1.0125));
+/// let walked = ratio::nearest_fraction(1.575, 9)?;
+/// assert_eq!((walked.numer, walked.denom), (8, 5));
+/// assert_eq!(ratio::best_fraction(1.575, 0).unwrap_err().number(), number::NO_FRACTION);
+/// # Ok::<(), telbijan::Refusal>(())
+/// ```
+pub fn best_fraction(ratio: f64, limit: u16) -> Result<BestFraction, Refusal> {
+    let mut f = BestFraction { numer: 0, denom: 0, deviation: 0.0 };
+    // Safety: the call stores the three parts, where it is accepted.
+    let result = unsafe { raw::telbijan_ratio_best_fraction(ratio, limit, &mut f.numer, &mut f.denom, &mut f.deviation) };
     Refusal::of(result).map(|()| f)
 }

@@ -100,10 +100,8 @@ static bool is_margin(const uint8_t *at, size_t bytes) {
     return true;
 }
 
-/* After a call: a refusal has one of the numbers and changed nothing; an accepted call changed only what it may. */
-static void judge(int set, uint64_t result, const char *where) {
-    if (result != 0 && ((result & 0xff) < 1 || (result & 0xff) > 18))
-        fail("a number from 1 to 18", where);
+/* After a call: a refusal changed nothing; an accepted call changed only what it may. */
+static void judge_memory(int set, uint64_t result, const char *where) {
     for (int k = 0; k < PARTS; k++) {
         part *p = &memory[set][k];
         if (p->at == NULL)
@@ -117,6 +115,14 @@ static void judge(int set, uint64_t result, const char *where) {
             fail("what stands around a lent part is as it was", where);
         p->from = p->to = 0;
     }
+}
+
+/* After any call but the best fraction, whose numbers are 10 and 29: a refusal has one of the numbers 1 to 18 as well. */
+static void judge(int set, uint64_t result, const char *where) {
+    uint64_t number = result & 0xff;
+    if (result != 0 && (number < 1 || number > 18))
+        fail("a number from 1 to 18", where);
+    judge_memory(set, result, where);
 }
 
 /* Both memories hold the same. */

@@ -1,4 +1,4 @@
--- Document 01, "Numbers that answer": a name for each number. Assumes nothing.
+-- Document 01, "Numbers that answer", and those that document 02 adds: a name for each number. Assumes nothing.
 use Prim.Native.Nat.{ℕ}
 
 -- a line is not UTF-8
@@ -67,3 +67,7 @@ unmapped-key = 17
 -- beyond reach
 abbrev pub beyond-reach : ℕ
 beyond-reach = 18
+
+-- "29, no fraction" (document 02, W14)
+abbrev pub no-fraction : ℕ
+no-fraction = 29

@@ -15,7 +15,7 @@ pub record Accepted {A : Type 0} (s : Said A) : Type 0 where
   pub value : A
   pub is : s ≡ gives value
 
--- what can be said: a refusal has one of 01's numbers, 1 to 18
+-- what can be said: a refusal has one of 01's numbers, 1 to 18; a call of document 02 with another number says so by itself
 pub data Numbered {A : Type 0} : Said A → Type 0 where
   value : (a : A) → Numbered (gives a)
   number : {n d : ℕ} → 1 ≤ n → n ≤ 18 → Numbered (refuses n d)

@@ -1,2 +1,3 @@
 pub mod OddPart
+pub mod Trailing
 pub mod Theorems

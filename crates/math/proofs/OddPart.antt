@@ -1,49 +1,15 @@
--- Halving while a number is even: a turn, the end, and what is reached. Assumes nothing.
-use mathlib.Core.Path.{_≡_, refl, sym, _∙_}
+-- What halving while a number is even comes to is its odd part, and there is one. Assumes nothing.
+use mathlib.Core.Path.{_≡_, refl, sym, ap, _∙_}
 use mathlib.Core.Bool.{Bool, true, false}
-use Prim.Native.Nat.{ℕ, zero, suc, _*_, _/_, _%_, _^_, _<_}
-use native.Mathlib.Nat.{pow-succ', mul-left-comm}
+use Prim.Native.Nat.{ℕ, zero, suc, _+_, _*_, _/_, _%_, _^_, _≤_, _<_}
+use native.Mathlib.Nat.{pow-succ', le-trans, le-of-eq, mul-one, mul-zero, zero-mul, mul-assoc, mul-left-comm, mul-le-mul-left}
 use native.Mathlib.Omega.{arith}
 use lib.Dec.{eqb}
-use mir.Syntax.{w16}
-use mir.Val.{Fits}
-use borrow.Author.Tests.{eq-eqb, ne-eqb, eqb-true, eqb-false}
+use lib.Pow.{pow-pos, pow-add}
+use borrow.Author.Tests.{eqb-true, eqb-false}
 use Rattle.base.specs.Said.{pick}
 use Rattle.math.specs.OddPart.{OddPart, halvedWhileEven}
 
--- a number that is not even stays
-pub halved-odd : (k n : ℕ) → (n % 2 ≡ 0 → ⊥) → halvedWhileEven k n ≡ n
-unfolding halvedWhileEven
-halved-odd zero n h = refl
-halved-odd (suc k) n h = rw (ne-eqb (n % 2) 0 h)
-
-pub halved-even : (k n : ℕ) → n % 2 ≡ 0 → halvedWhileEven (suc k) n ≡ halvedWhileEven k (n / 2)
-unfolding halvedWhileEven
-halved-even k n h = rw (eq-eqb (n % 2) 0 h)
-
--- the loop's state: n is on the way from the whole, and turns enough are left
-pub record Halving (whole n : ℕ) : Type 0 where
-  pub left : ℕ
-  pub some : 0 < n
-  pub small : n < 2 ^ left
-  pub same : halvedWhileEven 16 whole ≡ halvedWhileEven left n
-
-pub begin : {n : ℕ} → Fits w16 n → (n ≡ 0 → ⊥) → Halving n n
-begin {n} f h = record { left = 16; some = omega (arith, h); small = f .fits; same = refl }
-
-pub turn : {whole n : ℕ} → Halving whole n → n % 2 ≡ 0 → Halving whole (n / 2)
-turn {whole} {n} s h = go (s .left) (s .small) (s .same)
-  where
-    go : (k : ℕ) → n < 2 ^ k → halvedWhileEven 16 whole ≡ halvedWhileEven k n → Halving whole (n / 2)
-    go zero b e = absurd (omega (arith, s .some, h))
-    go (suc k) b e =
-        let p : 2 ^ suc k ≡ 2 * 2 ^ k = pow-succ' 2 k in
-        record { left = k; some = omega (arith, s .some, h); small = omega (arith, p); same = e ∙ halved-even k n h }
-
-pub end : {whole n : ℕ} → Halving whole n → (n % 2 ≡ 0 → ⊥) → n ≡ halvedWhileEven 16 whole
-end {whole} {n} s h = sym (s .same ∙ halved-odd (s .left) n h)
-
--- ---- what is reached is the odd part, and there is one
 from-half : (n m : ℕ) → n % 2 ≡ 0 → OddPart (n / 2) m → OddPart n m
 from-half n m h (OddPart.none e z) = OddPart.none (omega (arith, h, e)) z
 from-half n m h (OddPart.odd k e o) =
@@ -84,3 +50,36 @@ one-part (OddPart.none e z) (OddPart.none e′ z′) = z ∙ sym z′
 one-part {n} {m} {m′} (OddPart.none e z) (OddPart.odd k e′ o) = absurd (never k m′ (sym e′ ∙ e) o)
 one-part {n} {m} {m′} (OddPart.odd k e o) (OddPart.none e′ z) = absurd (never k m (sym e ∙ e′) o)
 one-part {n} {m} {m′} (OddPart.odd k e o) (OddPart.odd k′ e′ o′) = same-odd k k′ m m′ (sym e ∙ e′) o o′
+
+-- ---- the odd part of a multiple
+-- it is no larger than the number
+pub odd-le : {n m : ℕ} → OddPart n m → m ≤ n
+odd-le (OddPart.none e z) = omega (arith, e, z)
+odd-le {n} {m} (OddPart.odd k e o) = le-trans (le-of-eq (sym (mul-one m))) (le-trans (mul-le-mul-left m (pow-pos k)) (le-of-eq (sym e)))
+
+-- doubling leaves it
+pub odd-doubled : {n m : ℕ} (k : ℕ) → OddPart n m → OddPart (n * 2 ^ k) m
+odd-doubled {n} k (OddPart.none e z) = OddPart.none (ap (λ (x : ℕ). x * 2 ^ k) e ∙ zero-mul (2 ^ k)) z
+odd-doubled {n} {m} k (OddPart.odd j e o) =
+    OddPart.odd (j + k) (ap (λ (x : ℕ). x * 2 ^ k) e ∙ mul-assoc m (2 ^ j) (2 ^ k) ∙ ap (λ (x : ℕ). m * x) (sym (pow-add 2 j k))) o
+
+-- of a number above 0 it is above 0
+pub odd-some : {n m : ℕ} → OddPart n m → 1 ≤ n → 1 ≤ m
+odd-some (OddPart.none e z) h = absurd (omega (arith, e, h))
+odd-some (OddPart.odd k e o) h = omega (arith, o)
+
+-- of a product it is the product
+odd-product : (a b : ℕ) → a % 2 ≡ 1 → b % 2 ≡ 1 → a * b % 2 ≡ 1
+odd-product a b e f =
+    let half : a * b ≡ 2 * (a / 2 * b) + b = ap (λ (x : ℕ). x * b) (let s : a ≡ a / 2 * 2 + 1 = omega (arith, e) in s) ∙ omega arith in
+    omega (arith, f, half)
+
+pub odd-times : {g n a b : ℕ} → OddPart g a → OddPart n b → OddPart (g * n) (a * b)
+odd-times {n = n} {b = b} (OddPart.none e z) y = OddPart.none (ap (λ (x : ℕ). x * n) e ∙ zero-mul n) (ap (λ (x : ℕ). x * b) z ∙ zero-mul b)
+odd-times {g} {a = a} (OddPart.odd k e o) (OddPart.none f z) =
+    OddPart.none (ap (λ (x : ℕ). g * x) f ∙ mul-zero g) (ap (λ (x : ℕ). a * x) z ∙ mul-zero a)
+odd-times {g} {n} {a} {b} (OddPart.odd k e o) (OddPart.odd j f p) =
+    OddPart.odd (k + j) ((λ i. e i * f i) ∙ mixed (2 ^ k) (2 ^ j) ∙ ap (λ (x : ℕ). a * b * x) (sym (pow-add 2 k j))) (odd-product a b o p)
+  where
+    mixed : (x y : ℕ) → a * x * (b * y) ≡ a * b * (x * y)
+    mixed x y = omega arith

@@ -66,12 +66,8 @@ pub fn i32_dr_u(numer: i32, denom: u32) -> DivisionAnswer
 pub fn odd_factors_u16(number: u16) -> u16
     ensures { λ r. ⌜ r ≡ oddPart number ⌝ }
 {
-    let mut n = number;
-    if n == 0 {
+    if number == 0 {
         return 0;
     }
-    while n % 2 == 0 {
-        n = n / 2;
-    }
-    n
+    number / (1u16 << u16::trailing_zeros(number))
 }

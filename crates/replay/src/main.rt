@@ -1,5 +1,6 @@
-// Answers frozen questions on whole numbers, keys, E, L, pitches, ratios, the nearest fraction, lines, tokens, numerals, in and out, and
-// mappings (the crate `frozen` says how they are written). The questions and the answers are made by `oracle freeze`.
+// Answers frozen questions on whole numbers, keys, E, L, pitches, ratios, the nearest fraction and the nearest of all, lines, tokens,
+// numerals, in and out, and mappings (the crate `frozen` says how they are written). The questions and the answers are made by `oracle
+// freeze`.
 use libc::STDIN_FILENO;
 
 mod builders;
@@ -12,7 +13,7 @@ mod texts;
 fn answer(line: &[u8]) {
     let call = frozen::asked(
         line,
-        b"i32_div_u iu  i32_rem_u iu  i32_dr_u iu  num_keys_before ii  plus_steps ii  checked_midi_number i  from_midi_number i  midi_number i  odd_factors_u16 c  octave   unison   exp2 f  log2 f  from_hz f  as_hz f  from_float f  from_octaves f  from_semitones f  from_cents f  as_float f  as_octaves f  as_semitones f  as_cents f  inv f  abs f  is_negligible f  pitch_times ff  pitch_over ff  between_pitches ff  stretched_by ff  deviation_from ff  repeated ff  divided_into_equal_steps ff  num_equal_steps_of_size ff  total_cmp ff  nearest_fraction fc  line tu  says tuu  decimal t  u16 t  u32 t  i16 t  i32 t  fixed rufuy  print_i32 rui  print_u32 ruu  degree iciiifisn i read tn  export rciiifisn i root ifi  build nifiiiysz ys push uuysn i finish uun i",
+        b"i32_div_u iu  i32_rem_u iu  i32_dr_u iu  num_keys_before ii  plus_steps ii  checked_midi_number i  from_midi_number i  midi_number i  odd_factors_u16 c  octave   unison   exp2 f  log2 f  from_hz f  as_hz f  from_float f  from_octaves f  from_semitones f  from_cents f  as_float f  as_octaves f  as_semitones f  as_cents f  inv f  abs f  is_negligible f  pitch_times ff  pitch_over ff  between_pitches ff  stretched_by ff  deviation_from ff  repeated ff  divided_into_equal_steps ff  num_equal_steps_of_size ff  total_cmp ff  nearest_fraction fc  line tu  says tuu  decimal t  u16 t  u32 t  i16 t  i32 t  fixed rufuy  print_i32 rui  print_u32 ruu  degree iciiifisn i read tn  export rciiifisn i root ifi  build nifiiiysz ys push uuysn i finish uun i best_fraction fc",
     );
     say::name(frozen::name(line, call));
     match call {
@@ -23,6 +24,7 @@ fn answer(line: &[u8]) {
         26..=35 => pitches::say_pair(call, line),
         36..=42 => texts::say_read(call, line),
         43..=45 => texts::say_print(call, line),
+        53 => pitches::say_best_of(line),
         _ => answer_mapping(call, line),
     }
 }

@@ -1,4 +1,6 @@
-// E, L, pitches, ratios and the nearest fraction.
+// E, L, pitches, ratios, the nearest fraction and the nearest of all.
+use best::BestAnswer;
+use best::BestFraction;
 use floats::FloatAnswer;
 use fraction::NearestAnswer;
 use fraction::NearestFraction;
@@ -72,6 +74,21 @@ fn say_nearest(answer: NearestAnswer) {
     }
 }
 
+// Numerator, denominator and deviation.
+fn say_best_fraction(found: BestFraction) {
+    let deviation = found.deviation;
+    say::natural(found.numer as u32);
+    say::natural(found.denom as u32);
+    say::float(deviation.0);
+}
+
+fn say_best(answer: BestAnswer) {
+    match answer {
+        BestAnswer::Is(found) => say_best_fraction(found),
+        BestAnswer::Refused(refusal) => say::refusal(refusal),
+    }
+}
+
 // `octave`, `unison`, and what is made of a number.
 pub fn say_made(call: usize, x: f64) {
     match call {
@@ -118,4 +135,10 @@ pub fn say_pair(call: usize, line: &[u8]) {
         34 => say_order(ratio.total_cmp(Ratio(y))),
         _ => say_nearest(fraction::nearest_fraction(ratio, given::count(line, 3))),
     }
+}
+
+// `best_fraction RATIO LIMIT`.
+pub fn say_best_of(line: &[u8]) {
+    let ratio = Ratio(given::float(line, 2));
+    say_best(best::best_fraction(ratio, given::count(line, 3)));
 }

@@ -1,3 +1,4 @@
 pub mod Numbers
 pub mod Theorems
 pub mod Details
+pub mod BestCall

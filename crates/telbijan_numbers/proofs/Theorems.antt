@@ -1,10 +1,11 @@
 -- For each input, refused ones too, a function of the interface has one possible result, and each value behind a pointer and each
 -- lent part of memory one possible state after it: document 01, "What the contracts settle". A line for each. Assumes nothing.
+use mathlib.Core.Path.{_≡_, sym, ap, _∙_}
 use Prim.Native.Nat.{ℕ}
 use lib.IntN.{ℤ}
 use lib.Ieee.{Float}
 use mathlib.Core.Bool.{Bool}
-use Rattle.base.specs.Said.{One}
+use Rattle.base.specs.Said.{Said, One}
 use Rattle.base.proofs.Said.{one-result}
 use Rattle.math.specs.Division.{quotientOf, remainderOf, divisionOf}
 use Rattle.math.specs.OddPart.{oddPart}
@@ -14,6 +15,9 @@ use Rattle.explog.specs.Rules.{E, L}
 use Rattle.fraction.specs.NearestFraction.{nearestFraction}
 use Rattle.pitch.specs.Pitches.{fromHz, pitchTimes, pitchOver, betweenPitches}
 use Rattle.pitch.specs.Ratios.{fromFloat, fromOctaves, fromSemitones, fromCents, asOctaves, asSemitones, asCents, stretchedBy, deviationFrom, repeated, dividedInto, stepsOfSize, inverse, absolute, isNegligible, totalCmp}
+use Rattle.best.specs.declared.BestFraction.{BestFraction}
+use Rattle.best.proofs.Theorems.{said-one}
+use Rattle.telbijan_numbers.specs.Calls.{RatioBestFraction}
 use Rattle.telbijan_numbers.specs.Orders.{orderNumber}
 
 -- ---- numbers, keys and powers
@@ -107,3 +111,18 @@ ratio-total-cmp-one value other order = (one-result (result (totalCmp value othe
 
 pub ratio-nearest-fraction-one : (value : Float) (limit : ℕ) (numer : ℕ) (denom : ℕ) (deviation : Float) (octaves : ℤ) → One (λ r. r) (result (nearestFraction value limit)) × (One (λ r. r) (kept (fieldOf (λ f. f .numer) (nearestFraction value limit)) numer) × (One (λ r. r) (kept (fieldOf (λ f. f .denom) (nearestFraction value limit)) denom) × (One (λ r. r) (kept (fieldOf (λ f. f .deviation .0) (nearestFraction value limit)) deviation) × One (λ r. r) (kept (fieldOf (λ f. f .«num_octaves») (nearestFraction value limit)) octaves))))
 ratio-nearest-fraction-one value limit numer denom deviation octaves = (one-result (result (nearestFraction value limit)), (one-result (kept (fieldOf (λ f. f .numer) (nearestFraction value limit)) numer), (one-result (kept (fieldOf (λ f. f .denom) (nearestFraction value limit)) denom), (one-result (kept (fieldOf (λ f. f .deviation .0) (nearestFraction value limit)) deviation), one-result (kept (fieldOf (λ f. f .«num_octaves») (nearestFraction value limit)) octaves)))))
+
+-- what is said is one, and with it all that is stored
+pub ratio-best-fraction-one : (value : Float) (limit oldNumer oldDenom : ℕ) (oldDeviation : Float)
+    (r numer denom : ℕ) (deviation : Float) (r′ numer′ denom′ : ℕ) (deviation′ : Float) →
+    RatioBestFraction value limit oldNumer oldDenom oldDeviation r numer denom deviation →
+    RatioBestFraction value limit oldNumer oldDenom oldDeviation r′ numer′ denom′ deviation′ →
+    (r ≡ r′) × (numer ≡ numer′) × (denom ≡ denom′) × (deviation ≡ deviation′)
+ratio-best-fraction-one value limit oldNumer oldDenom oldDeviation r numer denom deviation r′ numer′ denom′ deviation′
+    (said, best, a, b, c, d) (said′, best′, a′, b′, c′, d′) =
+    let e : said ≡ said′ = said-one best best′ in (
+      a ∙ ap (λ (s : Said BestFraction). result s) e ∙ sym a′,
+      b ∙ ap (λ (s : Said BestFraction). kept (fieldOf (λ f. f .numer) s) oldNumer) e ∙ sym b′,
+      c ∙ ap (λ (s : Said BestFraction). kept (fieldOf (λ f. f .denom) s) oldDenom) e ∙ sym c′,
+      d ∙ ap (λ (s : Said BestFraction). kept (fieldOf (λ f. f .deviation .0) s) oldDeviation) e ∙ sym d′,
+    )

@@ -44,3 +44,7 @@ module _ (u v : ℕ) where
   -- the upper half: what the columns carry out of the lower one
   pub columns : upper + left / 2 ^ 32 + right / 2 ^ 32 + (low / 2 ^ 32 + left % 2 ^ 32 + right % 2 ^ 32) / 2 ^ 32 ≡ u * v / 2 ^ 64
   columns = let w = whole in omega arith
+
+  -- the lower half: the middle column without what it carries, and the lowest
+  pub lower-columns : (low / 2 ^ 32 + left % 2 ^ 32 + right % 2 ^ 32) % 2 ^ 32 * 2 ^ 32 + low % 2 ^ 32 ≡ u * v % 2 ^ 64
+  lower-columns = let w = whole in omega arith

@@ -1,7 +1,7 @@
 //! Ratios and pitches as numbers.
 
 use crate::tally::Tally;
-use telbijan::ratio::{self, NearestFraction};
+use telbijan::ratio::{self, BestFraction, NearestFraction};
 use telbijan::Refusal;
 
 /// No two of them are inverse to each other, and neither are any two answers.
@@ -17,6 +17,7 @@ macro_rules! declared {
             $(fn $two(x: f64, y: f64, answer: *mut f64) -> u64;)+
             fn telbijan_ratio_is_negligible(value: f64, negligible: *mut bool) -> u64;
             fn telbijan_ratio_nearest_fraction(value: f64, limit: u16, numer: *mut u16, denom: *mut u16, deviation: *mut f64, octaves: *mut i32) -> u64;
+            fn telbijan_ratio_best_fraction(value: f64, limit: u16, numer: *mut u16, denom: *mut u16, deviation: *mut f64) -> u64;
         }
     };
 }
@@ -92,4 +93,35 @@ fn other_answers() {
         }
     }
     seen.done(2);
+}
+
+/// The best fraction beside the call: the ratio's refusal first, then the limit's, and what it stores.
+#[test]
+fn best_fractions() {
+    let mut seen = Tally::default();
+    // 2^64 and the next above it, 2^-64 and the next below
+    let ends = [0x43f0000000000000, 0x43f0000000000001, 0x3bf0000000000000, 0x3befffffffffffff].map(f64::from_bits);
+    for (x, limit) in VALUES.into_iter().chain(ends).flat_map(|x| [0, 1, 2, 9, 11, 65_535].map(|limit| (x, limit))) {
+        let mut f = BestFraction { numer: 7, denom: 8, deviation: 9.0 };
+        // Safety: the three parts are stored.
+        let result = unsafe { telbijan_ratio_best_fraction(x, limit, &mut f.numer, &mut f.denom, &mut f.deviation) };
+        let in_range = (2f64.powi(-64)..=2f64.powi(64)).contains(&x);
+        assert_eq!(result, if !in_range { 10 } else if limit == 0 { 29 } else { 0 });
+        assert!(result == 0 || f == BestFraction { numer: 7, denom: 8, deviation: 9.0 });
+        seen.agree("best_fraction", ratio::best_fraction(x, limit), result, f);
+    }
+    seen.done(1);
+}
+
+/// Answers by the rule: octaves stay, an even limit is the odd one below it, and the nearest of all is met where the walk stops before it.
+#[test]
+fn best_of_all() {
+    let best = |x, limit| ratio::best_fraction(x, limit).map(|f| (f.numer, f.denom, f.deviation)).unwrap();
+    assert_eq!(best(1.575, 9), (14, 9, 1.0125));
+    assert_eq!(best(0.75, 11), (3, 4, 1.0));
+    assert_eq!(best(1.25, 2), (1, 1, 1.25));
+    assert_eq!((best(3.0, 1), best(1.45, 1)), ((4, 1, 0.75), (2, 1, 0.725)));
+    assert_eq!(best(1.5e-5, 65_535), (1, 65_535, 0.983025));
+    assert_eq!(best(2f64.powi(64), 1), (32_768, 1, 562_949_953_421_312.0));
+    assert_eq!(best(2f64.powi(-64), 1).1, 32_768);
 }

@@ -3,7 +3,7 @@
 use crate::mappings::{mapping, GAPS};
 use crate::memory::Memory;
 use std::error::Error;
-use telbijan::{ratio, read_mapping, MappingBuilder, MappingRef, Refusal, Root};
+use telbijan::{ratio, read_mapping, reason, MappingBuilder, MappingRef, Refusal, Root};
 
 fn scl(text: &[u8]) -> Refusal {
     Memory::new().lend([2; 7]).read(text).unwrap_err()
@@ -25,10 +25,13 @@ fn no_octave() -> Refusal {
     builder.build(None).unwrap_err()
 }
 
+/// All that there are; those between are no numbers of this library.
+const NUMBERS: [u8; 19] = [1, 2, 3, 4, 5, 6, 7, 8, 9, 10, 11, 12, 13, 14, 15, 16, 17, 18, 29];
+
 #[test]
 fn each_number() {
     let too_large = Memory::new().lend([2; 7]).create_rank2(1.5, 65_535, 1, 2.0).unwrap_err();
-    let said = [
+    let said: [_; NUMBERS.len()] = [
         (scl(b"d\n\xff\n"), 2, "line 2: a line is not UTF-8"),
         (kbm(b"0\n0\n"), 3, "required line 3: a required line is missing"),
         (scl(b"d\n!\nx\n"), 3, "line 3: not an integer of its type"),
@@ -47,8 +50,9 @@ fn each_number() {
         (key(91), 0, "the key is outside the range"),
         (key(59), 0, "the key is unmapped"),
         (ratio::exp2(901.0).unwrap_err(), 0, "beyond reach: a period of 1.0, 0 divisions, or a computed pitch or ratio outside its range"),
+        (ratio::best_fraction(1.5, 0).unwrap_err(), 0, "no fraction: the odd limit is 0"),
     ];
-    for (number, (refusal, detail, sentence)) in (1..).zip(said) {
+    for (number, (refusal, detail, sentence)) in NUMBERS.into_iter().zip(said) {
         assert_eq!((refusal.number(), refusal.detail()), (number, detail));
         assert_eq!(refusal.line(), (detail != 0 && number != 2).then_some(detail));
         assert_eq!(refusal.reason(), sentence.rsplit_once(&format!("line {detail}: ")).map_or(sentence, |(_, reason)| reason));
@@ -63,8 +67,29 @@ fn names() {
     let names = [
         NOT_UTF8, LINE_MISSING, INT_VALUE, CENTS_VALUE, NUMER, DENOM, FLOAT_VALUE, KEYBOARD_MAPPING, UNSUPPORTED_NUMERAL,
         UNUSABLE, OVERFLOW, NO_ROOM, TOO_LARGE, INCONSISTENT_COUNT, FORMAL_OCTAVE_MISSING, KEY_OUT_OF_RANGE, UNMAPPED_KEY, BEYOND_REACH,
+        NO_FRACTION,
     ];
-    assert!(names.into_iter().eq(1..=18));
+    assert_eq!(names, NUMBERS);
+    for number in (0..=255).filter(|number| !NUMBERS.contains(number)) {
+        assert_eq!(reason(number), "no number of this library");
+    }
+}
+
+/// The header for C says the same of each number as `reason`: in its list, up to the detail, and in its own sentences.
+#[test]
+fn as_in_c() {
+    let header = include_str!("../../../include/telbijan.h");
+    let (_, list) = header.split_once("\n#define TELBIJAN_ACCEPTED 0\n").unwrap();
+    let numbers = list.lines().take_while(|line| !line.is_empty()).map(|line| {
+        let (name, rest) = line.strip_prefix("#define TELBIJAN_").unwrap().split_once(' ').unwrap();
+        let (number, text) = rest.strip_suffix(" */").unwrap().split_once(" /* ").unwrap();
+        let number = number.parse().unwrap();
+        assert_eq!(Some(reason(number)), text.split(';').next());
+        assert!(header.contains(&format!("    case TELBIJAN_{name}: return \"{}\";\n", reason(number))), "{name}");
+        number
+    });
+    assert_eq!(numbers.collect::<Vec<u8>>(), NUMBERS);
+    assert!(header.contains(&format!("    default: return \"{}\";\n", reason(0))));
 }
 
 #[test]

@@ -2,7 +2,7 @@
 
 use std::collections::BTreeMap;
 use std::ops::Range;
-use telbijan::ratio::NearestFraction;
+use telbijan::ratio::{BestFraction, NearestFraction};
 use telbijan::{Found, Numbers, Refusal};
 
 /// An answer as the bits of all its parts.
@@ -31,6 +31,7 @@ bits! {
     (u16, Range<usize>): x => [x.0.into(), x.1.start as u64, x.1.end as u64];
     Found: x => [x.number as u64, x.deviation.to_bits()];
     NearestFraction: x => [x.numer.into(), x.denom.into(), x.deviation.to_bits(), x.octaves as u64];
+    BestFraction: x => [x.numer.into(), x.denom.into(), x.deviation.to_bits()];
     Numbers: x => [x.count.into(), x.start as u64, x.end as u64, x.root.reference as u64, x.root.hz.to_bits(), x.root.offset as u64, x.octave as u64];
 }
 

@@ -1,36 +1,35 @@
--- `math::odd_factors_u16` meets its contract. The invariant: the number is halvedWhileEven on the way to its odd part.
--- The measure is the number. Assumes nothing.
+-- `math::odd_factors_u16` meets its contract: 0 apart, the number over 2 to its trailing zeros (Trailing.antt). No loop. Assumes nothing.
 use mathlib.Core.Path.{ap, sym}
+use Prim.Native.Nat.{_<_}
 use native.Mathlib.Omega.{arith}
+use lib.Count.{trailingZeros}
 use Rattle.math.specs.OddPart.{halvedWhileEven}
-use Rattle.math.proofs.OddPart.{Halving, begin, turn, end}
+use Rattle.math.proofs.Trailing.{trailing-lt, divided-is, divisor-some}
 use Rattle.math.proofs.odd_factors_u16.Statement.{statement}
 use Rattle.math.proofs.odd_factors_u16.Tie as tie
-use Rattle.math.proofs.odd_factors_u16.Reads as reads
-use Rattle.math.proofs.odd_factors_u16.Lts as lts
 
-abbrev Inv-loop : tie.InvT-loop
-Inv-loop number n₀ n = Halving number n
-
-abbrev μ-loop : tie.MeasureT-loop
-μ-loop number n₀ n = n
-
-returns : tie.Need-returns Inv-loop μ-loop
+returns : tie.Need-returns
 unfolding halvedWhileEven
 returns c = sym (ap (halvedWhileEven 16) (c .if1 .taken))
 
-loop-holds : tie.Need-loop-holds Inv-loop μ-loop
-loop-holds c = begin (c .before .fits .number) (c .if1 .left)
+-- a number that is not 0
+some : (c : tie.Else1) → 0 < c .before .args .number
+some c = omega (arith, c .if1 .left)
 
-loop-less : tie.Need-loop-less Inv-loop μ-loop
-loop-less c = omega (arith, c .before .loop .inv .some)
+fewer : (c : tie.Else1) → trailingZeros 16 (c .before .args .number) < 16
+fewer c = trailing-lt 16 _ (some c) (c .before .fits .number .fits)
 
-loop-again : tie.Need-loop-again Inv-loop μ-loop
-loop-again c = turn (c .before .loop .inv) (c .loop-test .taken)
+cast-result : tie.Need-cast-result
+cast-result c = record { fits = omega (arith, fewer c) }
 
-returns-2 : tie.Need-returns-2 Inv-loop μ-loop
-returns-2 c = end (c .before .loop .inv) (c .loop-test .left)
+shl-result : tie.Need-shl-result
+shl-result c = fewer c
+
+div-result : tie.Need-div-result
+div-result c = divisor-some _ (some c) (c .before .fits .number .fits)
+
+returns-2 : tie.Need-returns-2
+returns-2 c = divided-is _ (some c) (c .before .fits .number .fits)
 
 pub odd-factors-u16-spec : {M : Type 1} → statement M
-odd-factors-u16-spec =
-    tie.close (tie.spec Inv-loop μ-loop returns loop-holds loop-less loop-again returns-2)
+odd-factors-u16-spec = tie.close (tie.spec returns cast-result shl-result div-result returns-2)

@@ -1,0 +1,10 @@
+pub mod Passing
+pub mod After
+pub mod Below
+pub mod Steps
+pub mod Squares
+pub mod Choice
+pub mod Picked
+pub mod Values
+pub mod Theorems
+pub mod Samples
