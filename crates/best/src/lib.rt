@@ -2,8 +2,8 @@
 //
 // A walk over allowed fractions, from 1/1: past one that is at most the ratio to the next numerator, past one above it to the next
 // denominator, with the best on either side kept. All others lie beyond one that was passed, so that of 65,535 numerators and as many
-// denominators each is met once at most. Of the two that are left the nearer one is the answer, by whole numbers. The ratio is m * 2^k / 2^1074,
-// with 53 digits in m, as `floats::unpack` has it.
+// denominators each is met once at most. Of the two that are left the nearer one is the answer, by whole numbers. The ratio is
+// m * 2^k / 2^1074, with 53 digits in m, as `floats::unpack` has it.
 use base::Refusal;
 use pitch::Ratio;
 ghost use mathlib.Core.Path.{_≡_};
