@@ -17,7 +17,7 @@ use Rattle.integers.specs.IntegerText.{IntText}
 use Rattle.kbm.specs.Table.{inI16, tableOf}
 use Rattle.kbm.specs.declared.Entry.{Entry}
 use Rattle.kbm.specs.declared.Kbm.{Kbm}
-use Rattle.kbm_read.specs.Language.{Required, required, Value, Values, Gives, GiveAll, sizeOf, mappingFrom, MappingText}
+use Rattle.kbm_read.specs.Language.{Required, required, unseen, Value, Values, Gives, GiveAll, sizeOf, mappingFrom, MappingText}
 use Rattle.kbm_read.specs.Reader.{readOf, entriesIn, afterRead}
 use Rattle.integers.proofs.AtLine.{typed-int}
 use Rattle.kbm_read.proofs.Ends.{small-size}
@@ -63,7 +63,7 @@ abbrev AllKnown : (fs : List Required) → Values fs → Type 0
 AllKnown [] vs = Unit {0}
 AllKnown (f ∷ fs) vs = Known f (vs .0) × AllKnown fs (vs .1)
 
-all-known : (fs : List Required) (ts : List (List ℕ)) (vs : Values fs) → GiveAll fs ts vs → AllKnown fs vs
+all-known : (fs : List Required) (ts : List (List ℕ)) (vs : Values fs) → GiveAll unseen fs ts vs → AllKnown fs vs
 all-known [] ts vs g = tt
 all-known (f ∷ fs) [] vs g = absurd g
 all-known (f ∷ fs) (t ∷ ts) vs g = (known f t (vs .0) (g .0), all-known fs ts (vs .1) (g .1))

@@ -49,7 +49,7 @@ module _ (room : ℕ) (s : List ℕ) (a : Ample room s) where
   -- a fault is one of 1 to 11, 13, 14 and 18
   pub ample-drawn : (n d : ℕ) → FaultText room s n d → Drawn n
   ample-drawn n d t =
-      fault-drawn mapping (λ vs es c. WrongEnd room (sizeOf vs) es c) room (t .says) n d (omega (arith, says-few (t .text), a)) (wrong-drawn n) (bad-drawn n)
+      fault-drawn mapping (λ vs es c. WrongEnd room (sizeOf vs) es c) room (t .says) n d (omega (arith, says-few (t .text), a)) (λ f s. wrong-drawn n f) (bad-drawn n)
       (λ vs es b w. end-drawn n room (sizeOf vs) es (omega (arith, small-size b, a)) w) (t .fault)
 
   -- so no text is refused by 12

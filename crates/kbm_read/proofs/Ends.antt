@@ -17,7 +17,7 @@ use Rattle.kbm.specs.declared.Kbm.{Kbm}
 use Rattle.integers.proofs.AtLine.{int-below}
 use Rattle.listing.proofs.Given.{given-entries}
 use Rattle.text.specs.Reading.{Meaning}
-use Rattle.kbm_read.specs.Language.{Values, GiveAll, Begins, required, mapping, sizeOf, blanks, added, WrongEnd}
+use Rattle.kbm_read.specs.Language.{Values, GiveAll, Begins, required, unseen, mapping, sizeOf, blanks, added, WrongEnd}
 use Rattle.kbm_read.specs.Reader.{entryIn, listed, givenFrom, mappingOf}
 use Rattle.kbm_read.specs.declared.line.Head.{Head}
 use Rattle.kbm_read.proofs.EntryTexts.{text-entry}
@@ -33,7 +33,7 @@ pub length-added : (n : ℕ) (es : List Entry) → length (added n es) ≡ lengt
 length-added n es = length-append es (blanks (n - length es)) ∙ ap (λ x. length es + x) (length-blanks (n - length es))
 
 -- a size is below 65,536
-size-below : (first : List (List ℕ)) (vs : Values required) → GiveAll required first vs → sizeOf vs < 65536
+size-below : (first : List (List ℕ)) (vs : Values required) → GiveAll unseen required first vs → sizeOf vs < 65536
 size-below [] vs g = absurd g
 size-below (t ∷ ts) vs g = int-below (2 ^ 16) t (vs .0) (g .0)
 

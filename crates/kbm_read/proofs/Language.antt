@@ -1,6 +1,6 @@
 -- THE THEOREMS OF MAPPING FILES (document 01, "What the contracts settle", demand 3): given room, a text is accepted exactly when
 -- it is in the language, with its one reading; and it is refused exactly for its earliest fault. Assumes nothing.
-use mathlib.Core.Path.{_≡_, sym, _∙_, ap}
+use mathlib.Core.Path.{_≡_, refl, sym, _∙_, ap}
 use mathlib.Core.List.{List}
 use mathlib.Core.Logic.{_↔_}
 use Prim.Native.Nat.{ℕ, _+_, _≤_}
@@ -70,11 +70,11 @@ module _ (room : ℕ) (s : List ℕ) where
 
   -- an accepted text is in the language, with this reading, and there is room
   pub accepted : (x : Kbm) → readOf room s ≡ gives x → MappingText s x (entriesIn (x .count) s) × (x .count ≤ room)
-  accepted x e = good-text x (accepts-good mapping reads (finishOn room) room (unread .head) (saidIn s) x .0 (sym (same-walk room (saidIn s)) ∙ e))
+  accepted x e = good-text x (accepts-good mapping reads (finishOn room) room (unread .head) refl (saidIn s) x .0 (sym (same-walk room (saidIn s)) ∙ e))
 
   -- a text of the language is accepted, given room
   pub in-language : {x : Kbm} {es : List Entry} → MappingText s x es → length es ≤ room → readOf room s ≡ gives x
-  in-language {x} t f = same-walk room (saidIn s) ∙ accepts-good mapping reads (finishOn room) room (unread .head) (saidIn s) x .1 (text-good t f)
+  in-language {x} t f = same-walk room (saidIn s) ∙ accepts-good mapping reads (finishOn room) room (unread .head) refl (saidIn s) x .1 (text-good t f)
 
   -- ACCEPTED EXACTLY WHEN IN THE LANGUAGE, with this one reading: "acceptance and the one reading"
   pub accepts : (x : Kbm) (es : List Entry) → ((readOf room s ≡ gives x) × (entriesIn (x .count) s ≡ es)) ↔ (MappingText s x es × (length es ≤ room))
@@ -101,13 +101,13 @@ module _ (room : ℕ) (s : List ℕ) where
       forth e = record {
         says = saidIn s;
         text = strict-text s;
-        fault = listing.refuses-fault mapping reads (finishOn room) room (unread .head) (λ vs es c. WrongEnd room (sizeOf vs) es c) (ends-wrong room) (wrong-ends room) (saidIn s) n d .0 (sym (same-walk room (saidIn s)) ∙ e);
+        fault = listing.refuses-fault mapping reads (finishOn room) room (unread .head) refl (λ vs es c. WrongEnd room (sizeOf vs) es c) (ends-wrong room) (wrong-ends room) (saidIn s) n d .0 (sym (same-walk room (saidIn s)) ∙ e);
       }
 
       back : FaultText room s n d → readOf room s ≡ refuses n d
       back t =
           same-walk room (saidIn s) ∙ ap (walkOn mapping reads (finishOn room) room 1 (atStart mapping reads (unread .head))) (one-strict-text s (t .says) (t .text)) ∙
-          listing.refuses-fault mapping reads (finishOn room) room (unread .head) (λ vs es c. WrongEnd room (sizeOf vs) es c) (ends-wrong room) (wrong-ends room) (t .says) n d .1 (t .fault)
+          listing.refuses-fault mapping reads (finishOn room) room (unread .head) refl (λ vs es c. WrongEnd room (sizeOf vs) es c) (ends-wrong room) (wrong-ends room) (t .says) n d .1 (t .fault)
 
 -- ONE READING: a text is a mapping file of one mapping and one list of entries
 pub one-reading : (s : List ℕ) (x y : Kbm) (es fs : List Entry) → MappingText s x es → MappingText s y fs → (x ≡ y) × (es ≡ fs)

@@ -64,7 +64,7 @@ module _ {room : ℕ} {s : List ℕ} {n d : ℕ} (t : FaultText room s n d) wher
 
   pub fault-listed : MayRefuse s n d
   fault-listed =
-      go (drawn-at mapping End Line Last (inl refl) full wrong-line bad-line (λ vs. wrong-end room (sizeOf vs)) (t .fault))
+      go (drawn-at mapping End Line Last (inl refl) full (λ f s. wrong-line f) bad-line (λ vs. wrong-end room (sizeOf vs)) (t .fault))
     where
       go : DrawnAt mapping End Line Last (length (t .says)) n d → MayRefuse s n d
       go (DrawnAt.at-line l a b) =

@@ -66,12 +66,14 @@ abbrev pub reads : Reads mapping
 reads = record {
   Head = Head;
   put = withField;
-  readAs = readAs;
+  seen = λ h. tt;
+  seen-put = λ f h v. refl;
+  readAs = λ f h. readAs f;
   entryAs = λ k t. entrySaid k (entryIn t);
-  read-gives = read-gives;
-  gives-read = gives-read;
-  read-wrong = read-wrong;
-  wrong-read = wrong-read;
+  read-gives = λ f h. read-gives f;
+  gives-read = λ f h. gives-read f;
+  read-wrong = λ f h. read-wrong f;
+  wrong-read = λ f h. wrong-read f;
   entry-is = λ k t e q. entry-text t e (said-is k (entryIn t) e q);
   is-entry = λ k t e x. ap (entrySaid k) (text-entry t e x);
   entry-bad = λ k t n d q. let r = said-not k (entryIn t) n d q in (r .0, (r .1, no-entry t (r .2)));

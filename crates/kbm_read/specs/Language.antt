@@ -76,16 +76,37 @@ pub data EntryText (t : List ℕ) : Entry → Type 0 where
 abbrev pub NoEntry : List ℕ → ℕ → Type 0
 NoEntry t n = (n ≡ keyboard-mapping) × ((e : Entry) → EntryText t e → ⊥)
 
+-- no line looks back at another
+abbrev pub Seen : Type 0
+Seen = Unit {0}
+
+abbrev pub unseen : Seen
+unseen = tt
+
 -- THE FORMAT: seven required lines and then entries, each by its token
 abbrev pub mapping : Format
-mapping = record { Word = List ℕ; word = λ m t. t; Required = Required; required = required; Value = Value; Gives = Gives; Wrong = Wrong; Entry = Entry; Is = EntryText; Bad = NoEntry }
+mapping = record {
+  Word = List ℕ;
+  word = λ m t. t;
+  Required = Required;
+  required = required;
+  Value = Value;
+  Seen = Seen;
+  unseen = unseen;
+  see = λ f s v. tt;
+  Gives = λ f s t v. Gives f t v;
+  Wrong = λ f s t n. Wrong f t n;
+  Entry = Entry;
+  Is = EntryText;
+  Bad = NoEntry;
+}
 
 -- a value for each of these lines; the tokens give these lines these values; the tokens are these entries; each line is UTF-8, and these
 -- are the tokens of those that do not drop out
 abbrev pub Values : List Required → Type 0
 Values = listing.Values mapping
 
-abbrev pub GiveAll : (fs : List Required) → List (List ℕ) → Values fs → Type 0
+abbrev pub GiveAll : Seen → (fs : List Required) → List (List ℕ) → Values fs → Type 0
 GiveAll = listing.GiveAll mapping
 
 abbrev pub Entries : List (List ℕ) → List Entry → Type 0

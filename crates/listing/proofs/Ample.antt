@@ -8,7 +8,7 @@ use lib.ListN.{length, length-append}
 use Rattle.base.specs.Numbers.{no-room}
 use Rattle.text.specs.Reading.{Reading, Meaning, invalid, blank, comment, content, Says}
 use Rattle.listing.specs.Drawn.{Drawn}
-use Rattle.listing.specs.Listing.{Format, Values, Entries, Words, Begins, WrongLine, WrongEntry, Fault}
+use Rattle.listing.specs.Listing.{Format, Values, seenFrom, Entries, Words, Begins, WrongLine, WrongEntry, Fault}
 use Rattle.listing.proofs.Details.{lines-few, each-one}
 
 -- 12 is none of those numbers
@@ -45,13 +45,13 @@ module _ (F : Format) where
 
   module _ (End : Values F (F .required) → List (F .Entry) → ℕ → Type 0) (room : ℕ) (ms : List Meaning) (n d : ℕ) where
     -- IN AMPLE ROOM a fault has one of the numbers by which a text is outside its language
-    module _ (ample : length ms ≤ room) (wrong : (f : F .Required) (w : F .Word) → F .Wrong f w n → Drawn n) (bad : (w : F .Word) → F .Bad w n → Drawn n)
+    module _ (ample : length ms ≤ room) (wrong : (f : F .Required) (s : F .Seen) (w : F .Word) → F .Wrong f s w n → Drawn n) (bad : (w : F .Word) → F .Bad w n → Drawn n)
         (end : (vs : Values F (F .required)) (es : List (F .Entry)) → Begins F ms (F .required) vs es → End vs es n → Drawn n) where
-      at-line : (f : F .Required) (line : Meaning) → WrongLine F f line n → Drawn n
-      at-line f invalid w = inl (omega (arith, w), omega (arith, w))
-      at-line f blank w = absurd w
-      at-line f comment w = absurd w
-      at-line f (content m t) w = wrong f (F .word m t) w
+      at-line : (f : F .Required) (s : F .Seen) (line : Meaning) → WrongLine F f s line n → Drawn n
+      at-line f s invalid w = inl (omega (arith, w), omega (arith, w))
+      at-line f s blank w = absurd w
+      at-line f s comment w = absurd w
+      at-line f s (content m t) w = wrong f s (F .word m t) w
 
       at-entry : (es : List (F .Entry)) → suc (length es) ≤ room → (line : Meaning) → WrongEntry F room es line n → Drawn n
       at-entry es h invalid w = inl (omega (arith, w), omega (arith, w))
@@ -61,7 +61,7 @@ module _ (F : Format) where
       at-entry es h (content m t) (inr w) = absurd (omega (arith, w .1))
 
       pub fault-drawn : Fault F End room ms n d → Drawn n
-      fault-drawn (Fault.at-required before line after e p done f more rq vs b w) = at-line f line w
+      fault-drawn (Fault.at-required before line after e p done f more rq vs b w) = at-line f (seenFrom F (F .unseen) done vs) line w
       fault-drawn (Fault.at-entry before line after e p vs es b f w) =
           at-entry es (omega (arith, entries-few b, ap length e, length-append before (line ∷ after))) line w
       fault-drawn (Fault.missing e done f more rq p vs b) = inl (omega (arith, e), omega (arith, e))

@@ -1,6 +1,6 @@
 -- The walk follows good lines to the place that they lead to, and every walk is good lines up to its end or its first fault.
 -- Assumes nothing.
-use mathlib.Core.Path.{_≡_, refl, sym, _∙_, ap}
+use mathlib.Core.Path.{_≡_, refl, sym, _∙_, ap, subst}
 use mathlib.Core.List.{List, [], _∷_, _++_, append-assoc, append-nil}
 use mathlib.Core.Logic.{_⊎_, inl, inr}
 use Prim.Native.Nat.{ℕ, suc, _+_, _≤_}
@@ -23,7 +23,7 @@ module _ (F : Format) (R : Reads F) where
   no-words [] (x ∷ rest) t = absurd t
   no-words (x ∷ first) rest t = absurd t
 
-  no-values : (h : R .Head) (done : List (F .Required)) (vs : Values F done) → GiveAll F done [] vs → (done ≡ []) × (headFrom F R done h vs ≡ h)
+  no-values : (h : R .Head) (done : List (F .Required)) (vs : Values F done) → GiveAll F (R .seen h) done [] vs → (done ≡ []) × (headFrom F R done h vs ≡ h)
   no-values h [] vs g = (refl, refl)
   no-values h (f ∷ fs) vs g = absurd g
 
@@ -79,14 +79,14 @@ module _ (F : Format) (R : Reads F) where
               andThen (stepOn F R room k (content m t) p) (λ x. walkOn F R finish room (k + 1) x (ms ++ after)) ≡ walkOn F R finish room (k + suc (length ms)) q after
           goes p′ e w = rw e (shifted k p′ ms w)
 
-          go : (done : List (F .Required)) (vs : Values F done) (first rest : List (F .Word)) (es : List (F .Entry)) → Words F (content m t ∷ ms) (first ++ rest) → GiveAll F done first vs →
+          go : (done : List (F .Required)) (vs : Values F done) (first rest : List (F .Word)) (es : List (F .Entry)) → Words F (content m t ∷ ms) (first ++ rest) → GiveAll F (R .seen (p .head)) done first vs →
               Entries F rest es → p .fields ≡ done ++ q .fields → q .head ≡ headFrom F R done (p .head) vs → q .es ≡ p .es ++ es → (q .fields ≡ []) ⊎ (es ≡ []) → length (q .es) ≤ room →
               ((p′ : Place F R) → length (p′ .es) ≤ room → Leads F R room p′ ms q → Goes (k + 1) p′ ms) →
               andThen (stepOn F R room k (content m t) p) (λ x. walkOn F R finish room (k + 1) x (ms ++ after)) ≡ walkOn F R finish room (k + suc (length ms)) q after
           go (f ∷ done) vs [] rest es tk gv en fl hd al or ft ih = absurd gv
           go (f ∷ done) vs (u ∷ first) rest es tk gv en fl hd al or ft ih =
               goes (record { fields = done ++ q .fields; head = R .put f (p .head) (vs .0); es = p .es })
-              (rw (fl, R .gives-read f k (F .word m t) (vs .0) (rw (tk .0) at (gv .0))))
+              (rw (fl, R .gives-read f (p .head) k (F .word m t) (vs .0) (rw (tk .0) at (gv .0))))
               (ih (record { fields = done ++ q .fields; head = R .put f (p .head) (vs .0); es = p .es }) h (record {
                 done = done;
                 vs = vs .1;
@@ -94,7 +94,7 @@ module _ (F : Format) (R : Reads F) where
                 first = first;
                 rest = rest;
                 words = tk .1;
-                values = gv .1;
+                values = subst (λ (s : F .Seen). GiveAll F s done first (vs .1)) (sym (R .seen-put f (p .head) (vs .0))) (gv .1);
                 entries = en;
                 fields = refl;
                 head = hd;

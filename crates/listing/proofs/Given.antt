@@ -41,14 +41,15 @@ module _ (F : Format) (R : Reads F) {S X : Type 0} (take : ℕ → Meaning → S
       go x y (Alike.values a b u) ih = ih a b u
       go x y (Alike.refusals n d) ih = refl
 
+-- a word for each of the required lines
+pub values-length : (F : Format) (s : F .Seen) (fs : List (F .Required)) (ws : List (F .Word)) (vs : Values F fs) → GiveAll F s fs ws vs → length ws ≡ length fs
+values-length F s [] [] vs g = refl
+values-length F s [] (w ∷ ws) vs g = absurd g
+values-length F s (f ∷ fs) [] vs g = absurd g
+values-length F s (f ∷ fs) (w ∷ ws) vs g = ap suc (values-length F (F .see f s (vs .0)) fs ws (vs .1) (g .1))
+
 -- THE ENTRIES that a second pass collects are those of good lines
 module _ (F : Format) (give : List ℕ → List ℕ → List (F .Entry)) (is : (m t : List ℕ) (e : F .Entry) → F .Is (F .word m t) e → give m t ≡ e ∷ []) where
-  values-length : (fs : List (F .Required)) (first : List (F .Word)) (vs : Values F fs) → GiveAll F fs first vs → length first ≡ length fs
-  values-length [] [] vs g = refl
-  values-length [] (t ∷ ts) vs g = absurd g
-  values-length (f ∷ fs) [] vs g = absurd g
-  values-length (f ∷ fs) (t ∷ ts) vs g = ap suc (values-length fs ts (vs .1) (g .1))
-
   given-is : (ms : List Meaning) (first rest : List (F .Word)) (es : List (F .Entry)) → Words F ms (first ++ rest) → Entries F rest es → givenAfter give (length first) ms ≡ es
   unfolding givenAfter
   given-is [] [] [] [] t e = refl
@@ -65,4 +66,4 @@ module _ (F : Format) (give : List ℕ → List ℕ → List (F .Entry)) (is : (
       rw (is m k x (rw (t .0) at (e .0))) (ap (λ (l : List (F .Entry)). x ∷ l) (given-is ms [] rest es (t .1) (e .1)))
 
   pub given-entries : {ms : List Meaning} {vs : Values F (F .required)} {es : List (F .Entry)} → Begins F ms (F .required) vs es → givenAfter give (length (F .required)) ms ≡ es
-  given-entries {ms} {vs} {es} b = ap (λ n. givenAfter give n ms) (sym (values-length (F .required) (b .first) vs (b .values))) ∙ given-is ms (b .first) (b .rest) es (b .words) (b .entries)
+  given-entries {ms} {vs} {es} b = ap (λ n. givenAfter give n ms) (sym (values-length F (F .unseen) (F .required) (b .first) vs (b .values))) ∙ given-is ms (b .first) (b .rest) es (b .words) (b .entries)

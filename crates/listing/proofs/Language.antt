@@ -1,6 +1,6 @@
 -- THE THEOREMS OF LISTINGS: a walk accepts exactly good lines, with the values and the entries that they give, and it refuses exactly
 -- for the earliest fault. Assumes nothing.
-use mathlib.Core.Path.{_≡_, refl, sym, _∙_, ap}
+use mathlib.Core.Path.{_≡_, refl, sym, _∙_, ap, subst}
 use mathlib.Core.Bool.{Bool, true, false}
 use mathlib.Core.List.{List, [], _∷_, _++_, append-nil}
 use mathlib.Core.Logic.{_⊎_, _↔_, inl, inr}
@@ -13,10 +13,10 @@ use Rattle.base.specs.Numbers.{no-room, line-missing}
 use Rattle.base.specs.Said.{Said, gives, refuses, pick, andThen}
 use Rattle.base.proofs.Said.{no-value, no-refusal, same-refuses}
 use Rattle.text.specs.Reading.{Meaning, invalid, blank, comment, content}
-use Rattle.listing.specs.Listing.{Format, Values, Begins, WrongLine, WrongEntry, Fault}
+use Rattle.listing.specs.Listing.{Format, Values, GiveAll, seenFrom, Begins, WrongLine, WrongEntry, Fault}
 use Rattle.listing.proofs.Follows.{follow, Outcome, outcome}
 use Rattle.listing.proofs.Leads.{Leads}
-use Rattle.listing.proofs.Walks.{Reads, Place, headFrom, placed, wordOn, stepOn, endOn, walkOn}
+use Rattle.listing.proofs.Walks.{Reads, Place, headFrom, seen-from, placed, wordOn, stepOn, endOn, walkOn}
 
 -- nothing was said yet but h
 abbrev pub atStart : (F : Format) (R : Reads F) → R .Head → Place F R
@@ -34,7 +34,8 @@ pub record Good (F : Format) (R : Reads F) {X : Type 0} (finish : R .Head → Li
 no-more : {F : Format} {ms : List Meaning} {done : List (F .Required)} {vs : Values F done} {es : List (F .Entry)} → Begins F ms done vs es → es ≡ [] → Begins F ms done vs []
 no-more b e = rw e at b
 
-module _ (F : Format) (R : Reads F) {X : Type 0} (finish : R .Head → List (F .Entry) → Said X) (room : ℕ) (h : R .Head) where
+-- `start`: of the head that a walk starts with, the format has seen nothing
+module _ (F : Format) (R : Reads F) {X : Type 0} (finish : R .Head → List (F .Entry) → Said X) (room : ℕ) (h : R .Head) (start : R .seen h ≡ F .unseen) where
   -- what good lines from the start say, as the format has it
   record Said-so (ms : List Meaning) (done : List (F .Required)) (q : Place F R) : Type 0 where
     vs : Values F done
@@ -47,7 +48,13 @@ module _ (F : Format) (R : Reads F) {X : Type 0} (finish : R .Head → List (F .
   so l = record {
     vs = l .vs;
     es = l .more;
-    lines = record { first = l .first; rest = l .rest; words = l .words; values = l .values; entries = l .entries };
+    lines = record {
+      first = l .first;
+      rest = l .rest;
+      words = l .words;
+      values = subst (λ (s : F .Seen). GiveAll F s (l .done) (l .first) (l .vs)) start (l .values);
+      entries = l .entries;
+    };
     said = l .head;
     given = l .all;
   }
@@ -66,7 +73,7 @@ module _ (F : Format) (R : Reads F) {X : Type 0} (finish : R .Head → List (F .
     first = b .first;
     rest = b .rest;
     words = b .words;
-    values = b .values;
+    values = subst (λ (s : F .Seen). GiveAll F s done (b .first) vs) (sym start) (b .values);
     entries = b .entries;
     fields = e;
     head = refl;
@@ -111,15 +118,20 @@ module _ (F : Format) (R : Reads F) {X : Type 0} (finish : R .Head → List (F .
       back g = ap (walkOn F R finish room 1 (atStart F R h)) (sym (append-nil ms)) ∙ walks [] whole (g .lines) (inl refl) (g .fits) ∙ g .is
 
   module _ (End : Values F (F .required) → List (F .Entry) → ℕ → Type 0) where
+    -- what is seen at a place is what the values before it show
+    seen-after : (done : List (F .Required)) (vs : Values F done) → R .seen (headFrom F R done h vs) ≡ seenFrom F (F .unseen) done vs
+    seen-after done vs = seen-from F R done h vs ∙ ap (λ (s : F .Seen). seenFrom F s done vs) start
+
     -- REFUSED at a line: it stands in place of a required one, or after them
     module _ {ms : List Meaning} (before : List Meaning) (line : Meaning) (after : List Meaning) {q : Place F R} (m : ms ≡ before ++ line ∷ after) (l : Leads F R room (atStart F R h) before q) {n d : ℕ} (at : d ≡ 1 + length before) where
-      in-required : (f : F .Required) (fs : List (F .Required)) → q .fields ≡ f ∷ fs → WrongLine F f line n → Fault F End room ms n d
+      in-required : (f : F .Required) (fs : List (F .Required)) → q .fields ≡ f ∷ fs → WrongLine F f (R .seen (q .head)) line n → Fault F End room ms n d
       in-required f fs p w = by-order (l .order)
         where
           by-order : (q .fields ≡ []) ⊎ (l .more ≡ []) → Fault F End room ms n d
           by-order (inl o) = let y : f ∷ fs ≡ [] = sym p ∙ o in let z : _≡_ {A = ℕ} 0 1 = cc in absurd (omega arith)
           by-order (inr o) =
-              Fault.at-required before line after m (omega (arith, at)) (l .done) f fs (l .fields ∙ rw p) (l .vs) (no-more (so l .lines) o) w
+              Fault.at-required before line after m (omega (arith, at)) (l .done) f fs (l .fields ∙ rw p) (l .vs) (no-more (so l .lines) o)
+              (subst (λ (s : F .Seen). WrongLine F f s line n) (ap (R .seen) (l .head) ∙ seen-after (l .done) (l .vs)) w)
 
       in-entries : q .fields ≡ [] → WrongEntry F room (q .es) line n → Fault F End room ms n d
       in-entries p w =
@@ -137,12 +149,12 @@ module _ (F : Format) (R : Reads F) {X : Type 0} (finish : R .Head → List (F .
     stop-fault before comment after m l e = no-refusal e
     stop-fault {ms} before (content c t) after {q} {n} {d} m l e = by-fields (q .fields) refl e
       where
-        by-value : (f : F .Required) (fs : List (F .Required)) → q .fields ≡ f ∷ fs → (r : Said (F .Value f)) → R .readAs f (1 + length before) (F .word c t) ≡ r →
+        by-value : (f : F .Required) (fs : List (F .Required)) → q .fields ≡ f ∷ fs → (r : Said (F .Value f)) → R .readAs f (q .head) (1 + length before) (F .word c t) ≡ r →
             andThen {B = Place F R} r (λ v. gives (record { fields = fs; head = R .put f (q .head) v; es = q .es })) ≡ refuses n d → Fault F End room ms n d
         by-value f fs p (gives v) y z = no-refusal z
         by-value f fs p (refuses n′ d′) y z =
             let r = same-refuses z in
-            let w = R .read-wrong f (1 + length before) (F .word c t) n′ d′ y in
+            let w = R .read-wrong f (q .head) (1 + length before) (F .word c t) n′ d′ y in
             in-required before (content c t) after m l (sym (r .1) ∙ w .0) f fs p (rw (r .0) at (w .1))
 
         by-room : (x : F .Entry) → R .entryAs (1 + length before) (F .word c t) ≡ gives x → q .fields ≡ [] → (b : Bool) → leb room (length (q .es)) ≡ b →
@@ -163,15 +175,15 @@ module _ (F : Format) (R : Reads F) {X : Type 0} (finish : R .Head → List (F .
 
         by-fields : (fs : List (F .Required)) → q .fields ≡ fs → wordOn F R room (1 + length before) (F .word c t) (q .head) (q .es) fs ≡ refuses n d → Fault F End room ms n d
         by-fields [] p z = by-entry (R .entryAs (1 + length before) (F .word c t)) refl p z
-        by-fields (f ∷ fs) p z = by-value f fs p (R .readAs f (1 + length before) (F .word c t)) refl z
+        by-fields (f ∷ fs) p z = by-value f fs p (R .readAs f (q .head) (1 + length before) (F .word c t)) refl z
 
     -- AND BACK: a line that draws a number is refused by it
-    line-refused : (k : ℕ) (f : F .Required) (more : List (F .Required)) (g : R .Head) (es : List (F .Entry)) (n : ℕ) (line : Meaning) → WrongLine F f line n →
+    line-refused : (k : ℕ) (f : F .Required) (more : List (F .Required)) (g : R .Head) (es : List (F .Entry)) (n : ℕ) (line : Meaning) → WrongLine F f (R .seen g) line n →
         stepOn F R room k line (record { fields = f ∷ more; head = g; es = es }) ≡ refuses n k
     line-refused k f more g es n invalid w = rw w
     line-refused k f more g es n blank w = absurd w
     line-refused k f more g es n comment w = absurd w
-    line-refused k f more g es n (content m t) w = rw (R .wrong-read f k (F .word m t) n w)
+    line-refused k f more g es n (content m t) w = rw (R .wrong-read f g k (F .word m t) n w)
 
     entry-refused : (k : ℕ) (g : R .Head) (es : List (F .Entry)) (n : ℕ) (line : Meaning) → WrongEntry F room es line n →
         stepOn F R room k line (record { fields = []; head = g; es = es }) ≡ refuses n k
@@ -211,7 +223,8 @@ module _ (F : Format) (R : Reads F) {X : Type 0} (finish : R .Head → List (F .
       unfolding walkOn
       fault-refused ms n d (Fault.at-required before line after m p done f more rq vs b w) =
           let k : 1 + length before ≡ d = omega arith in
-          let step = line-refused (1 + length before) f more (headFrom F R done h vs) [] n line w in
+          let drawn = subst (λ (s : F .Seen). WrongLine F f s line n) (sym (seen-after done vs)) w in
+          let step = line-refused (1 + length before) f more (headFrom F R done h vs) [] n line drawn in
           ap (walkOn F R finish room 1 (atStart F R h)) m ∙ walks (line ∷ after) rq b (inr refl) (omega arith) ∙ rw (step, k)
       fault-refused ms n d (Fault.at-entry before line after m p vs es b f w) =
           let k : 1 + length before ≡ d = omega arith in

@@ -1,5 +1,5 @@
 -- Good lines lead from one place to another, and the walk follows them: both ways. Assumes nothing.
-use mathlib.Core.Path.{_≡_, refl, sym, _∙_, ap}
+use mathlib.Core.Path.{_≡_, refl, sym, _∙_, ap, subst}
 use mathlib.Core.Bool.{Bool, true, false}
 use mathlib.Core.List.{List, [], _∷_, _++_, append-assoc, append-nil}
 use mathlib.Core.Logic.{_⊎_, inl, inr}
@@ -23,7 +23,7 @@ pub record Leads (F : Format) (R : Reads F) (room : ℕ) (p : Place F R) (ms : L
   pub first : List (F .Word)
   pub rest : List (F .Word)
   pub words : Words F ms (first ++ rest)
-  pub values : GiveAll F done first vs
+  pub values : GiveAll F (R .seen (p .head)) done first vs
   pub entries : Entries F rest more
   pub fields : p .fields ≡ done ++ q .fields
   pub head : q .head ≡ headFrom F R done (p .head) vs
@@ -33,7 +33,7 @@ pub record Leads (F : Format) (R : Reads F) (room : ℕ) (p : Place F R) (ms : L
 
 module _ (F : Format) (R : Reads F) where
   -- where nothing is required, only entries come
-  only-entries : (q : Place F R) (h : R .Head) (done : List (F .Required)) (vs : Values F done) (first : List (F .Word)) → [] ≡ done ++ q .fields → GiveAll F done first vs →
+  only-entries : (q : Place F R) (h : R .Head) (done : List (F .Required)) (vs : Values F done) (first : List (F .Word)) → [] ≡ done ++ q .fields → GiveAll F (R .seen h) done first vs →
       (first ≡ []) × (headFrom F R done h vs ≡ h) × (q .fields ≡ [])
   only-entries q h [] vs [] e g = (refl, refl, sym e)
   only-entries q h [] vs (t ∷ ts) e g = absurd g
@@ -76,7 +76,7 @@ module _ (F : Format) (R : Reads F) where
         fits = l .fits;
       }
 
-      lead-field : (m t : List ℕ) (f : F .Required) (fs : List (F .Required)) (v : F .Value f) → p .fields ≡ f ∷ fs → F .Gives f (F .word m t) v →
+      lead-field : (m t : List ℕ) (f : F .Required) (fs : List (F .Required)) (v : F .Value f) → p .fields ≡ f ∷ fs → F .Gives f (R .seen (p .head)) (F .word m t) v →
           Leads F R room (record { fields = fs; head = R .put f (p .head) v; es = p .es }) ms q → Leads F R room p (content m t ∷ ms) q
       lead-field m t f fs v e g l = record {
         done = f ∷ l .done;
@@ -85,7 +85,7 @@ module _ (F : Format) (R : Reads F) where
         first = F .word m t ∷ l .first;
         rest = l .rest;
         words = (refl, l .words);
-        values = (g, l .values);
+        values = (g, subst (λ (s : F .Seen). GiveAll F s (l .done) (l .first) (l .vs)) (R .seen-put f (p .head) v) (l .values));
         entries = l .entries;
         fields = e ∙ ap (λ (x : List (F .Required)). f ∷ x) (l .fields);
         head = l .head;
@@ -131,12 +131,12 @@ module _ (F : Format) (R : Reads F) where
         by-entry (gives x) y f z = by-room x y f (leb room (length (p .es))) refl z
         by-entry (refuses n d) y f z = no-value z
 
-        by-value : (f : F .Required) (fs : List (F .Required)) → p .fields ≡ f ∷ fs → (r : Said (F .Value f)) → R .readAs f k (F .word m t) ≡ r →
+        by-value : (f : F .Required) (fs : List (F .Required)) → p .fields ≡ f ∷ fs → (r : Said (F .Value f)) → R .readAs f (p .head) k (F .word m t) ≡ r →
             andThen r (λ v. gives (record { fields = fs; head = R .put f (p .head) v; es = p .es })) ≡ gives p′ → Leads F R room p (content m t ∷ ms) q
         by-value f fs g (gives v) y z =
-            lead-field m t f fs v g (R .read-gives f k (F .word m t) v y) (rw (sym (same-value (record { fields = fs; head = R .put f (p .head) v; es = p .es }) p′ z)) at l)
+            lead-field m t f fs v g (R .read-gives f (p .head) k (F .word m t) v y) (rw (sym (same-value (record { fields = fs; head = R .put f (p .head) v; es = p .es }) p′ z)) at l)
         by-value f fs g (refuses n d) y z = no-value z
 
         by-fields : (fs : List (F .Required)) → p .fields ≡ fs → wordOn F R room k (F .word m t) (p .head) (p .es) fs ≡ gives p′ → Leads F R room p (content m t ∷ ms) q
         by-fields [] f z = by-entry (R .entryAs k (F .word m t)) refl f z
-        by-fields (f ∷ fs) g z = by-value f fs g (R .readAs f k (F .word m t)) refl z
+        by-fields (f ∷ fs) g z = by-value f fs g (R .readAs f (p .head) k (F .word m t)) refl z

@@ -7,7 +7,7 @@ use native.Mathlib.Omega.{arith}
 use lib.ListN.{length, length-append}
 use Rattle.base.specs.Numbers.{not-utf8, line-missing, no-room}
 use Rattle.text.specs.Reading.{Meaning, invalid, blank, comment, content}
-use Rattle.listing.specs.Listing.{Format, Values, WrongLine, WrongEntry, Fault}
+use Rattle.listing.specs.Listing.{Format, Values, seenFrom, WrongLine, WrongEntry, Fault}
 
 module _ (F : Format) (End : Values F (F .required) → List (F .Entry) → ℕ → Type 0) (Line : ℕ → Type 0) (Last : ℕ → Type 0) where
   -- at a line, for a required line that is missing, or after the last line
@@ -17,14 +17,14 @@ module _ (F : Format) (End : Values F (F .required) → List (F .Entry) → ℕ 
     at-end : Last n → d ≡ 0 → DrawnAt lines n d
 
   module _ (utf8 : Line not-utf8) (full : Line no-room)
-      (wrong : (f : F .Required) (w : F .Word) (n : ℕ) → F .Wrong f w n → Line n)
+      (wrong : (f : F .Required) (s : F .Seen) (w : F .Word) (n : ℕ) → F .Wrong f s w n → Line n)
       (bad : (w : F .Word) (n : ℕ) → F .Bad w n → Line n)
       (end : (vs : Values F (F .required)) (es : List (F .Entry)) (n : ℕ) → End vs es n → Last n) where
-    line-draws : (f : F .Required) (m : Meaning) (n : ℕ) → WrongLine F f m n → Line n
-    line-draws f invalid n w = rw w utf8
-    line-draws f blank n w = absurd w
-    line-draws f comment n w = absurd w
-    line-draws f (content m t) n w = wrong f (F .word m t) n w
+    line-draws : (f : F .Required) (s : F .Seen) (m : Meaning) (n : ℕ) → WrongLine F f s m n → Line n
+    line-draws f s invalid n w = rw w utf8
+    line-draws f s blank n w = absurd w
+    line-draws f s comment n w = absurd w
+    line-draws f s (content m t) n w = wrong f s (F .word m t) n w
 
     entry-draws : (room : ℕ) (es : List (F .Entry)) (m : Meaning) (n : ℕ) → WrongEntry F room es m n → Line n
     entry-draws room es invalid n w = rw w utf8
@@ -35,7 +35,7 @@ module _ (F : Format) (End : Values F (F .required) → List (F .Entry) → ℕ 
 
     pub drawn-at : {room : ℕ} {ms : List Meaning} {n d : ℕ} → Fault F End room ms n d → DrawnAt (length ms) n d
     drawn-at {n = n} (Fault.at-required before line after e p done f more rq vs b w) =
-        DrawnAt.at-line (line-draws f line n w) (omega (arith, p)) (omega (arith, ap length e, p, length-append before (line ∷ after)))
+        DrawnAt.at-line (line-draws f (seenFrom F (F .unseen) done vs) line n w) (omega (arith, p)) (omega (arith, ap length e, p, length-append before (line ∷ after)))
     drawn-at {room} {n = n} (Fault.at-entry before line after e p vs es b f w) =
         DrawnAt.at-line (entry-draws room es line n w) (omega (arith, p)) (omega (arith, ap length e, p, length-append before (line ∷ after)))
     drawn-at (Fault.missing e done f more rq p vs b) =

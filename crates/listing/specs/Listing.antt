@@ -8,16 +8,19 @@ use lib.ListN.{length}
 use Rattle.base.specs.Numbers.{not-utf8, line-missing, no-room}
 use Rattle.text.specs.Reading.{Meaning, invalid, blank, comment, content}
 
--- A FORMAT: which lines are required, in their order; what a line with content gives (of its trimmed part and its token); which
--- values and which entries that can be, and the first number of 01's order that it draws else
+-- A FORMAT: which lines are required, in their order; what a line with content gives (of its trimmed part and its token); what later
+-- required lines look back at; which values and which entries that can be, and the first number of 01's order that it draws else
 pub record Format : Type 1 where
   pub Word : Type 0
   pub word : List ℕ → List ℕ → Word
   pub Required : Type 0
   pub required : List Required
   pub Value : Required → Type 0
-  pub Gives : (f : Required) → Word → Value f → Type 0
-  pub Wrong : Required → Word → ℕ → Type 0
+  pub Seen : Type 0
+  pub unseen : Seen
+  pub see : (f : Required) → Seen → Value f → Seen
+  pub Gives : (f : Required) → Seen → Word → Value f → Type 0
+  pub Wrong : Required → Seen → Word → ℕ → Type 0
   pub Entry : Type 0
   pub Is : Word → Entry → Type 0
   pub Bad : Word → ℕ → Type 0
@@ -27,12 +30,17 @@ abbrev pub Values : (F : Format) → List (F .Required) → Type 0
 Values F [] = Unit {0}
 Values F (f ∷ fs) = F .Value f × Values F fs
 
--- the words give these lines these values
-abbrev pub GiveAll : (F : Format) (fs : List (F .Required)) → List (F .Word) → Values F fs → Type 0
-GiveAll F [] [] vs = Unit {0}
-GiveAll F [] (w ∷ ws) vs = ⊥
-GiveAll F (f ∷ fs) [] vs = ⊥
-GiveAll F (f ∷ fs) (w ∷ ws) vs = F .Gives f w (vs .0) × GiveAll F fs ws (vs .1)
+-- what is seen after these values
+abbrev pub seenFrom : (F : Format) → F .Seen → (fs : List (F .Required)) → Values F fs → F .Seen
+seenFrom F s [] vs = s
+seenFrom F s (f ∷ fs) vs = seenFrom F (F .see f s (vs .0)) fs (vs .1)
+
+-- after what was seen, the words give these lines these values
+abbrev pub GiveAll : (F : Format) → F .Seen → (fs : List (F .Required)) → List (F .Word) → Values F fs → Type 0
+GiveAll F s [] [] vs = Unit {0}
+GiveAll F s [] (w ∷ ws) vs = ⊥
+GiveAll F s (f ∷ fs) [] vs = ⊥
+GiveAll F s (f ∷ fs) (w ∷ ws) vs = F .Gives f s w (vs .0) × GiveAll F (F .see f s (vs .0)) fs ws (vs .1)
 
 -- the words are these entries
 abbrev pub Entries : (F : Format) → List (F .Word) → List (F .Entry) → Type 0
@@ -56,15 +64,15 @@ pub record Begins (F : Format) (ms : List Meaning) (done : List (F .Required)) (
   pub first : List (F .Word)
   pub rest : List (F .Word)
   pub words : Words F ms (first ++ rest)
-  pub values : GiveAll F done first vs
+  pub values : GiveAll F (F .unseen) done first vs
   pub entries : Entries F rest es
 
--- n is the first number that a line draws in place of the required line f: 1, then by its word
-abbrev pub WrongLine : (F : Format) → F .Required → Meaning → ℕ → Type 0
-WrongLine F f invalid n = n ≡ not-utf8
-WrongLine F f blank n = ⊥
-WrongLine F f comment n = ⊥
-WrongLine F f (content m t) n = F .Wrong f (F .word m t) n
+-- n is the first number that a line draws in place of the required line f, after what was seen: 1, then by its word
+abbrev pub WrongLine : (F : Format) → F .Required → F .Seen → Meaning → ℕ → Type 0
+WrongLine F f s invalid n = n ≡ not-utf8
+WrongLine F f s blank n = ⊥
+WrongLine F f s comment n = ⊥
+WrongLine F f s (content m t) n = F .Wrong f s (F .word m t) n
 
 -- the same of a line after entries es, where there is room for so many: 1, by its word, 12
 abbrev pub WrongEntry : (F : Format) → ℕ → List (F .Entry) → Meaning → ℕ → Type 0
@@ -79,7 +87,7 @@ pub data Fault (F : Format) (End : Values F (F .required) → List (F .Entry) �
   -- a required line, or what stands in its place
   at-required : (before : List Meaning) (line : Meaning) (after : List Meaning) → ms ≡ before ++ line ∷ after → d ≡ length before + 1 →
       (done : List (F .Required)) (f : F .Required) (more : List (F .Required)) → F .required ≡ done ++ f ∷ more → (vs : Values F done) → Begins F before done vs [] →
-      WrongLine F f line n → Fault F End room ms n d
+      WrongLine F f (seenFrom F (F .unseen) done vs) line n → Fault F End room ms n d
   -- a line after the required ones
   at-entry : (before : List Meaning) (line : Meaning) (after : List Meaning) → ms ≡ before ++ line ∷ after → d ≡ length before + 1 →
       (vs : Values F (F .required)) (es : List (F .Entry)) → Begins F before (F .required) vs es → length es ≤ room → WrongEntry F room es line n → Fault F End room ms n d

@@ -32,7 +32,7 @@ use Rattle.scl_read.proofs.Ends.{given-is, lines-sorted, end-gives, sor
 use Rattle.scl_read.proofs.Stands.{reads, blankHead, finishOn, same-walk}
 
 -- ---- the description is the first line with content
-first-line : (text : List ℕ) (xs : List LineSays) (first rest : List ContentLine) (vs : Values) → Words scale (shownAll text xs) (first ++ rest) → GiveAll scale required first vs →
+first-line : (text : List ℕ) (xs : List LineSays) (first rest : List ContentLine) (vs : Values) → Words scale (shownAll text xs) (first ++ rest) → GiveAll scale tt required first vs →
     part text (firstContent xs .start) (firstContent xs .end) ≡ descriptionOf vs
 first-line text xs [] rest vs w g = absurd g
 first-line text [] (l ∷ first) rest vs w g = absurd w
@@ -90,14 +90,14 @@ module _ (places : ℕ) (s : List ℕ) where
   }
 
   pub checked : (n : ℕ) → checkOf places s ≡ gives n → InLanguage n
-  checked n e = good-text n (accepts-good scale reads finishOn places blankHead (saidIn s) n .0 (sym (same-walk places (saidIn s)) ∙ e))
+  checked n e = good-text n (accepts-good scale reads finishOn places blankHead refl (saidIn s) n .0 (sym (same-walk places (saidIn s)) ∙ e))
 
   pub checks : {d : List ℕ} {items : List Item} {list : List Entry} → ScaleText s d items list → length items ≤ places → checkOf places s ≡ gives (length items)
-  checks {items = items} t f = same-walk places (saidIn s) ∙ accepts-good scale reads finishOn places blankHead (saidIn s) (length items) .1 (text-good t f)
+  checks {items = items} t f = same-walk places (saidIn s) ∙ accepts-good scale reads finishOn places blankHead refl (saidIn s) (length items) .1 (text-good t f)
 
   refusal-is : (ms : List Meaning) (n d : ℕ) → (walkOn scale reads finishOn places 1 (atStart scale reads blankHead) ms ≡ refuses n d) ↔ listing.Fault scale WrongEnd places ms n d
   refusal-is =
-      walks.refuses-fault scale reads finishOn places blankHead WrongEnd
+      walks.refuses-fault scale reads finishOn places blankHead refl WrongEnd
       (λ ms vs es b f n d e. end-wrong b (headFrom scale reads required blankHead vs) refl n d e)
       (λ ms vs es b f n w. wrong-end b (headFrom scale reads required blankHead vs) refl n w)
 

@@ -56,7 +56,7 @@ which (suc (suc (suc k))) a b = absurd (omega (arith, b))
 pub fault-listed : {s : List ℕ} {n d room : ℕ} → FaultText s n d room → MayRefuse s room n d
 fault-listed (FaultText.no-place e p) = MayRefuse.no-place e p refl
 fault-listed {s} {n} {d} (FaultText.at-lines places says t f) =
-    go (drawn-at scale WrongEnd Line Last (inl refl) full wrong-line (λ w k. bad-line (w .token) k) wrong-end f)
+    go (drawn-at scale WrongEnd Line Last (inl refl) full (λ f s. wrong-line f) (λ w k. bad-line (w .token) k) wrong-end f)
   where
     go : DrawnAt scale WrongEnd Line Last (length says) n d → MayRefuse s (suc places) n d
     go (DrawnAt.at-line l a b) = MayRefuse.at-line l (t .parts) (t .lines) a (omega (arith, b, each-one strict (t .parts) says (t .each)))

@@ -85,12 +85,14 @@ abbrev pub reads : Reads scale
 reads = record {
   Head = Head;
   put = withField;
-  readAs = readAs;
+  seen = λ h. tt;
+  seen-put = λ f h v. refl;
+  readAs = λ f h. readAs f;
   entryAs = λ k l. itemSaid k (itemIn (l .token));
-  read-gives = read-gives;
-  gives-read = gives-read;
-  read-wrong = read-wrong;
-  wrong-read = wrong-read;
+  read-gives = λ f h. read-gives f;
+  gives-read = λ f h. gives-read f;
+  read-wrong = λ f h. read-wrong f;
+  wrong-read = λ f h. wrong-read f;
   entry-is = λ k l i q. is-item (l .token) i (at-is k (itemIn (l .token)) i q);
   is-entry = λ k l i x. ap (itemSaid k) (item-is (l .token) i x);
   entry-bad = λ k l n d q. let r = at-not k (itemIn (l .token)) n d q in (r .0, is-no-item (l .token) n (r .1));

@@ -19,7 +19,7 @@ use Rattle.integers.specs.IntegerText.{IntText}
 use Rattle.kbm.specs.Table.{AreI16, isTable, tableOf}
 use Rattle.kbm.specs.declared.Entry.{Entry}
 use Rattle.kbm.specs.declared.Kbm.{Kbm}
-use Rattle.kbm_read.specs.Language.{required, Values, GiveAll, EntryText, Entries, Tokens, mappingFrom, added, MappingText}
+use Rattle.kbm_read.specs.Language.{required, unseen, Values, GiveAll, EntryText, Entries, Tokens, mappingFrom, added, MappingText}
 use Rattle.kbm_read.specs.Reader.{readOf, afterRead}
 use Rattle.kbm_read.proofs.Ends.{length-added}
 use Rattle.kbm_read.proofs.Language.{in-language}
@@ -128,7 +128,7 @@ module _ {s : List ℕ} {m : P.Mapping} (p : P.PublishedText s m) where
   within-taken : WithinLimits p → MappingText s (mappingFrom said) (added (m .size) (m .given))
   within-taken w =
       let r = lines-say (p .keeps) (w .utf8) (seven p ++ written-degrees p .tokens) (all-held p) in
-      let given : GiveAll required (seven p) said = (
+      let given : GiveAll unseen required (seven p) said = (
         whole-size (w .size) (w .unsigned) (p .size .value),
         (
           whole-integer (2 ^ 31) 2147483647 refl (w .first) (p .first .value),

@@ -12,10 +12,11 @@ use Rattle.base.specs.Said.{gives}
 use Rattle.kbm.specs.Table.{isTable, tableOf}
 use Rattle.kbm.specs.declared.Entry.{Entry}
 use Rattle.kbm.specs.declared.Kbm.{Kbm}
-use Rattle.kbm_read.specs.Language.{Required, required, Values, GiveAll, Entries, sizeOf, mappingFrom, blanks, added, MappingText}
+use Rattle.kbm_read.specs.Language.{required, unseen, mapping, Values, GiveAll, Entries, sizeOf, mappingFrom, blanks, added, MappingText}
 use Rattle.kbm_read.specs.Reader.{readOf, entriesIn, afterRead}
 use Rattle.kbm_read.proofs.Language.{accepted}
 use Rattle.kbm_read.proofs.Tables.{leaves-table}
+use Rattle.listing.proofs.Given.{values-length}
 use Rattle.kbm_write.specs.Again.{ComesBack}
 use Rattle.kbm_write.specs.Export.{exportText}
 use Rattle.kbm_write.specs.Published as P
@@ -32,13 +33,6 @@ use Rattle.promises.proofs.kbm.Values.{whole-agrees, hertz-agrees, whol
 
 pub same-number : {l : List ℕ} {z w : ℤ} {sign : Bool} {top : ℕ} (x : P.Number l z) → IntText sign top (x .token) w → z ≡ w
 same-number {z = z} {w = w} {sign = sign} {top = top} x i = whole-agrees sign top (x .token) z w (x .value) i
-
--- the required lines have a token each
-give-length : (fs : List Required) (ts : List (List ℕ)) (vs : Values fs) → GiveAll fs ts vs → length ts ≡ length fs
-give-length [] [] vs g = refl
-give-length [] (t ∷ ts) vs g = absurd g
-give-length (f ∷ fs) [] vs g = absurd g
-give-length (f ∷ fs) (t ∷ ts) vs g = ap suc (give-length fs ts (vs .1) (g .1))
 
 -- as many tokens before the same others
 same-parts : (cs bs xs ys : List (List ℕ)) → length cs ≡ length bs → cs ++ xs ≡ bs ++ ys → (cs ≡ bs) × (xs ≡ ys)
@@ -82,15 +76,15 @@ module _ {s : List ℕ} {m : P.Mapping} (p : P.PublishedText s m) where
   )
 
   -- what document 01 reads there: the seven values give the required lines theirs, and those after them the entries
-  pub read-values : {k : Kbm} {es : List Entry} (a : MappingText s k es) → GiveAll required seven (a .values) × Entries (written-degrees .tokens) (a .given)
+  pub read-values : {k : Kbm} {es : List Entry} (a : MappingText s k es) → GiveAll unseen required seven (a .values) × Entries (written-degrees .tokens) (a .given)
   read-values a =
       let parts : a .text .parts ≡ p .parts = sym (one-lines (a .text .lines)) ∙ one-lines (p .lines) in
       let each = subst (λ (ls : List (List ℕ)). EachLine strict ls (a .says)) parts (a .text .each) in
       let tokens = same-tokens (p .keeps) (a .says) each (a .lines .first ++ a .lines .rest) (seven ++ written-degrees .tokens) (a .lines .words) all-held in
-      let same = same-parts (a .lines .first) seven (a .lines .rest) (written-degrees .tokens) (give-length required (a .lines .first) (a .values) (a .lines .values)) tokens in
-      (subst (λ (l : List (List ℕ)). GiveAll required l (a .values)) (same .0) (a .lines .values), subst (λ (l : List (List ℕ)). Entries l (a .given)) (same .1) (a .lines .entries))
+      let same = same-parts (a .lines .first) seven (a .lines .rest) (written-degrees .tokens) (values-length mapping unseen required (a .lines .first) (a .values) (a .lines .values)) tokens in
+      (subst (λ (l : List (List ℕ)). GiveAll unseen required l (a .values)) (same .0) (a .lines .values), subst (λ (l : List (List ℕ)). Entries l (a .given)) (same .1) (a .lines .entries))
 
-  by-values : (vs : Values required) (es : List Entry) → GiveAll required seven vs → Entries (written-degrees .tokens) es → Agree m (mappingFrom vs) (added (sizeOf vs) es)
+  by-values : (vs : Values required) (es : List Entry) → GiveAll unseen required seven vs → Entries (written-degrees .tokens) es → Agree m (mappingFrom vs) (added (sizeOf vs) es)
   by-values (n, (lowest, (highest, (mid, (ref, (hz, (formal, o))))))) es g i =
       let size : pos (m .size) ≡ pos n = same-number (p .size) (g .0) in
       let count : m .size ≡ n = cc in

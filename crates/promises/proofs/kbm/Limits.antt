@@ -13,7 +13,7 @@ use Rattle.integers.specs.IntegerText.{IntText}
 use Rattle.kbm.specs.Table.{AreI16}
 use Rattle.kbm.specs.declared.Entry.{Entry}
 use Rattle.kbm.specs.declared.Kbm.{Kbm}
-use Rattle.kbm_read.specs.Language.{required, Values, GiveAll, Tokens, MappingText}
+use Rattle.kbm_read.specs.Language.{required, unseen, Values, GiveAll, Tokens, MappingText}
 use Rattle.integers.proofs.AtLine.{typed-int}
 use Rattle.kbm_read.proofs.Tables.{typed-all}
 use Rattle.kbm_write.specs.Published as P
@@ -56,7 +56,7 @@ at-most a b f = elim (split b a) [
 ]
 
 module _ {s : List ℕ} {m : P.Mapping} (p : P.PublishedText s m) where
-  by-values : (vs : Values required) → GiveAll required (seven p) vs → AllUtf8 (p .parts) → AreI16 (m .given) → WithinLimits p
+  by-values : (vs : Values required) → GiveAll unseen required (seven p) vs → AllUtf8 (p .parts) → AreI16 (m .given) → WithinLimits p
   by-values (n, (lowest, (highest, (mid, (ref, (hz, (formal, o))))))) g u d =
       let x = p .frequency .value in
       let dec : DecimalText (p .frequency .token) hz = g .1 .1 .1 .1 .1 .0 .0 in

@@ -24,7 +24,7 @@ use Rattle.kbm.specs.Keys.{Lacks}
 use Rattle.kbm.specs.Table.{entriesOf}
 use Rattle.kbm.specs.declared.Entry.{Entry}
 use Rattle.kbm.specs.declared.Entry.the-variants.{Mapped, Unmapped}
-use Rattle.kbm_read.specs.Language.{Required, required, Values, GiveAll, EntryText, Entries, Tokens, sizeOf, mappingFrom, blanks, added, MappingText}
+use Rattle.kbm_read.specs.Language.{Required, required, unseen, Values, GiveAll, EntryText, Entries, Tokens, sizeOf, mappingFrom, blanks, added, MappingText}
 use Rattle.kbm_read.specs.Reader.{afterRead}
 use Rattle.kbm_read.proofs.Fields.{readAs, read-gives}
 use Rattle.kbm_read.proofs.Language.{in-language}
@@ -48,7 +48,7 @@ ReadAll [] (t ∷ ts) vs = ⊥
 ReadAll (f ∷ fs) [] vs = ⊥
 ReadAll (f ∷ fs) (t ∷ ts) vs = (readAs f 0 t ≡ gives (vs .0)) × ReadAll fs ts (vs .1)
 
-all-read : (fs : List Required) (ts : List (List ℕ)) (vs : Values fs) → ReadAll fs ts vs → GiveAll fs ts vs
+all-read : (fs : List Required) (ts : List (List ℕ)) (vs : Values fs) → ReadAll fs ts vs → GiveAll unseen fs ts vs
 all-read [] [] vs r = tt
 all-read [] (t ∷ ts) vs r = absurd r
 all-read (f ∷ fs) [] vs r = absurd r

@@ -169,7 +169,7 @@ module _ {s : List ℕ} {m : P.Scale} (p : P.PublishedText s m) (b : Trimmed Whi
   pub agree : Agree m d is
   agree = go (a .lines .first) (a .lines .rest) words-read (a .lines .values) (a .lines .entries)
     where
-      go : (first rest : List ContentLine) → AllSay (m .description ∷ p .count ∷ p .rest) (first ++ rest) → GiveAll scale required first (a .values) → Entries scale rest is → Agree m d is
+      go : (first rest : List ContentLine) → AllSay (m .description ∷ p .count ∷ p .rest) (first ++ rest) → GiveAll scale tt required first (a .values) → Entries scale rest is → Agree m d is
       go [] rest w g e = absurd g
       go (x ∷ []) rest w g e = absurd (g .1)
       go (x ∷ y ∷ []) rest w g e =

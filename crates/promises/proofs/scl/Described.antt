@@ -77,7 +77,7 @@ left-trimmed l m t = record { before = []; after = []; white-before = tt; white-
 pub text-line : {s d : List ℕ} {is : List Item} {list : List Entry} → ScaleText s d is list → (l t : List ℕ) × NoLF l × Part l (content d t)
 text-line {s} {d} t = go (t .lines .first) (t .lines .rest) (t .lines .words) (t .lines .values)
   where
-    go : (first rest : List ContentLine) → Words scale (t .says) (first ++ rest) → GiveAll scale required first (t .values) → (l k : List ℕ) × NoLF l × Part l (content d k)
+    go : (first rest : List ContentLine) → Words scale (t .says) (first ++ rest) → GiveAll scale tt required first (t .values) → (l k : List ℕ) × NoLF l × Part l (content d k)
     go [] rest w g = absurd g
     go (v ∷ first) rest w g =
         let (l, n, r) = first-content (t .text .parts) (t .says) v (first ++ rest) (t .text .each) (lines-free (t .text .lines)) w in

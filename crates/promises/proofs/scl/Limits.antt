@@ -123,7 +123,7 @@ module _ {s : List ℕ} {m : P.Scale} (p : P.PublishedText s m) where
         parts : a .text .parts ≡ p .parts
         parts = sym (one-lines (a .text .lines)) ∙ one-lines (p .lines)
 
-        go : (first rest : List ContentLine) → AllSay (m .description ∷ p .count ∷ p .rest) (first ++ rest) → GiveAll scale required first (a .values) → Entries scale rest is → WithinLimits p
+        go : (first rest : List ContentLine) → AllSay (m .description ∷ p .count ∷ p .rest) (first ++ rest) → GiveAll scale tt required first (a .values) → Entries scale rest is → WithinLimits p
         go [] rest w v e = absurd v
         go (x ∷ []) rest w v e = absurd (v .1)
         go (x ∷ y ∷ []) rest w v e =

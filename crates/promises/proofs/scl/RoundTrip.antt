@@ -71,7 +71,7 @@ module _ (d : List ℕ) (is : List Item) (list : List Entry) where
       let e : t .says ≡ exportSays d is = sym (one-strict-text s (t .says) (t .text)) ∙ one-strict-text s (exportSays d is) (export-says d is b) in
       go (t .lines .first) (t .lines .rest) (subst (λ (ms : List Meaning). Words scale ms (t .lines .first ++ t .lines .rest)) e (t .lines .words)) (t .lines .values) (t .lines .entries)
     where
-      go : (first rest : List ContentLine) → Words scale (exportSays d is) (first ++ rest) → GiveAll scale required first (t .values) → Entries scale rest is → ItemsBack is
+      go : (first rest : List ContentLine) → Words scale (exportSays d is) (first ++ rest) → GiveAll scale tt required first (t .values) → Entries scale rest is → ItemsBack is
       go [] rest w g x = absurd g
       go (a ∷ []) rest w g x = absurd (g .1)
       go (a ∷ c ∷ []) rest w g x = back-entries is h (subst (λ (ws : List ContentLine). Entries scale ws is) (only-words (itemTexts is) rest (w .1 .1)) x)

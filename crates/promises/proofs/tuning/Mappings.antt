@@ -10,7 +10,7 @@ use Rattle.base.proofs.Integers.{mag-sub}
 use Rattle.integers.specs.IntegerText.{IntText}
 use Rattle.kbm.specs.declared.Entry.{Entry}
 use Rattle.kbm.specs.declared.Kbm.{Kbm}
-use Rattle.kbm_read.specs.Language.{Values, GiveAll, required, mappingFrom, MappingText}
+use Rattle.kbm_read.specs.Language.{Values, GiveAll, required, unseen, mappingFrom, MappingText}
 use Rattle.promises.specs.tuning.Roots.{Usable}
 
 -- a key of 16 bits
@@ -23,7 +23,7 @@ int-small (IntText.minus s (suc n) b p d l e) = rw e (omega (arith, l))
 lowest-far : (z : ℤ) → mag z < 100000 → z ≡ negsuc 2147483647 → ⊥
 lowest-far z m e = let n : mag z ≡ 2147483647 = ap mag e in omega (arith, n, m)
 
-usable-values : (first : List (List ℕ)) (vs : Values required) → GiveAll required first vs → Usable (mappingFrom vs)
+usable-values : (first : List (List ℕ)) (vs : Values required) → GiveAll unseen required first vs → Usable (mappingFrom vs)
 usable-values [] vs g = absurd g
 usable-values (a ∷ []) vs g = absurd (g .1)
 usable-values (a ∷ b ∷ []) vs g = absurd (g .1 .1)
