@@ -110,8 +110,8 @@ int main(int argc, char **argv) {
         return 1;
     if (!read_file(argv[2], &length) || !accepted(argv[2], mapping_lines, telbijan_mapping_read(&mapping, text, length)))
         return 1;
-    int64_t keys = (int64_t)mapping.end - mapping.start;
-    uint32_t shown = keys < 0 ? 0 : keys < MOST ? (uint32_t)keys : MOST;
+    int64_t keys = (int64_t)mapping.end - mapping.start; /* at least one */
+    uint32_t shown = keys < MOST ? (uint32_t)keys : MOST;
     if (!accepted(argv[2], mapping_lines, telbijan_tuning_pitches_of(&scale, &mapping, mapping.start, shown, hz, numbers)))
         return 1;
     printf("key degree Hz cents\n");

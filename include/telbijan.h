@@ -48,6 +48,7 @@ extern "C" {
 #define TELBIJAN_KEY_OUT_OF_RANGE 16 /* the key is outside the range */
 #define TELBIJAN_UNMAPPED_KEY 17 /* the key is unmapped */
 #define TELBIJAN_BEYOND_REACH 18 /* beyond reach: a period of 1.0, 0 divisions, or a computed pitch or ratio outside its range */
+#define TELBIJAN_BACKWARDS_RANGE 25 /* the last key is below the first; the detail is the last key's line, or 0 */
 #define TELBIJAN_NO_FRACTION 29 /* no fraction: the odd limit is 0 */
 
 /* A scale is seven columns, each lent with its length, and `count` beside them. Four columns hold the items, place for place: `kind`,
@@ -66,6 +67,8 @@ extern "C" {
  * place on; keys from `start` up to, not including, `end` (the last key is end - 1); the `reference` key, and its pitch `hz`;
  * `offset`, the middle key minus the reference key; `octave`, how many degrees make a formal octave. An entry is the degree of
  * its key, from -32768 to 32767, or TELBIJAN_UNMAPPED; a table with any other number among its `count` entries is refused (10).
+ * What was read or built has a `start` below its `end` (25 where it would not): one key at least. A call that is given a mapping does
+ * not ask for that: with an `end` not above the `start` no key is in the range (16).
  */
 #define TELBIJAN_UNMAPPED (-2147483647 - 1)
 
@@ -236,13 +239,14 @@ uint64_t telbijan_create_rank2_temperament_scale(double generator, uint16_t posi
 
 /* ---- Keyboard mappings for C: a lent table of entries, and beside it the mapping's numbers. An entry is a degree from -32768 to 32767, or -2147483648 for none. */
 
-/* The degree of a key, stored: 10 for a table that cannot be used, 16 outside start..end (end is outside), 11 where the distance
-   from the reference key passes 32 bits, 17 unmapped, 11 where the degree does. The pitch plays no part: any `hz` will do. */
+/* The degree of a key, stored: 10 for a table that cannot be used, 16 outside start..end (end is outside, and every key where end is
+   not above start), 11 where the distance from the reference key passes 32 bits, 17 unmapped, 11 where the degree does. The pitch plays
+   no part: any `hz` will do. */
 uint64_t telbijan_scale_degree_of(const int32_t *map, size_t map_length, uint16_t count, int32_t start, int32_t end, int32_t reference, double hz, int32_t offset, int16_t octave, int32_t number, int32_t *degree);
 
 /* The text of a mapping, written into the lent bytes; the number of bytes is stored, and bytes behind it keep their values. 10 for
    a table or pitch that cannot be used, 11 where the last or the middle key passes 32 bits, 12 where the text is longer than
-   the bytes. */
+   the bytes. A mapping whose last key is below its first is written as any other; a read refuses that text (25). */
 uint64_t telbijan_export_kbm(const int32_t *map, size_t map_length, uint16_t count, int32_t start, int32_t end, int32_t reference, double hz, int32_t offset, int16_t octave, uint8_t *out, size_t out_length, size_t *written);
 
 /* Whether a mapping's root can be used: 10 for a pitch outside 2^-10..2^20. */
@@ -257,12 +261,13 @@ uint64_t telbijan_push_unmapped_key(int32_t *map, size_t map_length, size_t room
 
 /* The mapping of the entries that were pushed: its count and its formal octave are stored. `given` says whether there is a formal
    octave, `octave`; with none and no entries 0 is stored. 10 for a state, table or pitch that cannot be used, 15 for entries
-   and no formal octave, 13 over 65,535 entries. */
+   and no formal octave, 25 where `end` is not above `start`, so that the last key is below the first, 13 over 65,535 entries. */
 uint64_t telbijan_build_kbm(const int32_t *map, size_t map_length, size_t room, size_t count, int32_t start, int32_t end, int32_t reference, double hz, int32_t offset, bool given, int16_t octave, uint16_t *entries, int16_t *formal);
 
 /* A mapping file, read: its entries go to the first places of the table, the places behind them keep their values, and its numbers
-   are stored. The refusals are 1, 3, 7, 8, 9, 10, 11 and 12 with their line; 2 with which required line is missing (1 size, 2
-   first key, 3 last key, 4 middle key, 5 reference key, 6 pitch, 7 formal octave); 12, 13 and 14 with 0, after the last line. */
+   are stored. The refusals are 1, 3, 7, 8, 9, 10, 11, 12 and 25 with their line; 2 with which required line is missing (1 size, 2
+   first key, 3 last key, 4 middle key, 5 reference key, 6 pitch, 7 formal octave); 12, 13 and 14 with 0, after the last line. 25 is for
+   a last key below the first, at the last key's line, after 3 and 11 there: what is read has at least one key in its range. */
 uint64_t telbijan_read_kbm(const uint8_t *text, size_t text_length, int32_t *map, size_t map_length, uint16_t *count, int32_t *start, int32_t *end, int32_t *reference, double *hz, int32_t *offset, int16_t *octave);
 
 /* ---- Pitches for C: of degrees and keys, over a scale's lent columns, and a root or a mapping beside them. */
@@ -370,6 +375,7 @@ static inline const char *telbijan_reason(uint32_t number) {
     case TELBIJAN_KEY_OUT_OF_RANGE: return "the key is outside the range";
     case TELBIJAN_UNMAPPED_KEY: return "the key is unmapped";
     case TELBIJAN_BEYOND_REACH: return "beyond reach: a period of 1.0, 0 divisions, or a computed pitch or ratio outside its range";
+    case TELBIJAN_BACKWARDS_RANGE: return "the last key is below the first";
     case TELBIJAN_NO_FRACTION: return "no fraction: the odd limit is 0";
     default: return "no number of this library";
     }
@@ -579,7 +585,7 @@ static inline telbijan_refusal telbijan_scale_build(const telbijan_scale_builder
 
 /* ---- Mappings. */
 
-/* A mapping file, read by telbijan_read_kbm. `text` may be NULL where `length` is 0. 1, 2, 3, 7 to 14. */
+/* A mapping file, read by telbijan_read_kbm. `text` may be NULL where `length` is 0. 1, 2, 3, 7 to 14, 25. */
 static inline telbijan_refusal telbijan_mapping_read(telbijan_mapping *mapping, const char *text, size_t length) {
     return telbijan_refusal_of(telbijan_read_kbm(telbijan_bytes(text, length), length, mapping->map, mapping->room, &mapping->count, &mapping->start, &mapping->end,
         &mapping->root.reference, &mapping->root.hz, &mapping->root.offset, &mapping->octave));
@@ -595,7 +601,9 @@ static inline telbijan_refusal telbijan_mapping_degree_of(const telbijan_mapping
     return telbijan_refusal_of(telbijan_scale_degree_of(TELBIJAN_MAPPING(mapping), key, degree));
 }
 
-/* ---- A mapping, built: `mapping` lends the table, and has root and range; its count and octave do not matter. */
+/* ---- A mapping, built: `mapping` lends the table, and has root and range; its count and octave do not matter. A range without a key is
+ * refused by a build (25), not before it. A refused build leaves the builder as it was: set `start` and `end` of the builder's `mapping`,
+ * and build again. */
 
 /* Nothing is pushed yet, and nothing written: 10 for a root whose pitch cannot be used (telbijan_kbm_root). */
 static inline telbijan_refusal telbijan_mapping_begin(telbijan_mapping_builder *builder, telbijan_mapping *mapping) {
@@ -617,7 +625,8 @@ static inline telbijan_refusal telbijan_mapping_push_unmapped(telbijan_mapping_b
     return telbijan_refusal_of(telbijan_push_unmapped_key(builder->mapping.map, builder->mapping.room, builder->mapping.room, builder->count, &builder->count));
 }
 
-/* The mapping of what was pushed, with a formal octave, by telbijan_build_kbm: 10, 13. The other is for a mapping without entries, which needs none. */
+/* The mapping of what was pushed, with a formal octave, by telbijan_build_kbm: 10, 25, 13. The other is for a mapping without entries,
+ * which needs none. */
 static inline telbijan_refusal telbijan_mapping_build(const telbijan_mapping_builder *builder, int16_t octave, telbijan_mapping *mapping) {
     telbijan_mapping built = builder->mapping;
     uint64_t result = telbijan_build_kbm(built.map, built.room, built.room, builder->count, built.start, built.end, TELBIJAN_ROOT(built.root), true, octave, &built.count, &built.octave);
@@ -626,7 +635,7 @@ static inline telbijan_refusal telbijan_mapping_build(const telbijan_mapping_bui
     return telbijan_refusal_of(result);
 }
 
-/* Without a formal octave, by the same call: 10, 15 where an entry was pushed. */
+/* Without a formal octave, by the same call: 10, 15 where an entry was pushed, 25. */
 static inline telbijan_refusal telbijan_mapping_build_linear(const telbijan_mapping_builder *builder, telbijan_mapping *mapping) {
     telbijan_mapping built = builder->mapping;
     uint64_t result = telbijan_build_kbm(built.map, built.room, built.room, builder->count, built.start, built.end, TELBIJAN_ROOT(built.root), false, 0, &built.count, &built.octave);

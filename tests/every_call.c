@@ -8,16 +8,27 @@
 static const char SCALE[] = "! steps\nbright\n4\n5/3\n150.5\n7\n1203.25";
 static const char FRACTION[] = "! steps\nbright\n4\n5/3\n150.5\n7\n13/6";
 static const char MAPPING[] = "! keys\n4\n5\n90\n61\n67\n300.5\n7\n1\nx\n3\n6";
+/* The mapping with first and last key swapped, with one key alone, and swapped with no line behind them. */
+static const char SWAPPED[] = "! keys\n4\n90\n5\n61\n67\n300.5\n7\n1\nx\n3\n6";
+static const char ONE_KEY[] = "! keys\n4\n90\n90\n61\n67\n300.5\n7\n1\nx\n3\n6";
+static const char CUT_SHORT[] = "4\n! keys\n90\n\n89";
+/* Swapped behind 20 lines that say nothing, and with 300 more between the keys; and the largest number as both keys. */
+#define TEN "!\n! 7\n!\n\n!\n!\n\t\n!\n!\r\n!\n"
+#define HUNDRED TEN TEN TEN TEN TEN TEN TEN TEN TEN TEN
+static const char DOWN[] = TEN TEN "4\n90\n5\n61\n67\n300.5\n7\n1\nx\n3\n6";
+static const char FAR_DOWN[] = TEN TEN "4\n90\n" HUNDRED HUNDRED HUNDRED "5\n61\n67\n300.5\n7\n1\nx\n3\n6";
+static const char LARGEST[] = "4\n2147483647\n2147483647\n61\n67\n300.5\n7\n1\nx\n3\n6";
 
 static void read_scale(size_t room) {
     blank(room, PLACES);
     ALIKE(telbijan_scale_read(&ours.scale, SCALE, strlen(SCALE), &ours.out.span), telbijan_read_scl(BYTES(SCALE), COLUMNS(theirs), &theirs.scale.count, &theirs.out.span.start, &theirs.out.span.end));
 }
 
-static void read_mapping(size_t table) {
+static void read_mapping(const char *text, size_t table) {
     blank(PLACES, table);
-    ALIKE(telbijan_mapping_read(&ours.mapping, MAPPING, strlen(MAPPING)), telbijan_read_kbm(BYTES(MAPPING), theirs.m.map, theirs.mapping.room, &theirs.mapping.count, &theirs.mapping.start, &theirs.mapping.end,
-        &theirs.mapping.root.reference, &theirs.mapping.root.hz, &theirs.mapping.root.offset, &theirs.mapping.octave));
+    ALIKE(telbijan_mapping_read(&ours.mapping, text, strlen(text)),
+        telbijan_read_kbm(BYTES(text), theirs.m.map, theirs.mapping.room, &theirs.mapping.count, &theirs.mapping.start, &theirs.mapping.end,
+            &theirs.mapping.root.reference, &theirs.mapping.root.hz, &theirs.mapping.root.offset, &theirs.mapping.octave));
 }
 
 /* Worlds in which a scale and the mapping were read, and which then have rooms of these sizes. */
@@ -41,10 +52,14 @@ static void readers(void) {
     SAME(seen.m.kind[1], TELBIJAN_FRACTION), SAME(seen.m.kind[2], TELBIJAN_CENTS), SAME(seen.m.kind[3], TELBIJAN_WHOLE), SAME(seen.m.kind[5], 0x5a);
     SAME(seen.m.numer[1], 5), SAME(seen.m.denom[1], 3), SAME(seen.m.cents[2], 150.5), SAME(seen.m.numer[3], 7), SAME(seen.m.cents[4], 1203.25), SAME(seen.m.place[1], 2), SAME(seen.m.wraps[3], 2);
     read_scale(4), SAID(12, 7);
-    read_mapping(4), SAID(0, 0), SAME(seen.mapping.count, 4), SAME(seen.mapping.start, 5), SAME(seen.mapping.end, 91), SAME(seen.mapping.octave, 7);
+    read_mapping(MAPPING, 4), SAID(0, 0), SAME(seen.mapping.count, 4), SAME(seen.mapping.octave, 7);
+    SAME(seen.mapping.start, 5), SAME(seen.mapping.end, 91);
     SAME(seen.mapping.root.reference, 67), SAME(seen.mapping.root.hz, 300.5), SAME(seen.mapping.root.offset, -6);
     SAME(seen.m.map[0], 1), SAME(seen.m.map[1], TELBIJAN_UNMAPPED), SAME(seen.m.map[3], 6), SAME(seen.m.map[4], 0x5a5a5a5a);
-    read_mapping(3), SAID(12, 12);
+    read_mapping(MAPPING, 3), SAID(12, 12);
+    read_mapping(SWAPPED, 4), SAID(25, 4), read_mapping(SWAPPED, 3), SAID(25, 4), read_mapping(CUT_SHORT, 0), SAID(25, 5);
+    read_mapping(DOWN, 4), SAID(25, 23), read_mapping(FAR_DOWN, 4), SAID(25, 323), read_mapping(LARGEST, 4), SAID(11, 3);
+    read_mapping(ONE_KEY, 4), SAID(0, 0), SAME(seen.mapping.start, 90), SAME(seen.mapping.end, 91);
 }
 
 static void harmonics(bool otonal, size_t room) {
@@ -180,8 +195,30 @@ static void build_linear(void) {
     ALIKE(telbijan_mapping_build_linear(&ours.entries, &ours.made), telbijan_build_kbm(ENTRIES(theirs.entries), false, 0, &theirs.made.count, &theirs.made.octave));
 }
 
+static int32_t large[65536];
+
+/* A builder of two entries and this range. */
+static void begin_range(int32_t start, int32_t end) {
+    filled(SCALE, 5, 4), begin_mapping(), push_entry(true), push_entry(false);
+    BOTH(entries.mapping.start, start), BOTH(entries.mapping.end, end);
+}
+
+/* A last key below the first: 10 and 15 come before that, 13 after it. A refused build leaves all as it was, and another range mends it;
+ * the widest of all is built. */
+static void backwards_builders(void) {
+    begin_range(91, 5), build_mapping(), SAID(25, 0), build_linear(), SAID(15, 0);
+    BOTH(entries.mapping.end, 92), build_mapping(), SAID(0, 0);
+    SAME(seen.made.count, 2), SAME(seen.made.start, 91), SAME(seen.made.end, 92), SAME(seen.made.octave, 11);
+    begin_range(INT32_MIN, INT32_MAX), build_mapping(), SAID(0, 0);
+    SAME(seen.made.count, 2), SAME(seen.made.start, INT32_MIN), SAME(seen.made.end, INT32_MAX), SAME(seen.made.octave, 11);
+    begin_range(91, 91), build_mapping(), SAID(25, 0), begin_range(91, INT32_MIN), build_mapping(), SAID(25, 0);
+    BOTH(entries.count, 5), build_mapping(), SAID(10, 0), build_linear(), SAID(10, 0);
+    BOTH(entries.count, 0), build_mapping(), SAID(25, 0), build_linear(), SAID(25, 0);
+    BOTH(entries.mapping.map, large), BOTH(entries.mapping.room, 65536), BOTH(entries.count, 65536);
+    build_mapping(), SAID(25, 0), build_linear(), SAID(15, 0), BOTH(entries.mapping.end, 92), build_mapping(), SAID(13, 0);
+}
+
 static void mapping_builders(void) {
-    static int32_t large[65536];
     int last, j;
     filled(SCALE, 5, 4), begin_mapping(), SAID(0, 0), build_linear(), SAID(0, 0), SAME(seen.made.count, 0), SAME(seen.made.octave, 0), SAME(seen.made.root.hz, 300.5);
     for (last = 0; last < 2; last++) {
@@ -227,12 +264,21 @@ static void searches(uint32_t number) {
     searches_by_pitch(number);
 }
 
+static void degree_of(int32_t key) {
+    ALIKE(telbijan_mapping_degree_of(&ours.mapping, key, &ours.out.degree),
+        telbijan_scale_degree_of(KEYS(theirs), key, &theirs.out.degree));
+}
+
+static void pitch_of(int32_t key) {
+    ALIKE(telbijan_tuning_maybe_pitch_of(&ours.scale, &ours.mapping, key, &ours.out.x),
+        telbijan_maybe_pitch_of(ITEMS(theirs), theirs.scale.count, KEYS(theirs), key, &theirs.out.x));
+}
+
 /* Every key from the one before the first to the one after the last. */
 static void keys(void) {
     int32_t key;
     for (key = 4; key <= 91; key++) {
-        ALIKE(telbijan_mapping_degree_of(&ours.mapping, key, &ours.out.degree), telbijan_scale_degree_of(KEYS(theirs), key, &theirs.out.degree));
-        ALIKE(telbijan_tuning_maybe_pitch_of(&ours.scale, &ours.mapping, key, &ours.out.x), telbijan_maybe_pitch_of(ITEMS(theirs), theirs.scale.count, KEYS(theirs), key, &theirs.out.x));
+        degree_of(key), pitch_of(key);
         ALIKE(telbijan_tuning_maybe_pitch_of_degree(&ours.scale, &ours.mapping, key - 67, &ours.out.x), telbijan_maybe_pitch_of_degree(ITEMS(theirs), theirs.scale.count, KEYS(theirs), key - 67, &theirs.out.x));
     }
 }
@@ -255,6 +301,19 @@ static void ends_of_runs(void) {
     filled(SCALE, 5, 4);
     run_of_keys(4, 0), SAME(seen.out.numbers[0], 16u), SAME(seen.out.numbers[1], 0u), SAME(seen.out.numbers[4], 17u), SAME(seen.out.numbers[9], 0x5a5a5a5au), SAME(seen.out.hz[0], seen.out.hz[9]);
     run_of_keys(83, 0), SAME(seen.out.numbers[7], 0u), SAME(seen.out.numbers[8], 16u);
+}
+
+/* A mapping lent with its last key below its first: no key is in its range. It is written as any other, and no read takes that text. */
+static void backwards(void) {
+    const char *text = "4\n91\n4\n61\n67\n300.500\n7\n1\nx\n3\n6\n";
+    int32_t key;
+    filled(SCALE, 5, 4), BOTH(mapping.start, 91), BOTH(mapping.end, 5);
+    for (key = 4; key <= 91; key++)
+        degree_of(key), SAID(16, 0), pitch_of(key), SAID(16, 0);
+    run_of_keys(4, 0), SAME(seen.out.numbers[0], 16u), SAME(seen.out.numbers[1], 16u);
+    run_of_keys(83, 0), SAME(seen.out.numbers[7], 16u), SAME(seen.out.numbers[8], 16u);
+    export_mapping(strlen(text)), SAID(0, 0), SAME(seen.out.written, strlen(text)), SAME(memcmp(seen.out.text, text, strlen(text)), 0);
+    read_mapping(text, 4), SAID(25, 3);
 }
 
 /* A count that is no count of the columns, and a pitch that is none. */
@@ -305,6 +364,7 @@ static const struct named {
     {TELBIJAN_KEY_OUT_OF_RANGE, 16, "the key is outside the range"},
     {TELBIJAN_UNMAPPED_KEY, 17, "the key is unmapped"},
     {TELBIJAN_BEYOND_REACH, 18, "beyond reach: a period of 1.0, 0 divisions, or a computed pitch or ratio outside its range"},
+    {TELBIJAN_BACKWARDS_RANGE, 25, "the last key is below the first"},
     {TELBIJAN_NO_FRACTION, 29, "no fraction: the odd limit is 0"},
 };
 
@@ -334,12 +394,14 @@ int main(void) {
     no_bytes();
     scale_builders();
     mapping_builders();
+    backwards_builders();
     lookups(SCALE, 5, 4, 0, 0);
     lookups(FRACTION, 5, 4, 0, 0);
     lookups(SCALE, PLACES, PLACES, 0, 0);
     lookups(SCALE, 4, 4, 10, 10);
     lookups(SCALE, 5, 3, 0, 10);
     ends_of_runs();
+    backwards();
     unusable();
     constants();
     numbers();

@@ -31,6 +31,7 @@ static void blank(void) {
 
 static const char SCALE[] = "! steps\nbright\n4\n12/7\n150.5\n7\n1203.25";
 static const char MAPPING[] = "! keys\n3\n5\n90\n61\n67\n300.5\n9\n1\nx\n6";
+static const char SWAPPED[] = "! keys\n2\n90\n4\n63\n68\n301.5\n10\nx\n2\n";
 
 /* ---- Numbers. */
 
@@ -126,6 +127,11 @@ static void read_mapping(void) {
         SAME(k, 67), NEAR(x, 300.5), SAME(l, -6), SAME(o, 9);
 }
 
+static void read_swapped(void) {
+    SAME(telbijan_read_kbm(TEXT_OF(SWAPPED), map, 16, &m, &i, &j, &k, &x, &l, &o), 25 + 256 * 4), SAME(m, 3), SAME(i, 5), SAME(j, 91),
+        SAME(k, 67), NEAR(x, 300.5), SAME(l, -6), SAME(o, 9), SAME(map[0], 1), SAME(map[1], TELBIJAN_UNMAPPED);
+}
+
 static void mappings(void) {
     static const char text[] = "3\n5\n90\n61\n67\n300.500\n9\n1\nx\n6\n";
     blank(), read_mapping();
@@ -137,6 +143,14 @@ static void mappings(void) {
     SAME(telbijan_push_mapped_key(map, 16, 16, 3, -8, &s), 0), SAME(s, 4u), SAME(map[3], -8);
     SAME(telbijan_push_unmapped_key(map, 16, 16, 4, &s), 0), SAME(s, 5u), SAME(map[4], TELBIJAN_UNMAPPED);
     SAME(telbijan_build_kbm(map, 16, 16, 5, RANGE, ROOT, true, 9, &m, &o), 0), SAME(m, 5), SAME(o, 9);
+}
+
+/* The last key below the first: refused in a text at its line, in a build with no line. One key is enough. */
+static void backwards(void) {
+    blank(), read_mapping(), read_swapped();
+    SAME(telbijan_build_kbm(map, 16, 16, 3, 60, 61, ROOT, true, 9, &m, &o), 0), SAME(m, 3), SAME(o, 9);
+    SAME(telbijan_build_kbm(map, 16, 16, 2, 60, 5, ROOT, true, 10, &m, &o), 25), SAME(m, 3), SAME(o, 9);
+    SAME(telbijan_build_kbm(map, 16, 16, 0, 60, 60, ROOT, false, 10, &m, &o), 25), SAME(m, 3), SAME(o, 9);
 }
 
 /* ---- Pitches and searches. */
@@ -175,6 +189,7 @@ int main(void) {
     scale_builder();
     generators();
     mappings();
+    backwards();
     pitches();
     searches();
     return faults != 0;

@@ -38,8 +38,9 @@ typedef struct world {
     telbijan_mapping_builder entries;
 } world;
 
-/* Calls on structs have `ours`, flat calls `theirs`; `kept` is ours before the call, `seen` ours after it, and `said` what it answered. */
-static world ours, theirs, kept, seen;
+/* Calls on structs have `ours`, flat calls `theirs`; `kept` is ours before the call and `lent` theirs, `seen` is ours after it, and `said`
+ * what it answered. */
+static world ours, theirs, kept, lent, seen;
 static telbijan_refusal said;
 
 /* Both worlds are given the same number. */
@@ -79,7 +80,7 @@ static bool same_worlds(void) {
 static void alike(telbijan_refusal answer, uint64_t result, const char *what, int line) {
     check(answer.number == (result & 0xff) && answer.detail == result >> 8, what, line);
     if (result != 0)
-        check(memcmp(&ours, &kept, sizeof ours) == 0, "a refusal leaves all as it was", line);
+        check(memcmp(&ours, &kept, sizeof ours) == 0 && memcmp(&theirs, &lent, sizeof theirs) == 0, "a refusal leaves all as it was", line);
     else
         check(same_worlds(), "the same values and memory", line);
     said = answer;
@@ -88,7 +89,7 @@ static void alike(telbijan_refusal answer, uint64_t result, const char *what, in
     keep();
 }
 
-#define ALIKE(answer, result) alike((answer), (result), #answer, __LINE__)
+#define ALIKE(answer, result) (memcpy(&lent, &theirs, sizeof theirs), alike((answer), (result), #answer, __LINE__))
 #define SAID(n, d) (check(said.number == (n), "the number is " #n, __LINE__), check(said.detail == (d), "the detail is " #d, __LINE__))
 
 static void lend(world *w, size_t room, size_t table) {

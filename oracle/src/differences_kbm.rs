@@ -182,6 +182,95 @@ fn tables() -> Vec<Row> {
     ]
 }
 
+/// A file with these keys: first, last, middle.
+fn keys(first: &str, last: &str, middle: &str) -> Vec<u8> {
+    format!("0\n{first}\n{last}\n{middle}\n69\n440.0\n0\n").into_bytes()
+}
+
+/// Its last key is below its first; the same, and a later line is at fault; the same at the largest keys; and one key.
+fn swapped() -> Vec<u8> {
+    keys("60", "59", "60")
+}
+
+fn swapped_above_fault() -> Vec<u8> {
+    keys("60", "59", "x")
+}
+
+fn swapped_largest() -> Vec<u8> {
+    keys("2147483647", "2147483646", "60")
+}
+
+fn one_key() -> Vec<u8> {
+    keys("60", "60", "60")
+}
+
+fn on_one_line(text: &str) -> String {
+    text.lines().collect::<Vec<_>>().join(" ")
+}
+
+fn export_text(m: Mapping, map: &[i32]) -> String {
+    on_one_line(&rust_kbm::of(m, map).export().to_string())
+}
+
+fn our_export_text(m: Mapping, map: &[i32]) -> String {
+    let mut out = [0; 99];
+    match ffi_kbm::export_kbm(m, map, &mut out) {
+        (Code::ACCEPTED, size) => on_one_line(&String::from_utf8_lossy(&out[..size])),
+        (code, _) => refused(code),
+    }
+}
+
+/// What is built of so many unmapped entries, with a formal octave or with none.
+fn built(m: Mapping, entries: usize, octave: Option<i16>) -> String {
+    let mut builder = rust_kbm::pushes(m, vec![None; entries]);
+    if let Some(octave) = octave {
+        builder = builder.formal_octave(octave);
+    }
+    builder.build().map_or_else(|error| format!("{error:?}"), |_| "built".to_string())
+}
+
+fn our_built(m: Mapping, entries: usize, octave: Option<i16>) -> String {
+    let code = ffi_kbm::build_kbm(&vec![UNMAPPED; entries], entries, entries, m, octave).0;
+    if code == Code::ACCEPTED { "built".to_string() } else { refused(code) }
+}
+
+const EMPTY: Mapping = Mapping { start: 60, end: 60, ..FREE };
+const BELOW: Mapping = Mapping { start: 61, end: 60, ..FREE };
+
+fn backwards_files() -> Vec<Row> {
+    const NAME: &str = "mapping";
+    const EXPORT: &str = "0 60 59 60 69 440.000 0";
+    const AT_3: &str = "25 at line 3";
+    const LARGEST: &str = "size 0, first key 2147483647, last key 2147483646";
+    const FAULT: &str = "its error for 3 at line 4";
+    vec![
+        row(NAME, "size 0, first key 60, last key 59", || theirs(swapped(), read), "read", || ours(swapped(), 0, read), AT_3),
+        row(NAME, "the same: key 60", || theirs(swapped(), |m, map| degree(m, map, 60)), "None", || ours(swapped(), 0, read), AT_3),
+        row(NAME, "the same: its export", || theirs(swapped(), export_text), EXPORT, || ours(swapped(), 0, read), AT_3),
+        row(NAME, "the same, middle key `x`", || theirs(swapped_above_fault(), read), FAULT, || ours(swapped_above_fault(), 0, read), AT_3),
+        row(NAME, LARGEST, || theirs(swapped_largest(), read), "read", || ours(swapped_largest(), 0, read), AT_3),
+        row(NAME, "size 0, first key 60, last key 60", || theirs(one_key(), read), "read", || ours(one_key(), 0, read), "read"),
+    ]
+}
+
+/// Builds of such ranges, and calls that are lent one by value.
+fn backwards_ranges() -> Vec<Row> {
+    const BUILD: &str = "`KbmBuilder::build`";
+    const MANY: usize = 65_536;
+    const ONE: &str = "start 61, end 60, one entry, formal octave 1";
+    const LARGE: &str = "MappingTooLarge";
+    const MISSING: &str = "FormalOctaveMissing";
+    const EXPORT: &str = "0 61 59 60 60 440.000 5";
+    vec![
+        row(BUILD, "start 60, end 60", || built(EMPTY, 0, None), "built", || our_built(EMPTY, 0, None), "25"),
+        row(BUILD, ONE, || built(BELOW, 1, Some(1)), "built", || our_built(BELOW, 1, Some(1)), "25"),
+        row(BUILD, "the same, 65,536 entries", || built(BELOW, MANY, Some(1)), LARGE, || our_built(BELOW, MANY, Some(1)), "25"),
+        row(BUILD, "the same, one entry, no formal octave", || built(BELOW, 1, None), MISSING, || our_built(BELOW, 1, None), "15"),
+        row("`scale_degree_of`", "start 61, end 60: key 60", || degree(BELOW, &[], 60), "None", || our_degree(BELOW, &[], 60), "16"),
+        row("`Kbm::export`", "start 61, end 60", || export_text(BELOW, &[]), EXPORT, || our_export_text(BELOW, &[]), EXPORT),
+    ]
+}
+
 pub fn mappings() -> Vec<Row> {
-    [numerals(), files(), tables()].into_iter().flatten().collect()
+    [numerals(), files(), tables(), backwards_files(), backwards_ranges()].into_iter().flatten().collect()
 }

@@ -26,10 +26,13 @@ const CALLED: [(&str, &str); 18] = [
 ];
 
 /// Lines of the comparison that are no call of their own: parts of exports, further inputs, and the same calls on a slice of structs.
-const APART: [&str; 10] = [
+const APART: [&str; 13] = [
     "print f64",
     "print i32",
     "print u32",
+    "backwards ranges, read",
+    "backwards ranges, built",
+    "backwards ranges, lent",
     "lent lists, strange",
     "searches, fixed",
     "lent tables, 10",

@@ -11,7 +11,7 @@ use std::io::{Error, Result};
 const MOST: usize = 262_144;
 
 /// Refusals that the rules alone number: there the Rust goes on or panics, and a line that holds one is the rules'.
-const ONLY_RULES: [&str; 4] = ["!9", "!10", "!11", "!12"];
+const ONLY_RULES: [&str; 5] = ["!9", "!10", "!11", "!12", "!25"];
 
 /// A list under way: its questions and their answers, and for each whose answer it is, and which.
 #[derive(Default)]

@@ -1,5 +1,7 @@
 //! Frozen answers on mappings: files, degrees, exports, roots, pushes and builds.
 
+use crate::backwards_builds::State;
+use crate::backwards_cases::{BUILDS, LENT, READS};
 use crate::ffi_kbm::Mapping;
 use crate::freeze::{List, float, hex, refusal};
 use crate::inputs::Random;
@@ -27,50 +29,52 @@ fn optional(number: Option<i16>) -> String {
     number.map_or("0 0".to_string(), |number| format!("1 {number}"))
 }
 
+fn read(list: &mut List, text: &[u8], room: usize) {
+    let said = kbm_read::said(text, room);
+    let after = table(&said.value.1);
+    list.push_with(&format!("read {} {room}", hex(text)), said, |(m, _)| fields(m), &after);
+}
+
 fn reads(list: &mut List) {
-    let one = |list: &mut List, text: &[u8], room: usize| {
-        let said = kbm_read::said(text, room);
-        let after = table(&said.value.1);
-        list.push_with(&format!("read {} {room}", hex(text)), said, |(m, _)| fields(m), &after);
-    };
     // each damaged line of a file, then damaged copies, few of each kind
     let texts = kbm_read::texts();
     let short: Vec<&Vec<u8>> = texts.iter().filter(|t| t.len() <= 60).collect();
     for (k, file) in kbm_read::FILES.iter().enumerate() {
-        one(list, file.as_bytes(), 12 - k % 3);
+        read(list, file.as_bytes(), 12 - k % 3);
     }
     for (k, text) in short.iter().skip(6).step_by(short.len() / 140).enumerate() {
-        one(list, text, [3, 0, 8, 1][k % 4]);
+        read(list, text, [3, 0, 8, 1][k % 4]);
     }
     for line in 0..8 {
         for token in ["2147483647", "1e3", "x", "440.", "-1", "5\u{c}6", "1048577"] {
             let mut changed: Vec<&str> = kbm_read::EXAMPLE.lines().collect();
             changed[line] = token;
-            one(list, changed.join("\n").as_bytes(), 4);
+            read(list, changed.join("\n").as_bytes(), 4);
         }
     }
     // more entries than the size, with room for them
     for size in ["0\n", "1\n"] {
-        one(list, kbm_read::EXAMPLE.replacen("3\n", size, 1).as_bytes(), 4);
+        read(list, kbm_read::EXAMPLE.replacen("3\n", size, 1).as_bytes(), 4);
     }
+}
+
+fn degree(list: &mut List, m: Mapping, map: &[i32], key: i32) {
+    list.push(&format!("degree {key} {} {}", fields(m), table(map)), kbm_use::degree(m, map, key), |degree| degree.to_string());
 }
 
 fn degrees(list: &mut List) {
     let mut random = Random::new(105);
-    let one = |list: &mut List, m: Mapping, map: &[i32], key: i32| {
-        list.push(&format!("degree {key} {} {}", fields(m), table(map)), kbm_use::degree(m, map, key), |degree| degree.to_string());
-    };
     for key in [60, 61, 63, 59, 128, -1, 0, 127] {
-        one(list, SAMPLE, &[0, UNMAPPED, 2], key);
+        degree(list, SAMPLE, &[0, UNMAPPED, 2], key);
     }
     for key in [-65_536, 65_536, 0, -1] {
-        one(list, WIDE, &[-1], key);
+        degree(list, WIDE, &[-1], key);
     }
-    one(list, Mapping { count: 0, reference: -2, ..WIDE }, &[], 2_147_483_646);
+    degree(list, Mapping { count: 0, reference: -2, ..WIDE }, &[], 2_147_483_646);
     for k in 0..50 {
         let (m, entries) = rust_kbm::random(&mut random, k % 7);
         for key in [random.i32(), m.reference.wrapping_add(1), m.start] {
-            one(list, m, &entries, key);
+            degree(list, m, &entries, key);
         }
     }
     for (map, count) in [(vec![0], 2), (vec![40_000], 1), (vec![0, -32_769], 2), (vec![], 1)] {
@@ -79,13 +83,14 @@ fn degrees(list: &mut List) {
     }
 }
 
+fn export(list: &mut List, m: Mapping, map: &[i32], room: usize) {
+    let said = kbm_use::export(m, map, room);
+    let after = hex(&said.value.1);
+    list.push_with(&format!("export {room} {} {}", fields(m), table(map)), said, |(size, _)| size.to_string(), &after);
+}
+
 fn exports(list: &mut List) {
     let mut random = Random::new(106);
-    let one = |list: &mut List, m: Mapping, map: &[i32], room: usize| {
-        let said = kbm_use::export(m, map, room);
-        let after = hex(&said.value.1);
-        list.push_with(&format!("export {room} {} {}", fields(m), table(map)), said, |(size, _)| size.to_string(), &after);
-    };
     for k in 0..36 {
         let (mut m, entries) = rust_kbm::random(&mut random, k % 6);
         m.hz = Float::of([261.6256, 440.0, 1.0625, 1.1875, 2f64.powi(20), 2f64.powi(-10), 0.0005 + k as f64][k % 7]);
@@ -93,14 +98,14 @@ fn exports(list: &mut List) {
             Said { code: Code::ACCEPTED, value: (size, _), .. } => size,
             _ => 20,
         };
-        one(list, m, &entries, [size, size + 2, size - 1][k % 3]);
+        export(list, m, &entries, [size, size + 2, size - 1][k % 3]);
     }
     for map in [[0, 40_000, 2], [0, 1, -32_769]] {
-        one(list, SAMPLE, &map, 99);
+        export(list, SAMPLE, &map, 99);
     }
-    one(list, Mapping { end: i32::MIN, count: 0, ..SAMPLE }, &[], 9);
-    one(list, Mapping { reference: i32::MAX, offset: 1, count: 0, ..SAMPLE }, &[], 9);
-    one(list, Mapping { hz: Float::of(0.0), count: 0, end: i32::MIN, ..SAMPLE }, &[], 9);
+    export(list, Mapping { end: i32::MIN, count: 0, ..SAMPLE }, &[], 9);
+    export(list, Mapping { reference: i32::MAX, offset: 1, count: 0, ..SAMPLE }, &[], 9);
+    export(list, Mapping { hz: Float::of(0.0), count: 0, end: i32::MIN, ..SAMPLE }, &[], 9);
 }
 
 fn pushes(list: &mut List) {
@@ -123,16 +128,22 @@ fn pushes(list: &mut List) {
 }
 
 /// A run: the answer of each push, what is built, and the table.
+fn build(list: &mut List, run: &Run) {
+    let m = run.mapping;
+    let answer = |said: Said<(usize, Vec<i32>)>| if said.code == Code::ACCEPTED { said.value.0.to_string() } else { refusal(said.code) };
+    let degrees: Vec<String> = run.pushes.iter().map(|&degree| format!(" {}", optional(degree))).collect();
+    let answers: Vec<String> = (0..run.pushes.len()).map(|k| answer(kbm_build::push(run, k))).collect();
+    let root = format!("{} {} {}", m.reference, float(m.pitch()), m.offset);
+    let range = format!("{} {} {}", m.start, m.end, optional(run.octave));
+    let call = format!("build {} {root} {range} {}{}", run.room, degrees.len(), degrees.concat());
+    let after = table(&kbm_build::table(run, run.pushes.len().min(run.room)));
+    list.push_after(&call, &answers.join(" "), kbm_build::build(run), |(count, octave)| fields(Mapping { count, octave, ..m }), &after);
+}
+
 fn builds(list: &mut List) {
     let mut random = Random::new(107);
     for k in 0..60 {
-        let run = kbm_build::random_run(&mut random, k % 7);
-        let m = run.mapping;
-        let degrees: Vec<String> = run.pushes.iter().map(|&degree| format!(" {}", optional(degree))).collect();
-        let answers: Vec<String> = (0..run.pushes.len()).map(|k| kbm_build::push(&run, k)).map(|said| if said.code == Code::ACCEPTED { said.value.0.to_string() } else { refusal(said.code) }).collect();
-        let call = format!("build {} {} {} {} {} {} {} {}{}", run.room, m.reference, float(m.pitch()), m.offset, m.start, m.end, optional(run.octave), degrees.len(), degrees.concat());
-        let after = table(&kbm_build::table(&run, run.pushes.len().min(run.room)));
-        list.push_after(&call, &answers.join(" "), kbm_build::build(&run), |(count, octave)| fields(Mapping { count, octave, ..m }), &after);
+        build(list, &kbm_build::random_run(&mut random, k % 7));
     }
 }
 
@@ -154,6 +165,24 @@ fn finishes(list: &mut List) {
     }
 }
 
+/// The program's table has 16 places.
+const PLACES: usize = 16;
+
+/// Backwards ranges: the texts of the list, those of its builds that pushes lead to, and mappings that are lent by value.
+fn backwards(list: &mut List) {
+    for (text, room, _) in READS {
+        read(list, text, room);
+    }
+    for case in BUILDS.into_iter().filter(|case| case.4 <= PLACES && case.5 != Err(10)) {
+        build(list, &State::listed(case).run());
+    }
+    for (start, end, key) in LENT.into_iter().step_by(3) {
+        let m = Mapping { start, end, ..SAMPLE };
+        degree(list, m, &[0, UNMAPPED, 2], key);
+        export(list, m, &[0, UNMAPPED, 2], 60);
+    }
+}
+
 pub fn mappings(list: &mut List) {
     reads(list);
     degrees(list);
@@ -161,4 +190,5 @@ pub fn mappings(list: &mut List) {
     pushes(list);
     builds(list);
     finishes(list);
+    backwards(list);
 }

@@ -147,6 +147,12 @@ fn mappings(list: &mut List) {
         by_key(list, &b, far, &map, &rust_kbm::of(far, &map), key);
     }
     run(list, &b, far, &map, &rust_kbm::of(far, &map), 100_060, 4);
+    // a backwards range that is lent by value has no key
+    for (start, end) in [(60, 60), (61, 60)] {
+        let none = Mapping { start, end, ..usual };
+        by_key(list, &b, none, &map, &rust_kbm::of(none, &map), 60);
+        run(list, &b, none, &map, &rust_kbm::of(none, &map), 59, 3);
+    }
     // 10: a root's pitch, an entry, a count past the table
     let refused = || Said::refused(Who::Rules, 10, 0, ());
     for (m, map) in [(Mapping { hz: Float::of(0.0009), ..usual }, map), (usual, [0, 40_000, 2]), (Mapping { count: 9, ..usual }, map)] {

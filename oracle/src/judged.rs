@@ -1,6 +1,7 @@
 //! The comparison's own verdict, held to what it must refuse: `oracle judged`. Each case is a report that lacks something, and what must
 //! be said of it.
 
+use crate::backwards_wrong;
 use crate::best_wrong;
 use crate::calls;
 use crate::ffi;
@@ -34,8 +35,8 @@ const CASES: [Case; 7] = [
 ];
 
 /// Whether each case is found out, those that are not being said; whether a call that is compared on both sides is found to lack
-/// nothing; whether another value, number or detail than the Rust's is a difference; and whether what the tests of E and of the nearest of
-/// all fractions must see is seen.
+/// nothing; whether another value, number or detail than the Rust's is a difference; and whether what the tests of E, of the nearest of all
+/// fractions and of backwards ranges must see is seen.
 pub fn judged() -> bool {
     let faults = |name: &str, cases: fn(&mut Tally)| {
         let mut report = Report::silent();
@@ -66,7 +67,7 @@ pub fn judged() -> bool {
         println!("judged: nothing is compared, and too little is lacking");
         held = false;
     }
-    for unseen in powers::unseen().into_iter().chain(best_wrong::unseen()) {
+    for unseen in [powers::unseen(), best_wrong::unseen(), backwards_wrong::unseen()].concat() {
         println!("judged: not seen: {unseen}");
         held = false;
     }

@@ -5,7 +5,7 @@ use crate::inputs::{Random, drawn, fixed};
 use crate::kbm_read::PATTERN;
 use crate::kbm_use::SAMPLE;
 use crate::lent::Float;
-use crate::rules::UNMAPPED;
+use crate::rules::{self, UNMAPPED};
 use crate::tally::{Report, Said, Tally, Who};
 use crate::{ffi, rust_kbm};
 
@@ -42,21 +42,28 @@ pub fn push(run: &Run, k: usize) -> Said<(usize, Vec<i32>)> {
     }
 }
 
-/// What the build should answer: count and formal octave, and every number and entry is the Rust's.
+/// The table of a run by its pushes alone, however many they are.
+pub fn filled(run: &Run, taken: usize) -> Vec<i32> {
+    let mut map: Vec<i32> = run.pushes[..taken].iter().map(|degree| degree.map_or(UNMAPPED, i32::from)).collect();
+    map.resize(run.room, PATTERN);
+    map
+}
+
+/// What the build of a run should answer: count and formal octave, and every number and entry is the Rust's. A backwards range is outside
+/// its domain; there it may build the mapping or find it too large, but the octave must not be missing.
 pub fn build(run: &Run) -> Said<(u16, i16)> {
-    let taken = run.pushes.len().min(run.room);
-    let mut builder = rust_kbm::pushes(run.mapping, run.pushes[..taken].iter().copied());
+    let (m, taken) = (run.mapping, run.pushes.len().min(run.room));
+    let mut builder = rust_kbm::pushes(m, run.pushes[..taken].iter().copied());
     if let Some(octave) = run.octave {
         builder = builder.formal_octave(octave);
     }
-    match builder.build() {
-        Ok(kbm) => {
-            let (m, _) = rust_kbm::parts(&kbm);
-            let kept = (m.start, m.end, m.reference, m.hz, m.offset);
-            let given = (run.mapping.start, run.mapping.end, run.mapping.reference, run.mapping.hz, run.mapping.offset);
-            if kept == given { Said::gives(Who::Rust, (m.count, m.octave)) } else { Said::fault((0, 0)) }
-        }
-        Err(error) => Said::refused(Who::Rust, rust_kbm::build_number(error).0, 0, (ffi::OLD_U16, ffi_kbm::OLD_I16)),
+    let rust = builder.build().map(|kbm| rust_kbm::parts(&kbm).0).map_err(|error| rust_kbm::build_number(error).0);
+    let old = (ffi::OLD_U16, ffi_kbm::OLD_I16);
+    match (rules::build(m, run.octave, &filled(run, taken), run.room, taken), rust) {
+        (Ok((count, octave)), Ok(built)) if built == (Mapping { count, octave, ..m }) => Said::gives(Who::Rust, (count, octave)),
+        (Err((25, 0)), Ok(_) | Err(13)) => Said::refused(Who::Rules, 25, 0, old),
+        (Err((number, 0)), Err(same)) if number == same => Said::refused(Who::Rust, number, 0, old),
+        _ => Said::fault(old),
     }
 }
 
@@ -84,7 +91,8 @@ fn builds(tally: &mut Tally) {
         let run = random_run(&mut random, k % 9);
         let taken = run.pushes.len().min(run.room);
         let map = table(&run, taken);
-        tally.same((run.room, taken, run.octave), ffi_kbm::build_kbm(&map, run.room, taken, run.mapping, run.octave), build(&run));
+        let ours = ffi_kbm::build_kbm(&map, run.room, taken, run.mapping, run.octave);
+        tally.same((run.mapping, run.room, taken, run.octave), ours, build(&run));
     }
     // over 65,535 entries, beside the Rust
     let large = vec![0; 65_537];
@@ -117,5 +125,5 @@ pub fn compare(all: &mut Report) {
         }
     });
     all.function("push_(un)mapped_key", &[10, 12], pushes);
-    all.function("KbmBuilder::build", &[10, 13, 15], builds);
+    all.function("KbmBuilder::build", &[10, 13, 15, 25], builds);
 }

@@ -9,7 +9,8 @@ use crate::{rules, rust_kbm};
 pub const PATTERN: i32 = 0x5A5A_5A5A;
 
 /// What a text should give in one room: by the Rust where it is in its domain and says what the rules say, else by the rules. The
-/// Rust panics exactly where the last key is the largest number, which is 11.
+/// Rust panics exactly where the last key is the largest number, which is 11. What it makes of a backwards range is not compared, but that
+/// it goes past the last key's line.
 pub fn said(text: &[u8], room: usize) -> Said<(Mapping, Vec<i32>)> {
     let ruled = rules::read(text, room);
     let rust = rust_kbm::read(text);
@@ -22,27 +23,33 @@ pub fn said(text: &[u8], room: usize) -> Said<(Mapping, Vec<i32>)> {
         (Ok((mapping, entries)), Some(Ok(same))) if (mapping, &entries) == (same.0, &same.1) => gives(Who::Rust, Code::ACCEPTED, mapping, &entries),
         (Err((1, line)), Some(Err((1, 0)))) => gives(Who::Rust, Code::refusal(1, line), OLD_MAPPING, &[]),
         (Err((11, line)), None) => gives(Who::Panics, Code::refusal(11, line), OLD_MAPPING, &[]),
-        (Err((number @ (9 | 10 | 12), detail)), Some(rust)) if may_go_on(number, detail, &rust) => gives(Who::Rules, Code::refusal(number, detail), OLD_MAPPING, &[]),
+        (Err((number @ (9 | 10 | 12 | 25), detail)), Some(rust)) if may_go_on(number, detail, &rust) => {
+            gives(Who::Rules, Code::refusal(number, detail), OLD_MAPPING, &[])
+        }
         // no room at a line before the one at which the Rust panics cannot be: entries come after the keys
         (Err((number, detail)), Some(Err(same))) if (number, detail) == same => gives(Who::Rust, Code::refusal(number, detail), OLD_MAPPING, &[]),
         _ => Said::fault((OLD_MAPPING, table)),
     }
 }
 
-/// Whether the Rust may say this of a text that is 9, 10 or 12 by the rules, at a line or at the end: it reads the text, or finds a
+/// Whether the Rust may say this of a text that is 9, 10, 12 or 25 by the rules, at a line or at the end: it reads the text, or finds a
 /// fault after that line. Its refusals 1, 13 and 14 have no line.
 fn may_go_on(number: u64, detail: u64, rust: &Result<(Mapping, Vec<i32>), rules::Refused>) -> bool {
     match *rust {
         Ok(_) | Err((1 | 13 | 14, 0)) => true,
-        Err((2, which)) => detail != 0 && number != 12 && which == 7,
+        // the last key is the third of the seven lines, and the pitch the sixth
+        Err((2, which)) => detail != 0 && number != 12 && which > if number == 25 { 3 } else { 6 },
         Err((_, line)) => detail != 0 && line > detail,
     }
 }
 
-fn one_read(tally: &mut Tally, text: &[u8], room: usize) {
+/// A text read into a table of so many places. What is accepted has a key in its range.
+pub fn one_read(tally: &mut Tally, text: &[u8], room: usize) {
     let mut table = vec![PATTERN; room];
     let (code, mapping) = ffi_kbm::read_kbm(text, &mut table);
-    tally.same(String::from_utf8_lossy(text), (code, (mapping, table)), said(text, room));
+    let input = String::from_utf8_lossy(text);
+    tally.same(&input, (code, (mapping, table)), said(text, room));
+    tally.require(code != Code::ACCEPTED || mapping.start < mapping.end, (&input, "no key is in its range"));
 }
 
 pub const EXAMPLE: &str = "3\n0\n127\n62\n60\n261.6256\n5\n0\nX\n";
@@ -127,12 +134,22 @@ fn random_pitch(random: &mut Random) -> String {
     }
 }
 
+/// A first and a last key, mostly in their order.
+fn random_range(random: &mut Random) -> [String; 2] {
+    let mut keys = [random_integer(random), random_integer(random)];
+    if random.next() % 8 != 0 {
+        keys.sort_by_key(|key| key.parse::<i64>().unwrap_or_default());
+    }
+    keys
+}
+
 /// A text of at most so many entries: mostly a whole mapping, else with another size, text behind a token, comments, or fewer lines.
 fn random_text(random: &mut Random, most: u64) -> Vec<u8> {
     let entries = random.next() % (most + 1);
     let size = if random.next() % 4 == 0 { random.next() % 20 } else { entries };
     let mut lines = vec![size.to_string()];
-    lines.extend((0..4).map(|_| random_integer(random)));
+    lines.extend(random_range(random));
+    lines.extend((0..2).map(|_| random_integer(random)));
     lines.extend([random_pitch(random), random_integer(random)]);
     lines.extend((0..entries).map(|_| if random.next() % 4 == 0 { ["x", "X", "x ", "xx"][random.next() as usize % 4].to_string() } else { random_integer(random) }));
     if random.next() % 16 == 0 {
@@ -141,6 +158,12 @@ fn random_text(random: &mut Random, most: u64) -> Vec<u8> {
     let end = ["\n", "\r\n"][usize::from(random.next() % 8 == 0)];
     let behind = ["", "", "", " Hz", "\t! c", "\n! c", "\n", "\u{a0}"];
     lines.iter().map(|line| format!("{line}{}{end}", behind[random.next() as usize % 8])).collect::<String>().into_bytes()
+}
+
+/// One text in 64 with so many comments before it that its lines stand far down.
+fn headed(k: usize, text: Vec<u8>) -> Vec<u8> {
+    let head = if k % 64 == 0 { k / 64 * 7 % 600 } else { 0 };
+    [b"! head\n".repeat(head), text].concat()
 }
 
 /// A mapping file of so many entries that says a size.
@@ -153,9 +176,9 @@ pub fn long(entries: usize, size: usize) -> Vec<u8> {
 }
 
 pub fn compare(all: &mut Report) {
-    all.function("Kbm::import", &[1, 2, 3, 7, 8, 9, 10, 11, 12, 13, 14], |tally| {
+    all.function("Kbm::import", &[1, 2, 3, 7, 8, 9, 10, 11, 12, 13, 14, 25], |tally| {
         let mut random = Random::new(31);
-        for text in texts().into_iter().chain(drawn(20_000).map(|_| random_text(&mut random, 12))) {
+        for text in texts().into_iter().chain(drawn(20_000).map(|k| headed(k, random_text(&mut random, 12)))) {
             for room in [0, 1, 2, 3, 8, 12] {
                 one_read(tally, &text, room);
             }

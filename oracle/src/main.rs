@@ -13,6 +13,11 @@
 
 #![forbid(dead_code, unused)]
 
+mod backwards;
+mod backwards_builds;
+mod backwards_cases;
+mod backwards_texts;
+mod backwards_wrong;
 mod bench;
 mod bench_tuning;
 mod best;
@@ -136,6 +141,7 @@ fn compare_all(all: &mut tally::Report) {
     kbm_read::compare(all);
     kbm_use::compare(all);
     kbm_build::compare(all);
+    backwards::compare(all);
     tuning::compare(all);
     entries::compare(all);
     generators::compare(all);

@@ -1,5 +1,6 @@
-//! Document 01's rules for mappings, a third time: what every text, key and table should give, refusals that the Rust lacks (9 to
-//! 12) included. It shares nothing with the proved library, and inside the Rust's domain the Rust must say the same.
+//! Document 01's rules for mappings, a third time, and document 02's rule for backwards ranges: what every text, key, table and build
+//! should give, refusals that the Rust lacks (9 to 12, and 25) included. It shares nothing with the proved library, and inside the
+//! Rust's domain the Rust must say the same.
 
 use crate::ffi_kbm::Mapping;
 use crate::lent::Float;
@@ -34,6 +35,10 @@ pub fn read(text: &[u8], room: usize) -> Result<(Mapping, Vec<i32>), Refused> {
     let (_, start) = integer::<i32>(next()?, 2)?;
     let (at, last) = integer::<i32>(next()?, 3)?;
     let end = last.checked_add(1).ok_or((11, at))?;
+    // "Refuse a mapping whose last key is below its first [..]: 25, at the last-key line, after 3 and 11 there"
+    if last < start {
+        return Err((25, at));
+    }
     let (_, middle) = integer::<i16>(next()?, 4)?;
     let (_, reference) = integer::<i16>(next()?, 5)?;
     let (at, token) = next()?.ok_or((2, 6))?;
@@ -41,7 +46,7 @@ pub fn read(text: &[u8], room: usize) -> Result<(Mapping, Vec<i32>), Refused> {
     if !crate::numerals::supported(token) {
         return Err((9, at));
     }
-    if !(2f64.powi(-10)..=2f64.powi(20)).contains(&hz) {
+    if !is_pitch(hz) {
         return Err((10, at));
     }
     let (_, octave) = integer::<i16>(next()?, 7)?;
@@ -65,6 +70,33 @@ pub fn read(text: &[u8], room: usize) -> Result<(Mapping, Vec<i32>), Refused> {
     }
     let offset = i32::from(middle) - i32::from(reference);
     Ok((Mapping { count, start, end, reference: reference.into(), hz: Float::of(hz), offset, octave }, entries))
+}
+
+/// "Pitch is usable from 2^-10 to 2^20 Hz"
+fn is_pitch(hz: f64) -> bool {
+    (2f64.powi(-10)..=2f64.powi(20)).contains(&hz)
+}
+
+/// Whether the last key, which is the one before the end, is below the first, in exact numbers.
+pub fn is_backwards(start: i32, end: i32) -> bool {
+    i64::from(end) - 1 < i64::from(start)
+}
+
+/// The build of a state that says so many entries in a table of `room` places: 10 where state, table or root cannot be used; "a build gives
+/// 15, then 13", and a backwards range is 25 "after 15 and before 13". Count and formal octave.
+pub fn build(m: Mapping, octave: Option<i16>, map: &[i32], room: usize, count: usize) -> Result<(u16, i16), Refused> {
+    let entries = map.get(..count).filter(|_| map.len() == room).ok_or((10, 0))?;
+    if entries.iter().any(|&entry| entry != UNMAPPED && i16::try_from(entry).is_err()) || !is_pitch(m.pitch()) {
+        return Err((10, 0));
+    }
+    if octave.is_none() && !entries.is_empty() {
+        return Err((15, 0));
+    }
+    if is_backwards(m.start, m.end) {
+        return Err((25, 0));
+    }
+    let count = u16::try_from(count).map_err(|_| (13, 0))?;
+    Ok((count, octave.unwrap_or(0)))
 }
 
 /// The degree of a key, in exact numbers.

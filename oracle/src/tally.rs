@@ -242,7 +242,10 @@ pub struct Tally {
 }
 
 /// Lines that no call of C or of the probes stands for, and that must be there.
-const BESIDE: [&str; 11] = [
+const BESIDE: [&str; 14] = [
+    "backwards ranges, read",
+    "backwards ranges, built",
+    "backwards ranges, lent",
     "lent tables, 10",
     "lent lists, strange",
     "searches, fixed",
@@ -257,7 +260,7 @@ const BESIDE: [&str; 11] = [
 ];
 
 /// The numbers that no error of the Rust's stands for.
-const OURS: [u64; 4] = [10, 11, 12, 18];
+const OURS: [u64; 5] = [10, 11, 12, 18, 25];
 
 impl Tally {
     /// One input: what the library answered and left behind, and what it should have. The first few differences are shown.

@@ -18,7 +18,8 @@ pub struct Root {
 }
 
 /// A mapping's numbers: how many entries its table has, the keys from `start` up to, not including, `end`, the root, and how many degrees
-/// make a formal octave.
+/// make a formal octave. What was read or built has a key in its range, `start` below `end`; other numbers are taken too, and with them
+/// every key is outside (16).
 #[derive(Clone, Copy, Debug, PartialEq)]
 pub struct Numbers {
     /// The entries, from the table's first place on.
@@ -50,7 +51,8 @@ macro_rules! mapping {
     }};
 }
 
-/// Reads a mapping file into a table; the places behind its entries keep their values. 12 where an entry has no place.
+/// Reads a mapping file into a table; the places behind its entries keep their values. 25 where the last key is below the first, at the
+/// last key's line; 12 where an entry has no place.
 pub fn read_mapping(text: &[u8], map: &mut [i32]) -> Result<Numbers, Refusal> {
     let mut n = Numbers { count: 0, start: 0, end: 0, root: Root { reference: 0, hz: 0.0, offset: 0 }, octave: 0 };
     // Safety: each pointer comes with its slice's length; `map` is borrowed for writing, and the numbers stand apart.
@@ -73,6 +75,7 @@ impl MappingRef<'_> {
 
     /// The text of the mapping, written into the first bytes of `out`: how many they are; the others stay. 10 for a pitch outside 2^-10..2^20, 11
     /// where the last or the middle key passes 32 bits, 12 where the text is longer than `out`; `room_for_export` bytes are always enough.
+    /// A mapping whose last key is below its first is written too; `read_mapping` refuses that text (25).
     pub fn export(self, out: &mut [u8]) -> Result<usize, Refusal> {
         let (mut written, (a, b, c, d, e, f, g, h, i)) = (0, mapping!(self));
         // Safety: each pointer comes with its slice's length; `out` is borrowed for writing.

@@ -28,7 +28,8 @@ pub struct MappingBuilder<'a> {
 }
 
 impl<'a> MappingBuilder<'a> {
-    /// A builder on a table; what it holds is lost. `keys` has the mapping's keys. 10 for a root whose pitch cannot be used.
+    /// A builder on a table; what it holds is lost. `keys` has the mapping's keys; where it has none, `build` says so. 10 for a root whose
+    /// pitch cannot be used.
     pub fn new(map: &'a mut [i32], root: Root, keys: Range<i32>) -> Result<MappingBuilder<'a>, Refusal> {
         // Safety: no memory is lent.
         Refusal::of(unsafe { raw::telbijan_kbm_root(root.reference, root.hz, root.offset) })?;
@@ -51,7 +52,8 @@ impl<'a> MappingBuilder<'a> {
         Refusal::of(unsafe { raw::telbijan_push_unmapped_key(map, room, room, self.count, &mut after) }).map(|()| self.count = after)
     }
 
-    /// The mapping of what was pushed, with a formal octave or without: 15 for entries without one, 13 over 65,535 entries.
+    /// The mapping of what was pushed, with a formal octave or without: 15 for entries without one, 25 where there are no keys, so that the
+    /// last is below the first, 13 over 65,535 entries. To mend what was refused, push again in a new builder.
     pub fn build(self, octave: Option<i16>) -> Result<MappingRef<'a>, Refusal> {
         let (map, root, keys) = (self.map, self.root, self.keys);
         let (mut count, mut formal) = (0, 0);

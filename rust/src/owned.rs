@@ -183,6 +183,10 @@ impl Mapping {
     /// let mapping = telbijan::Mapping::read(b"3\n0\n127\n60\n60\n261.6256\n3\n0\nx\n2\n")?;
     /// assert_eq!(mapping.view().degree_of(62)?, 2);
     /// assert_eq!(mapping.view().degree_of(61).unwrap_err().number(), 17);
+    ///
+    /// // first and last key swapped: exchange the two lines
+    /// let refusal = telbijan::Mapping::read(b"3\n127\n0\n60\n60\n261.6256\n3\n0\nx\n2\n").unwrap_err();
+    /// assert_eq!(refusal.to_string(), "line 3: the last key is below the first");
     /// # Ok::<(), telbijan::Refusal>(())
     /// ```
     pub fn read(text: &[u8]) -> Result<Mapping, Refusal> {
@@ -195,7 +199,8 @@ impl Mapping {
     }
 
     /// Builds a mapping of at most so many entries above a root, for the keys of a range, from what `push` pushes into the builder that it
-    /// is given; 10 where it puts another in its place. Only a mapping without entries needs no formal octave.
+    /// is given; 10 where it puts another in its place. Only a mapping without entries needs no formal octave (15), and each needs a key in
+    /// its range (25).
     ///
     /// ```
     /// use telbijan::{Mapping, Root};
@@ -213,6 +218,8 @@ impl Mapping {
     /// assert_eq!(linear.view().degree_of(72)?, 12);
     /// let refusal = Mapping::build(1, root, 0..128, None, |b| b.push(0)).unwrap_err();
     /// assert_eq!(refusal.number(), 15);
+    /// let refusal = Mapping::build(0, root, 60..60, None, |_| Ok(())).unwrap_err();
+    /// assert_eq!(refusal.number(), 25);
     /// # Ok::<(), telbijan::Refusal>(())
     /// ```
     pub fn build(

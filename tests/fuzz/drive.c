@@ -1,14 +1,22 @@
-/* The stories of fuzz.c without a fuzzer: each file that is named, under every story and in memory of many sizes, then so many inputs from random bytes and
- * from bytes that files are made of, always the same ones. tools/example builds and runs it. */
+/* The stories of fuzz.c without a fuzzer: each file that is named, under every story and in memory of many sizes, then so many inputs from
+ * random bytes, from bytes that files are made of and from mappings whose keys are often swapped, always the same ones. It fails where of
+ * a thousand or more no read or no build was refused for its range, or no mapping was lent with such a one; where none are asked for it
+ * says what of the files was met. tools/example builds and runs it. */
+#include <inttypes.h>
 #include <stdint.h>
 #include <stdio.h>
 #include <stdlib.h>
+#include <string.h>
 
 int LLVMFuzzerTestOneInput(const uint8_t *data, size_t size);
+extern uint64_t backwards_met[3], mappings_met, mapping_said, scales_met;
 
-enum { LONGEST = 60000, HEAD = 4 };
+/* How many bytes each story of fuzz.c draws before the text, where it has one: the story and the side of its pages; then the places of
+ * a table, or of the columns and which of them has others; for a tuning, whether there is a text, and how long. */
+enum { LONGEST = 60000, MAPPING_TEXT = 1, STORIES = 9 };
+static const size_t HEADS[STORIES] = {4, 3, 4, 4, 4, 6, 6, 4, 4};
 
-static uint8_t bytes[HEAD + LONGEST];
+static uint8_t bytes[LONGEST + 6];
 static uint64_t state;
 
 /* SplitMix64. */
@@ -19,19 +27,21 @@ static uint64_t next(void) {
     return z ^ (z >> 31);
 }
 
-/* A file after four bytes that choose the story, the side of its pages and the sizes: 50 of them for each story. */
+/* A file after the bytes that choose the story, the side of its pages and the sizes: 50 of them for each story. */
 static int try_file(const char *name) {
+    static uint8_t text[LONGEST];
     FILE *file = fopen(name, "rb");
     if (!file)
         return 0;
-    size_t size = fread(bytes + HEAD, 1, LONGEST, file);
+    size_t size = fread(text, 1, LONGEST, file);
     fclose(file);
-    for (uint8_t story = 0; story < 9; story++)
+    for (uint8_t story = 0; story < STORIES; story++)
         for (int k = 0; k < 50; k++) {
             bytes[0] = story;
-            for (size_t j = 1; j < HEAD; j++)
+            for (size_t j = 1; j < HEADS[story]; j++)
                 bytes[j] = (uint8_t)next();
-            LLVMFuzzerTestOneInput(bytes, HEAD + size);
+            memcpy(bytes + HEADS[story], text, size);
+            LLVMFuzzerTestOneInput(bytes, HEADS[story] + size);
         }
     return 1;
 }
@@ -42,8 +52,56 @@ static void try_random(void) {
     size_t size = next() % 400;
     int plain = next() % 2 == 0;
     for (size_t j = 0; j < size; j++)
-        bytes[j] = plain && j >= HEAD && next() % 3 ? (uint8_t)MARKS[next() % (sizeof MARKS - 1)] : (uint8_t)next();
+        bytes[j] = plain && j >= HEADS[bytes[0] % STORIES] && next() % 3 ? (uint8_t)MARKS[next() % (sizeof MARKS - 1)] : (uint8_t)next();
     LLVMFuzzerTestOneInput(bytes, size);
+}
+
+/* So many lines that say nothing, and one with this number, behind so many bytes; how many there are then. */
+static size_t add_line(size_t at, uint64_t idle, int64_t number) {
+    static const char *const IDLE[] = {"! key\n", "\n", " \t\r\n"};
+    for (; idle > 0; idle--)
+        at += (size_t)snprintf((char *)bytes + at, LONGEST - at, "%s", IDLE[next() % 3]);
+    return at + (size_t)snprintf((char *)bytes + at, LONGEST - at, "%" PRId64 "\n", number);
+}
+
+static uint64_t at_line(uint64_t number, uint64_t line) {
+    return line << 8 | number;
+}
+
+/* What is said of a mapping with these keys and a table of so many places, where each of its first four lines is the last of so many. */
+static uint64_t keys_say(int64_t first, int64_t last, uint64_t lines, int places) {
+    if (first < INT32_MIN || first > INT32_MAX)
+        return at_line(3, 2 * lines);
+    if (last < INT32_MIN || last > INT32_MAX)
+        return at_line(3, 3 * lines);
+    if (last == INT32_MAX)
+        return at_line(11, 3 * lines);
+    if (last < first)
+        return at_line(25, 3 * lines);
+    return places == 0 ? at_line(12, 4 * lines + 4) : 0;
+}
+
+/* A mapping that is read, with its first and its last key close to each other, about 0, 60, 127 or an end of 32 bits; before its first
+ * lines some that say nothing, at times hundreds. */
+static int try_keys(void) {
+    static const int64_t NEAR[] = {0, 60, 127, INT32_MIN, INT32_MAX};
+    int64_t first = NEAR[next() % 5] + (int64_t)(next() % 5) - 2, last = first + (int64_t)(next() % 5) - 2;
+    uint64_t idle = next() % 8 ? next() % 3 : next() % 400;
+    bytes[0] = MAPPING_TEXT, bytes[1] = (uint8_t)next(), bytes[2] = (uint8_t)(next() % 200);
+    size_t size = add_line(add_line(add_line(add_line(HEADS[MAPPING_TEXT], idle, 1), idle, first), idle, last), idle, 60);
+    size += (size_t)snprintf((char *)bytes + size, LONGEST - size, "60\n440.0\n1\n0\n");
+    LLVMFuzzerTestOneInput(bytes, size);
+    if (mapping_said == keys_say(first, last, idle + 1, bytes[2] % 20))
+        return 1;
+    fprintf(stderr, "drive: keys %" PRId64 " and %" PRId64 ", %" PRIu64 " lines before each: ", first, last, idle);
+    fprintf(stderr, "%" PRIu64 " at line %" PRIu64 "\n", mapping_said & 0xff, mapping_said >> 8);
+    return 0;
+}
+
+static void say_met(FILE *out) {
+    fprintf(out, "drive: %" PRIu64 " scales read, %" PRIu64 " mappings read, ", scales_met, mappings_met);
+    fprintf(out, "%" PRIu64 " mappings backwards, %" PRIu64 " builds backwards, ", backwards_met[0], backwards_met[1]);
+    fprintf(out, "%" PRIu64 " lent backwards\n", backwards_met[2]);
 }
 
 int main(int argc, char **argv) {
@@ -53,7 +111,16 @@ int main(int argc, char **argv) {
             fprintf(stderr, "drive: cannot open %s\n", argv[i]);
             return 2;
         }
-    for (long i = 0; i < inputs; i++)
+    if (inputs == 0)
+        say_met(stdout);
+    for (long i = 0; i < inputs; i++) {
         try_random();
+        if (i % 4 == 0 && !try_keys())
+            return 1;
+    }
+    if (inputs >= 1000 && (backwards_met[0] == 0 || backwards_met[1] == 0 || backwards_met[2] == 0)) {
+        say_met(stderr);
+        return 1;
+    }
     return 0;
 }

@@ -4,6 +4,12 @@
 
 #include "scales.h"
 
+/* For drive.c: how many reads and builds were refused for a backwards range, and how many usable mappings were lent with one; how many
+ * mappings were read; and what the read of the last text said. */
+uint64_t backwards_met[3], mappings_met, mapping_said;
+
+#define JUDGE_MAPPING() judge_mapping(0, result, HERE)
+
 /* A mapping whose entries and numbers may be anything, or those of a text. */
 static telbijan_mapping draw_mapping(void) {
     telbijan_mapping m;
@@ -25,6 +31,20 @@ static bool same_numbers(telbijan_mapping m, telbijan_mapping n) {
     return m.count == n.count && m.start == n.start && m.end == n.end && m.root.reference == n.root.reference && same_bits(m.root.hz, n.root.hz) && m.root.offset == n.root.offset && m.octave == n.octave;
 }
 
+/* Whether the first entries of a table can be used: each is a degree, or none. */
+static bool is_usable(const int32_t *map, size_t places, size_t count) {
+    if (count > places)
+        return false;
+    for (size_t k = 0; k < count; k++)
+        if (map[k] != TELBIJAN_UNMAPPED && (map[k] < INT16_MIN || map[k] > INT16_MAX))
+            return false;
+    return true;
+}
+
+static bool is_pitch(double hz) {
+    return hz >= 0x1p-10 && hz <= 0x1p20;
+}
+
 /* The same read into a struct. */
 static void mapping_alike(telbijan_mapping m, const uint8_t *text, size_t length, uint64_t result) {
     telbijan_mapping n = {(int32_t *)column(1, MAP, m.room), m.room, 1, 2, 3, {4, 5, 6}, 7}, old = n;
@@ -32,9 +52,26 @@ static void mapping_alike(telbijan_mapping m, const uint8_t *text, size_t length
     SAME(telbijan_mapping_read(&n, given_text(text, length), length), result);
     if (result == 0)
         may_change(1, MAP, 4, 0, n.count);
-    judge(1, result, HERE);
+    judge_mapping(1, result, HERE);
     alike(MAP, MAP, HERE);
     MUST(same_numbers(n, result == 0 ? m : old));
+}
+
+/* Where so many lines of a text end. */
+static size_t end_of_line(const uint8_t *text, size_t length, uint64_t lines) {
+    size_t at = 0;
+    for (; at < length && lines > 0; at++)
+        lines -= text[at] == '\n';
+    return at;
+}
+
+/* A backwards range is told at the line of the last key: up to that line the text says the same, and up to the one before it, that the
+ * last key is missing. */
+static void at_last_key(telbijan_mapping m, const uint8_t *text, size_t length, uint64_t result) {
+    size_t with = end_of_line(text, length, TELBIJAN_DETAIL(result)), without = end_of_line(text, length, TELBIJAN_DETAIL(result) - 1);
+    SAME(telbijan_mapping_read(&m, given_text(text, with), with), result);
+    SAME(telbijan_mapping_read(&m, given_text(text, without), without), 3 << 8 | TELBIJAN_LINE_MISSING);
+    backwards_met[0]++;
 }
 
 /* A text read into a table that holds a pattern. */
@@ -47,9 +84,12 @@ static uint64_t read_mapping(telbijan_mapping *m, const uint8_t *text, size_t le
     CALL(telbijan_read_kbm(text, length, m->map, m->room, count, start, end, reference, hz, offset, octave));
     if (result == 0)
         may_change(0, MAP, 4, 0, *count), values_change(0);
-    JUDGE();
+    JUDGE_MAPPING();
+    MUST(result != 0 || *start < *end);
     m->count = *count, m->start = *start, m->end = *end, m->root.reference = *reference, m->root.hz = *hz, m->root.offset = *offset, m->octave = *octave;
     mapping_alike(*m, text, length, result);
+    if (TELBIJAN_NUMBER(result) == TELBIJAN_BACKWARDS_RANGE)
+        at_last_key(*m, text, length, result);
     return result;
 }
 
@@ -61,6 +101,9 @@ static uint64_t export_mapping(telbijan_mapping m, size_t room, size_t *took) {
     if (result == 0)
         may_change(0, BYTES, 1, 0, *written), values_change(0);
     JUDGE();
+    /* the order of the keys plays no part */
+    MUST((result == TELBIJAN_UNUSABLE) == !(is_usable(m.map, m.room, m.count) && is_pitch(m.root.hz)));
+    MUST(result == 0 || result == TELBIJAN_UNUSABLE || result == TELBIJAN_OVERFLOW || result == TELBIJAN_NO_ROOM);
     *took = *written;
     SAME(telbijan_mapping_export(&m, given_room(other, room, took), room, took), result);
     MUST(*took == *written), alike(BYTES, BYTES, HERE);
@@ -73,8 +116,10 @@ static void mapping_text(void) {
     m.room = draw_length(), m.map = (int32_t *)column(0, MAP, m.room);
     size_t length, took, again;
     const uint8_t *text = draw_text(SPACE / 64, &length);
-    if (read_mapping(&m, text, length) != 0)
+    mapping_said = read_mapping(&m, text, length);
+    if (mapping_said != 0)
         return;
+    mappings_met++;
     MUST(export_mapping(m, TELBIJAN_KBM_ROOM(m.count), &took) == 0);
     MUST(export_mapping(m, took, &again) == 0 && again == took);
     memcpy(known.text, memory[0][BYTES].at, took);
@@ -89,13 +134,25 @@ static void mapping_text(void) {
     MUST(export_mapping(n, took, &again) == 0 && again == took && memcmp(memory[0][BYTES].at, known.text, took) == 0);
 }
 
+/* What a build says: 10 of a state, a table or a pitch, then 15, then 25 where no key is in the range, then 13. */
+static uint64_t build_says(telbijan_mapping m, size_t room, size_t count, bool given) {
+    if (room != m.room || !is_usable(m.map, room, count) || !is_pitch(m.root.hz))
+        return TELBIJAN_UNUSABLE;
+    if (count > 0 && !given)
+        return TELBIJAN_FORMAL_OCTAVE_MISSING;
+    return m.end <= m.start ? TELBIJAN_BACKWARDS_RANGE : count > UINT16_MAX ? TELBIJAN_TOO_LARGE : TELBIJAN_ACCEPTED;
+}
+
 static void build_mapping(telbijan_mapping m, size_t room, size_t count, telbijan_mapping_builder *b) {
     uint64_t result;
     bool given = draw(1) % 2;
     uint16_t *entries = OUT(uint16_t, 1);
     int16_t *formal = OUT(int16_t, 2);
-    CALL(telbijan_build_kbm(m.map, m.room, room, count, m.start, m.end, TELBIJAN_ROOT(m.root), given, m.octave, entries, formal)), ONLY_VALUES();
+    CALL(telbijan_build_kbm(m.map, m.room, room, count, m.start, m.end, TELBIJAN_ROOT(m.root), given, m.octave, entries, formal));
+    values_change(0), JUDGE_MAPPING();
     MUST(result != 0 || (*entries == count && *formal == (given ? m.octave : 0)));
+    MUST(result == build_says(m, room, count, given));
+    backwards_met[1] += result == TELBIJAN_BACKWARDS_RANGE;
     if (b) {
         telbijan_mapping built = {NULL, 1, 2, 3, 4, {5, 6, 7}, 8}, old = built;
         SAME(given ? telbijan_mapping_build(b, m.octave, &built) : telbijan_mapping_build_linear(b, &built), result);

@@ -117,11 +117,22 @@ static void judge_memory(int set, uint64_t result, const char *where) {
     }
 }
 
-/* After any call but the best fraction, whose numbers are 10 and 29: a refusal has one of the numbers 1 to 18 as well. */
-static void judge(int set, uint64_t result, const char *where) {
+static bool is_usual(uint64_t result) {
     uint64_t number = result & 0xff;
-    if (result != 0 && (number < 1 || number > 18))
+    return result == 0 || (number >= 1 && number <= 18);
+}
+
+/* After any call but the best fraction, whose numbers are 10 and 29, and those below: a refusal has one of the numbers 1 to 18 as well. */
+static void judge(int set, uint64_t result, const char *where) {
+    if (!is_usual(result))
         fail("a number from 1 to 18", where);
+    judge_memory(set, result, where);
+}
+
+/* After a read or a build of a mapping, whose range may be backwards: 25 too. */
+static void judge_mapping(int set, uint64_t result, const char *where) {
+    if (!is_usual(result) && (result & 0xff) != 25)
+        fail("a number from 1 to 18, or 25", where);
     judge_memory(set, result, where);
 }
 

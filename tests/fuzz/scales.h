@@ -4,6 +4,9 @@
 
 #include "draw.h"
 
+/* For drive.c: how many scales were read. */
+uint64_t scales_met;
+
 /* The same read into structs. */
 static void read_alike(const columns *c, const uint8_t *text, size_t length, uint64_t result, uint16_t count, size_t start, size_t end) {
     columns d = lend_columns(1, c->n);
@@ -28,6 +31,7 @@ static uint64_t read_scale(columns *c, const uint8_t *text, size_t length, telbi
         columns_change(0, WRAPS, 0, (size_t)*count + 1), values_change(0);
     JUDGE();
     MUST(result != 0 || (*start <= *end && *end <= length));
+    scales_met += result == 0;
     if (is_even(c))
         read_alike(c, text, length, result, *count, *start, *end);
     c->s.count = *count, description->start = *start, description->end = *end;

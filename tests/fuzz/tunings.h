@@ -87,8 +87,18 @@ static void run_of_keys(const columns *c, telbijan_mapping m, int32_t first, boo
     JUDGE();
     if (even && keys <= places && keys <= others)
         SAME(telbijan_tuning_pitches_of(&c->s, &m, first, keys, also, more), result), MUST(memcmp(hz, also, keys * 8) == 0 && memcmp(numbers, more, keys * 4) == 0);
-    for (uint32_t k = 0; result == 0 && k < keys; k++)
+    for (uint32_t k = 0; result == 0 && k < keys; k++) {
         MUST(numbers[k] == 0 || numbers[k] == 11 || numbers[k] == 16 || numbers[k] == 17 || numbers[k] == 18);
+        MUST(m.end > m.start || numbers[k] == ((int64_t)first + k > INT32_MAX ? 11 : 16));
+    }
+}
+
+/* The degree of a key is 10 exactly of an unusable table; where the last key is below the first, every key of a usable one is 16. */
+static void lent_range(telbijan_mapping m, uint64_t result) {
+    bool usable = is_usable(m.map, m.room, m.count), backwards = m.end <= m.start;
+    MUST((result == TELBIJAN_UNUSABLE) == !usable);
+    MUST(!usable || !backwards || result == TELBIJAN_KEY_OUT_OF_RANGE);
+    backwards_met[2] += usable && backwards;
 }
 
 static void mapped(const columns *c, telbijan_mapping m, bool even) {
@@ -97,10 +107,13 @@ static void mapped(const columns *c, telbijan_mapping m, bool even) {
     double *x = OUT(double, 0);
     const telbijan_mapping constant = telbijan_mapping_lent(m.map, m.room, m.count, m.start, m.end, m.root, m.octave);
     CALL(telbijan_scale_degree_of(MAPPING(m), key, z)), ONLY_VALUES();
+    MUST(result != 0 || (m.start <= key && key < m.end));
+    lent_range(m, result);
     degree = *z;
     SAME(telbijan_mapping_degree_of(&constant, key, &degree), result), MUST(degree == *z);
     SAME(telbijan_mapping_degree_of(&m, key, &degree), result), MUST(degree == *z);
     FLOAT(telbijan_maybe_pitch_of(ITEMS(*c), c->s.count, MAPPING(m), key, x), telbijan_tuning_maybe_pitch_of(&c->s, &m, key, &also));
+    MUST(m.end > m.start || result == TELBIJAN_UNUSABLE || result == TELBIJAN_KEY_OUT_OF_RANGE);
     FLOAT(telbijan_maybe_pitch_of_degree(ITEMS(*c), c->s.count, MAPPING(m), key, x), telbijan_tuning_maybe_pitch_of_degree(&c->s, &m, key, &also));
     run_of_keys(c, m, key, even);
 }

@@ -4,7 +4,7 @@ use mathlib.Core.Logic.{_⊎_, inl, inr}
 use mathlib.Core.Bool.{Bool, true, false}
 use Prim.Native.Nat.{ℕ, _≤_}
 use native.Mathlib.Omega.{arith}
-use Rattle.base.specs.Said.{Said, gives, refuses, refusal, Numbered, pick, andThen, One}
+use Rattle.base.specs.Said.{Said, gives, refuses, refusal, Numbered, NumberedOr, pick, andThen, One}
 use Rattle.base.specs.declared.Refusal.{Refusal}
 
 -- a contract `r ≡ s` leaves one result
@@ -74,3 +74,14 @@ numbered-pick false p q = q
 pub numbered-then : {A B : Type 0} {s : Said A} {f : A → Said B} → Numbered s → ((a : A) → Numbered (f a)) → Numbered (andThen s f)
 numbered-then (Numbered.value a) m = m a
 numbered-then (Numbered.number low high) m = Numbered.number low high
+
+-- and so with one number more
+module _ {more : ℕ} where
+  pub or-pick : {A : Type 0} (b : Bool) {x y : Said A} → NumberedOr more x → NumberedOr more y → NumberedOr more (pick b x y)
+  or-pick true p q = p
+  or-pick false p q = q
+
+  pub or-then : {A B : Type 0} {s : Said A} {f : A → Said B} → NumberedOr more s → ((a : A) → NumberedOr more (f a)) → NumberedOr more (andThen s f)
+  or-then (NumberedOr.known (Numbered.value a)) m = m a
+  or-then (NumberedOr.known (Numbered.number low high)) m = NumberedOr.known (Numbered.number low high)
+  or-then NumberedOr.other m = NumberedOr.other

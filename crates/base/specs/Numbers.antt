@@ -68,6 +68,10 @@ unmapped-key = 17
 abbrev pub beyond-reach : ℕ
 beyond-reach = 18
 
+-- "Refuse a mapping whose last key is below its first. [..] 25" (document 02, W8)
+abbrev pub backwards-range : ℕ
+backwards-range = 25
+
 -- "29, no fraction" (document 02, W14)
 abbrev pub no-fraction : ℕ
 no-fraction = 29

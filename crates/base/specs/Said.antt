@@ -20,6 +20,11 @@ pub data Numbered {A : Type 0} : Said A → Type 0 where
   value : (a : A) → Numbered (gives a)
   number : {n d : ℕ} → 1 ≤ n → n ≤ 18 → Numbered (refuses n d)
 
+-- the same, or this one number more
+pub data NumberedOr {A : Type 0} (more : ℕ) : Said A → Type 0 where
+  known : {s : Said A} → Numbered s → NumberedOr more s
+  other : {d : ℕ} → NumberedOr more (refuses more d)
+
 -- what a `Refusal` says
 abbrev pub refusal : {A : Type 0} → Refusal → Said A
 refusal r = refuses (r .number) (r .detail)

@@ -13,7 +13,6 @@ use Rattle.kbm.specs.declared.Entry.{Entry}
 use Rattle.kbm.specs.declared.Kbm.{Kbm}
 use Rattle.kbm_read.specs.Language.{MappingText}
 use Rattle.kbm_read.specs.Reader.{readOf}
-use Rattle.kbm_read.proofs.Numbers.{read-kbm-numbered}
 use Rattle.kbm_write.specs.Again.{ComesBack}
 use Rattle.kbm_write.specs.Export.{exportOf, exportText}
 use Rattle.kbm_write.specs.Typed.{TypedKbm, OfTypes}
@@ -22,7 +21,7 @@ use Rattle.kbm_write.proofs.Typed.{typed}
 use Rattle.telbijan_answers.specs.Interface.{result, kept}
 use Rattle.telbijan_answers.proofs.Interface.{zero-accepted, written-text}
 use Rattle.telbijan_mappings.specs.Calls.{ExportKbm, ReadKbm}
-use Rattle.telbijan_mappings.proofs.Numbers.{export-kbm-numbered}
+use Rattle.telbijan_mappings.proofs.Numbers.{export-kbm-numbered, read-kbm-coded}
 use Rattle.telbijan_mappings.proofs.Readings.{language-call}
 use Rattle.promises.proofs.kbm.RoundTrip.{round-trip, export-in-language}
 
@@ -53,7 +52,7 @@ module _ (map : List ℤ) (kbm : Kbm) (types : OfTypes kbm) (out : List ℕ) (si
         forth : (q ≡ 0) × (new ≡ kbm) → ComesBack kbm
         forth p =
             let s = take written bytes in
-            let numbered = read-kbm-numbered (length table) s in
+            let numbered = read-kbm-coded (length table) s in
             let (k, e) = zero-accepted (readOf (length table) s) numbered .0 (sym (read .0) ∙ p .0) in
             let same : k ≡ kbm = sym (read .2 ∙ ap (λ (s : Said Kbm). kept s old) e) ∙ p .1 in
             trip .0 (ap (readOf (length table)) (sym (exported .1)) ∙ e ∙ ap gives same)

@@ -17,7 +17,7 @@ use Rattle.integers.specs.IntegerText.{IntText}
 use Rattle.kbm.specs.Table.{inI16, tableOf}
 use Rattle.kbm.specs.declared.Entry.{Entry}
 use Rattle.kbm.specs.declared.Kbm.{Kbm}
-use Rattle.kbm_read.specs.Language.{Required, required, unseen, Value, Values, Gives, GiveAll, sizeOf, mappingFrom, MappingText}
+use Rattle.kbm_read.specs.Language.{Required, Seen, required, unseen, see, Value, Values, Gives, GiveAll, sizeOf, mappingFrom, MappingText}
 use Rattle.kbm_read.specs.Reader.{readOf, entriesIn, afterRead}
 use Rattle.integers.proofs.AtLine.{typed-int}
 use Rattle.kbm_read.proofs.Ends.{small-size}
@@ -50,23 +50,23 @@ Known Required.reference z = inI32 z ≡ true
 Known Required.pitch v = inPitch v ≡ true
 Known Required.octave z = inI16 z ≡ true
 
-known : (f : Required) (t : List ℕ) (v : Value f) → Gives f t v → Known f v
-known Required.size t n g = tt
-known Required.first t z g = typed-int (2 ^ 31) 2147483647 (lit≤ tt) g
-known Required.last t z g = (typed-int (2 ^ 31) 2147483647 (lit≤ tt) (g .0), after-last (g .0) (g .1))
-known Required.middle t z g = typed-int (2 ^ 15) 2147483647 (lit≤ tt) g
-known Required.reference t z g = typed-int (2 ^ 15) 2147483647 (lit≤ tt) g
-known Required.pitch t v g = g .1
-known Required.octave t z g = typed-int (2 ^ 15) 32767 (lit≤ tt) g
+known : (f : Required) (key : Seen) (t : List ℕ) (v : Value f) → Gives f key t v → Known f v
+known Required.size key t n g = tt
+known Required.first key t z g = typed-int (2 ^ 31) 2147483647 (lit≤ tt) g
+known Required.last key t z g = (typed-int (2 ^ 31) 2147483647 (lit≤ tt) (g .0), after-last (g .0) (g .1))
+known Required.middle key t z g = typed-int (2 ^ 15) 2147483647 (lit≤ tt) g
+known Required.reference key t z g = typed-int (2 ^ 15) 2147483647 (lit≤ tt) g
+known Required.pitch key t v g = g .1
+known Required.octave key t z g = typed-int (2 ^ 15) 32767 (lit≤ tt) g
 
 abbrev AllKnown : (fs : List Required) → Values fs → Type 0
 AllKnown [] vs = Unit {0}
 AllKnown (f ∷ fs) vs = Known f (vs .0) × AllKnown fs (vs .1)
 
-all-known : (fs : List Required) (ts : List (List ℕ)) (vs : Values fs) → GiveAll unseen fs ts vs → AllKnown fs vs
-all-known [] ts vs g = tt
-all-known (f ∷ fs) [] vs g = absurd g
-all-known (f ∷ fs) (t ∷ ts) vs g = (known f t (vs .0) (g .0), all-known fs ts (vs .1) (g .1))
+all-known : (key : Seen) (fs : List Required) (ts : List (List ℕ)) (vs : Values fs) → GiveAll key fs ts vs → AllKnown fs vs
+all-known key [] ts vs g = tt
+all-known key (f ∷ fs) [] vs g = absurd g
+all-known key (f ∷ fs) (t ∷ ts) vs g = (known f key t (vs .0) (g .0), all-known (see f key (vs .0)) fs ts (vs .1) (g .1))
 
 -- what is known of a mapping that was read
 record Read (k : Kbm) : Type 0 where
@@ -87,7 +87,7 @@ by-values (n, (lowest, (highest, (mid, (ref, (hz, (formal, o))))))) (_, (first, 
     }
 
 mapping-read : {s : List ℕ} {k : Kbm} {es : List Entry} → MappingText s k es → Read k
-mapping-read t = rw (t .mapping) (by-values (t .values) (all-known required (t .lines .first) (t .values) (t .lines .values)) (small-size (t .lines)))
+mapping-read t = rw (t .mapping) (by-values (t .values) (all-known unseen required (t .lines .first) (t .values) (t .lines .values)) (small-size (t .lines)))
 
 -- WHAT WAS READ IS WRITTEN: into so many bytes for the table's places, and as the entries that the text has
 module _ (s : List ℕ) (old : List ℤ) (room : ℕ) (h : 73 + 7 * length old ≤ room) {k : Kbm} (e : readOf (length old) s ≡ gives k)

@@ -1,7 +1,7 @@
 -- A mapping that is built holds the plain list of what was pushed: from a new builder, through any run of pushes, to the build.
 -- Assumes nothing.
 use mathlib.Core.Path.{_≡_, refl, sym, _∙_, ap}
-use mathlib.Core.Bool.{true}
+use mathlib.Core.Bool.{true, false}
 use mathlib.Core.List.{List, []}
 use Prim.Native.Nat.{_+_, _≤_}
 use native.Mathlib.Omega.{arith}
@@ -9,7 +9,7 @@ use lib.IntN.{ℤ}
 use lib.ListN.{length}
 use borrow.Author.Tests.{le-leb}
 use Rattle.base.specs.Said.{gives}
-use Rattle.kbm_build.specs.Builder.{builderOf, withOctave, fitsTable, Built, pushedAll, Appended, built, builtMapping, empty}
+use Rattle.kbm_build.specs.Builder.{builderOf, withOctave, fitsTable, Built, pushedAll, Appended, isBackwards, built, builtMapping, empty}
 use Rattle.kbm.specs.Root.{isRoot}
 use Rattle.kbm.specs.Table.{AreI16, areEntries, entriesOf, isTable, tableOf}
 use Rattle.kbm.specs.declared.Entry.{Entry}
@@ -35,9 +35,10 @@ module _ (root : KbmRoot) (map : List ℤ) where
   empty-entries = refl
 
 -- a build where nothing is at fault
-built-gives : (b : KbmBuilder) (map : List ℤ) (z : ℤ) → fitsTable b map ≡ true → isTable (b .count) map ≡ true → isRoot (b .root) ≡ true → b .count ≤ 65535 → b .octave ≡ Given z → built b map ≡ gives (builtMapping b z)
+built-gives : (b : KbmBuilder) (map : List ℤ) (z : ℤ) → fitsTable b map ≡ true → isTable (b .count) map ≡ true → isRoot (b .root) ≡ true →
+    isBackwards (b .start) (b .end) ≡ false → b .count ≤ 65535 → b .octave ≡ Given z → built b map ≡ gives (builtMapping b z)
 unfolding built
-built-gives b map z f t r n o = rw (f, t, r, o, le-leb (b .count) 65535 n)
+built-gives b map z f t r w n o = rw (f, t, r, o, w, le-leb (b .count) 65535 n)
 
 module _ (root : KbmRoot) (map : List ℤ) (es : List Entry) (octave : ℤ) (r : isRoot root ≡ true) (i : AreI16 es) (room : length es ≤ length map) (small : length es ≤ 65535) where
   pub run : (left : Built) × ((pushedAll (empty root map) map es ≡ gives left) × Appended (empty root map) map es left)
@@ -51,7 +52,8 @@ module _ (root : KbmRoot) (map : List ℤ) (es : List Entry) (octave : ℤ) (r :
       let count : left .builder .count ≡ length es = omega (arith, whole) in
       let places : left .builder .room ≡ length (left .table) = ap (λ b. b .room) (a .counted) ∙ sym (a .places) in
       let fits = fitting (withOctave (left .builder) octave) (left .table) places (omega (arith, count, places, a .places, room)) in
-      let rooted : isRoot (left .builder .root) ≡ true = ap (λ b. isRoot (b .root)) (a .counted) ∙ r in (
-        built-gives (withOctave (left .builder) octave) (left .table) octave fits (a .usable (empty-usable root map)) rooted (omega (arith, count, small)) refl,
+      let rooted : isRoot (left .builder .root) ≡ true = ap (λ b. isRoot (b .root)) (a .counted) ∙ r in
+      let forward : isBackwards (left .builder .start) (left .builder .end) ≡ false = ap (λ b. isBackwards (b .start) (b .end)) (a .counted) in (
+        built-gives (withOctave (left .builder) octave) (left .table) octave fits (a .usable (empty-usable root map)) rooted forward (omega (arith, count, small)) refl,
         a .entries ∙ (rw (empty-entries root map)),
       )

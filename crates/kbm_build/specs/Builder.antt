@@ -1,6 +1,7 @@
 -- A mapping built step by step: document 01, "What is taken", 5: "Builder calls act, push for push, as appending to a plain
 -- list. A push gives 10 by the readers' limits, then 12; a refused push appends nothing. [..] A build gives 15, then 13".
--- A state that does not fit its lent table gives 10 first. Assumes nothing.
+-- Document 02, W8: "Refuse a mapping whose last key is below its first [..]: 25 [..]; in a builder, detail 0, after 15 and before 13". A
+-- state that does not fit its lent table gives 10 first. Assumes nothing.
 use mathlib.Core.Bool.{Bool, true, _&&_}
 use mathlib.Core.Path.{_≡_}
 use mathlib.Core.List.{List, [], _∷_, _++_}
@@ -9,7 +10,8 @@ use Prim.Native.Nat.{ℕ, _+_, _≤_}
 use lib.Dec.{eqb, leb, ltb}
 use lib.IntN.{ℤ, pos}
 use lib.ListN.{length, drop, set}
-use Rattle.base.specs.Numbers.{unusable, no-room, too-large, formal-octave-missing}
+use lib.Signed.{leZ, _≤ℤ_, _<ℤ_}
+use Rattle.base.specs.Numbers.{unusable, no-room, too-large, formal-octave-missing, backwards-range}
 use Rattle.base.specs.Said.{Said, gives, refuses, pick, andThen}
 use Rattle.key.specs.Keys.{key}
 use Rattle.key.specs.declared.PianoKey.{PianoKey}
@@ -86,19 +88,24 @@ pub record Appended (b : KbmBuilder) (map : List ℤ) (es : List Entry) (left : 
 abbrev pub isReady : KbmBuilder → List ℤ → Bool
 isReady b map = fitsTable b map && (isTable (b .count) map && isRoot (b .root))
 
--- 13 over 65,535 entries
+-- the last key, the one before the end, is below the first: no key is in the range
+abbrev pub isBackwards : PianoKey → PianoKey → Bool
+isBackwards start end = leZ (end .0) (start .0)
+
+-- 25 for a backwards range, then 13 over 65,535 entries
 abbrev pub kbmWith : KbmBuilder → ℤ → Said Kbm
 kbmWith b octave =
-    pick (leb (b .count) 65535)
+    pick (isBackwards (b .start) (b .end)) (refuses backwards-range 0)
+    (pick (leb (b .count) 65535)
     (gives (record { root = b .root; start = b .start; end = b .end; octave = octave; count = b .count }))
-    (refuses too-large 0)
+    (refuses too-large 0))
 
 -- 15 for entries and no formal octave; with neither the octave is 0
 abbrev pub kbmOf : KbmBuilder → Octave → Said Kbm
 kbmOf b (Given octave) = kbmWith b octave
 kbmOf b Missing = pick (ltb 0 (b .count)) (refuses formal-octave-missing 0) (kbmWith b (pos 0))
 
--- a build: 10, then 15, then 13
+-- a build: 10, then 15, then 25, then 13
 unfoldable pub built : KbmBuilder → List ℤ → Said Kbm
 built b map = pick (isReady b map) (kbmOf b (b .octave)) (refuses unusable 0)
 
@@ -109,10 +116,17 @@ OctaveIs b z = (b .octave ≡ Given z) ⊎ ((b .octave ≡ Missing) × ((b .coun
 abbrev pub builtMapping : KbmBuilder → ℤ → Kbm
 builtMapping b z = record { root = b .root; start = b .start; end = b .end; octave = z; count = b .count }
 
+-- "in a builder, detail 0, after 15 and before 13": neither 10 nor 15 is to be said, and the last key is below the first
+pub record BackwardsBuild (b : KbmBuilder) (map : List ℤ) : Type 0 where
+  pub ready : isReady b map ≡ true
+  pub octave : (z : ℤ) × OctaveIs b z
+  pub range : b .end .0 ≤ℤ b .start .0
+
 -- what an accepted build leaves: a mapping that passes every later test, with the fields that were asked for
 pub record Leaves (b : KbmBuilder) (map : List ℤ) (kbm : Kbm) : Type 0 where
   pub table : isTable (kbm .count) map ≡ true
   pub root : isRoot (kbm .root) ≡ true
   pub small : kbm .count ≤ 65535
+  pub forward : kbm .start .0 <ℤ kbm .end .0
   pub octave : OctaveIs b (kbm .octave)
   pub same : kbm ≡ builtMapping b (kbm .octave)

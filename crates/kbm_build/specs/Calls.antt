@@ -7,7 +7,7 @@ use Prim.Native.Nat.{ℕ}
 use lib.Dec.{leb, ltb}
 use lib.IntN.{ℤ, pos}
 use lib.ListN.{length, drop}
-use Rattle.base.specs.Numbers.{no-room, too-large, formal-octave-missing}
+use Rattle.base.specs.Numbers.{no-room, too-large, formal-octave-missing, backwards-range}
 use Rattle.base.specs.Said.{Said, gives, refuses, pick}
 use Rattle.key.specs.Keys.{key}
 use Rattle.key.specs.declared.PianoKey.{PianoKey}
@@ -15,7 +15,7 @@ use Rattle.kbm.specs.Table.{IsI16, isTable, tableOf}
 use Rattle.kbm.specs.declared.Entry.{Entry}
 use Rattle.kbm.specs.declared.Kbm.{Kbm}
 use Rattle.kbm.specs.declared.KbmRoot.{KbmRoot}
-use Rattle.kbm_build.specs.Builder.{withRange, withOctave, pushed, afterPush, Built, built}
+use Rattle.kbm_build.specs.Builder.{withRange, withOctave, pushed, afterPush, Built, isBackwards, built}
 use Rattle.kbm_build.specs.declared.KbmBuilder.{KbmBuilder}
 use Rattle.kbm_build.specs.declared.Octave.{Octave}
 use Rattle.kbm_build.specs.declared.Octave.the-variants.{Given, Missing}
@@ -87,12 +87,14 @@ entriesPushed (Call.range start end ∷ cs) = entriesPushed cs
 entriesPushed (Call.octave z ∷ cs) = entriesPushed cs
 entriesPushed (Call.push e ∷ cs) = e ∷ entriesPushed cs
 
--- the mapping of a plain list: 15 for entries and no formal octave, 13 over 65,535 entries; with neither the octave is 0
+-- the mapping of a plain list: 15 for entries and no formal octave, 25 for a backwards range, 13 over 65,535 entries; with neither
+-- entries nor formal octave the octave is 0
 abbrev pub plainWith : Plain → ℤ → Said Kbm
 plainWith p z =
-    pick (leb (length (p .entries)) 65535)
+    pick (isBackwards (p .start) (p .end)) (refuses backwards-range 0)
+    (pick (leb (length (p .entries)) 65535)
     (gives (record { root = p .root; start = p .start; end = p .end; octave = z; count = length (p .entries) }))
-    (refuses too-large 0)
+    (refuses too-large 0))
 
 abbrev pub plainBuilt : Plain → Octave → Said Kbm
 plainBuilt p (Given z) = plainWith p z

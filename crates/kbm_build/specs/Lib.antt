@@ -1,3 +1,4 @@
 pub mod Builder
 pub mod Answers
 pub mod Calls
+pub mod Samples

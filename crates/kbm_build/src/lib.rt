@@ -1,4 +1,4 @@
-// A mapping built step by step beside a lent table: the Rust's `KbmBuilder`. Document 01, "What is taken", 5.
+// A mapping built step by step beside a lent table: the Rust's `KbmBuilder`. Document 01, "What is taken", 5; document 02, W8.
 //
 // The state goes by value. It fits a table of `room` places, of which it has filled `count`; with any other table it is
 // refused (10). A refused push leaves the table as it was. `new(root, &map)`, then `push_mapped_key(&mut map, 0)`, then
@@ -47,6 +47,12 @@ const TOO_MANY: Refusal = Refusal {
     detail: 0,
 };
 
+// 25: the end is not above the start, so the last key is below the first.
+const BACKWARDS: Refusal = Refusal {
+    number: base::BACKWARDS_RANGE,
+    detail: 0,
+};
+
 // 15: entries, and no formal octave.
 const NO_OCTAVE: Refusal = Refusal {
     number: base::FORMAL_OCTAVE_MISSING,
@@ -71,7 +77,7 @@ impl KbmBuilder {
         BuilderAnswer::Refused(kbm::NOT_USABLE)
     }
 
-    // The same for keys from `start` up to, not including, `end`.
+    // The same for keys from `start` up to, not including, `end`; a build refuses an `end` that is not above `start` (25).
     pub fn range(mut self, start: PianoKey, end: PianoKey) -> KbmBuilder
         ensures { λ r. ⌜ r ≡ withRange self start end ⌝ }
     {
@@ -146,7 +152,7 @@ impl KbmBuilder {
         false
     }
 
-    // The mapping with a formal octave; 13 over 65,535 entries.
+    // The mapping with a formal octave; 25 where the last key is below the first, then 13 over 65,535 entries.
     fn finish(self, octave: i16) -> KbmAnswer
         ensures { λ r. ⌜ saysKbm r ≡ kbmWith self octave ⌝ }
     {
@@ -154,6 +160,9 @@ impl KbmBuilder {
         let start = self.start;
         let end = self.end;
         let count = self.count;
+        if end.0 <= start.0 {
+            return KbmAnswer::Refused(BACKWARDS);
+        }
         if count <= 65535 {
             return KbmAnswer::Is(Kbm {
                 root,
@@ -166,7 +175,7 @@ impl KbmBuilder {
         KbmAnswer::Refused(TOO_MANY)
     }
 
-    // The mapping: 10 where state, table or root cannot be used, 15 for entries and no formal octave, 13.
+    // The mapping: 10 where state, table or root cannot be used, 15 for entries and no formal octave, 25, 13.
     pub fn build(self, map: &[i32]) -> KbmAnswer
         ensures { λ r. ⌜ saysKbm r ≡ built self (now (map .entry)) ⌝ }
     {

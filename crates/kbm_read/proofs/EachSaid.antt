@@ -24,6 +24,7 @@ each-said =
       unusable = refl;
       overflow = refl;
       no-room = refl;
+      backwards = refl;
       no-size = refl;
       no-first = refl;
       no-last = refl;

@@ -3,17 +3,13 @@
 use mathlib.Core.Path.{_≡_, refl, sym, _∙_, ap}
 use mathlib.Core.Bool.{Bool, true, false}
 use mathlib.Core.List.{List}
-use mathlib.Core.Logic.{_⊎_, inl, inr}
-use Prim.Native.Nat.{ℕ, zero, suc, _^_, _<_}
-use native.Mathlib.Omega.{arith}
+use mathlib.Core.Logic.{inl, inr}
+use Prim.Native.Nat.{ℕ, _^_}
 use lib.Dec.{lit<}
 use lib.Ieee.{Float}
-use lib.IntN.{ℤ, pos, natAbs, negℤ}
-use lib.Signed.{leZ}
-use borrow.Author.Tests.{leb-true}
-use Rattle.base.specs.Numbers.{int-value, float-value, unusable, overflow}
+use lib.IntN.{pos, natAbs}
+use Rattle.base.specs.Numbers.{int-value, float-value, unusable}
 use Rattle.base.specs.Said.{Said, gives, refuses, pick, andThen}
-use Rattle.base.proofs.Pick.{true-not-false}
 use Rattle.base.proofs.Said.{same-value, no-value, no-refusal, same-refuses}
 use Rattle.floats.specs.Ranges.{inPitch}
 use Rattle.decimals.proofs.Language.{gives-sound, gives-complete, leaves-sound, leaves-complete, refuses-sound, refuses-complete}
@@ -23,67 +19,26 @@ use Rattle.decimals.specs.DecimalScan.{readDecimal}
 use Rattle.decimals.specs.DecimalText.{DecimalText}
 use Rattle.integers.specs.AtLine.{intAt}
 use Rattle.integers.specs.Integer.{readInt}
-use Rattle.integers.specs.IntegerText.{IntText}
 use Rattle.decimals.specs.declared.DecimalAnswer.{DecimalAnswer}
 use Rattle.decimals.specs.declared.DecimalAnswer.the-variants as decimal
-use Rattle.kbm_read.specs.Language.{Required, Value, Gives, Wrong}
+use Rattle.kbm_read.specs.Language.{Required, Seen, Value, Gives, Wrong}
+use Rattle.kbm_read.proofs.LastKey.{lastKeyAt, last-gives, gives-last, last-refuses, backwards-said}
 
--- the last key, where it is not the largest; the pitch, where it is in its range
-abbrev pub lastKeyAt : ℕ → ℤ → Said ℤ
-lastKeyAt k z = pick (leZ (pos 2147483647) z) (refuses overflow k) (gives z)
-
+-- the pitch, where it is in its range
 abbrev pub pitchOf : ℕ → Float → Said Float
 pitchOf k v = pick (inPitch v) (gives v) (refuses unusable k)
 
--- what the token t of line k is, as a required line
-abbrev pub readAs : (f : Required) → ℕ → List ℕ → Said (Value f)
-readAs Required.size k t = andThen (intAt int-value k (readInt false (2 ^ 16) t)) (λ z. gives (natAbs z))
-readAs Required.first k t = andThen (intAt int-value k (readInt true (2 ^ 31) t)) (λ z. gives z)
-readAs Required.last k t = andThen (intAt int-value k (readInt true (2 ^ 31) t)) (lastKeyAt k)
-readAs Required.middle k t = andThen (intAt int-value k (readInt true (2 ^ 15) t)) (λ z. gives z)
-readAs Required.reference k t = andThen (intAt int-value k (readInt true (2 ^ 15) t)) (λ z. gives z)
-readAs Required.pitch k t = andThen (saysDecimal float-value k (readDecimal t)) (pitchOf k)
-readAs Required.octave k t = andThen (intAt int-value k (readInt true (2 ^ 15) t)) (λ z. gives z)
+-- what the token t of line k is, as a required line, after that first key
+abbrev pub readAs : (f : Required) → Seen → ℕ → List ℕ → Said (Value f)
+readAs Required.size key k t = andThen (intAt int-value k (readInt false (2 ^ 16) t)) (λ z. gives (natAbs z))
+readAs Required.first key k t = andThen (intAt int-value k (readInt true (2 ^ 31) t)) (λ z. gives z)
+readAs Required.last key k t = andThen (intAt int-value k (readInt true (2 ^ 31) t)) (lastKeyAt key k)
+readAs Required.middle key k t = andThen (intAt int-value k (readInt true (2 ^ 15) t)) (λ z. gives z)
+readAs Required.reference key k t = andThen (intAt int-value k (readInt true (2 ^ 15) t)) (λ z. gives z)
+readAs Required.pitch key k t = andThen (saysDecimal float-value k (readDecimal t)) (pitchOf k)
+readAs Required.octave key k t = andThen (intAt int-value k (readInt true (2 ^ 15) t)) (λ z. gives z)
 
--- the largest key
-largest : (z : ℤ) → leZ (pos 2147483647) z ≡ false → z ≡ pos 2147483647 → ⊥
-largest z f e = true-not-false (rw e at f)
-
--- a key of 32 bits is at most the largest
-top-key : (n : ℕ) → n < 2 ^ 31 → leZ (pos 2147483647) (pos n) ≡ true → pos n ≡ pos 2147483647
-top-key n h f = let l = leb-true 2147483647 n f in let e : n ≡ 2147483647 = omega arith in ap pos e
-
-below-key : (n : ℕ) → leZ (pos 2147483647) (negℤ (pos n)) ≡ true → ⊥
-below-key zero f = true-not-false (sym f)
-below-key (suc n) f = true-not-false (sym f)
-
-over-largest : (t : List ℕ) (z : ℤ) → IntText true (2 ^ 31) t z → leZ (pos 2147483647) z ≡ true → z ≡ pos 2147483647
-over-largest t z (IntText.plain n d h e) f = e ∙ top-key n h (rw e at f)
-over-largest t z (IntText.plus s n p d h e) f = e ∙ top-key n h (rw e at f)
-over-largest t z (IntText.minus s n g p d h e) f = absurd (below-key n (rw e at f))
-
--- the last key and the pitch, tested
-last-gives : (k : ℕ) (z v : ℤ) → lastKeyAt k z ≡ gives v → (z ≡ v) × (z ≡ pos 2147483647 → ⊥)
-last-gives k z v e = go (leZ (pos 2147483647) z) refl e
-  where
-    go : (b : Bool) → leZ (pos 2147483647) z ≡ b → pick b (refuses overflow k) (gives z) ≡ gives v → (z ≡ v) × (z ≡ pos 2147483647 → ⊥)
-    go true p q = no-value q
-    go false p q = (same-value z v q, largest z p)
-
-gives-last : (k : ℕ) (t : List ℕ) (z : ℤ) → IntText true (2 ^ 31) t z → (z ≡ pos 2147483647 → ⊥) → lastKeyAt k z ≡ gives z
-gives-last k t z i n = go (leZ (pos 2147483647) z) refl
-  where
-    go : (b : Bool) → leZ (pos 2147483647) z ≡ b → pick b (refuses overflow k) (gives z) ≡ gives z
-    go true p = absurd (n (over-largest t z i p))
-    go false p = refl
-
-last-refuses : (k : ℕ) (t : List ℕ) (z : ℤ) {n d : ℕ} → IntText true (2 ^ 31) t z → lastKeyAt k z ≡ refuses n d → (d ≡ k) × (n ≡ overflow) × IntText true (2 ^ 31) t (pos 2147483647)
-last-refuses k t z {n} {d} i e = go (leZ (pos 2147483647) z) refl e
-  where
-    go : (b : Bool) → leZ (pos 2147483647) z ≡ b → pick b (refuses overflow k) (gives z) ≡ refuses n d → (d ≡ k) × (n ≡ overflow) × IntText true (2 ^ 31) t (pos 2147483647)
-    go true p q = let r = same-refuses q in (sym (r .1), sym (r .0), rw (over-largest t z i p) at i)
-    go false p q = no-refusal q
-
+-- the pitch, tested
 pitch-gives : (k : ℕ) (u v : Float) → pitchOf k u ≡ gives v → (u ≡ v) × (inPitch u ≡ true)
 pitch-gives k u v e = go (inPitch u) refl e
   where
@@ -99,61 +54,62 @@ pitch-refuses k u {n} {d} e = go (inPitch u) refl e
     go false p q = let r = same-refuses q in (sym (r .1), sym (r .0), p)
 
 -- A VALUE IS READ exactly if the token gives it
-pub read-gives : (f : Required) (k : ℕ) (t : List ℕ) (v : Value f) → readAs f k t ≡ gives v → Gives f t v
-read-gives Required.size k t v e =
+pub read-gives : (f : Required) (key : Seen) (k : ℕ) (t : List ℕ) (v : Value f) → readAs f key k t ≡ gives v → Gives f key t v
+read-gives Required.size key k t v e =
     let r = int-gives int-value false (2 ^ 16) (lit< tt) k t (λ z. gives (natAbs z)) e in
     let n : natAbs (r .0) ≡ v = same-value (natAbs (r .0)) v (r .2) in
     rw (sym (ap pos n) ∙ unsigned (2 ^ 16) t (r .0) (r .1)) (r .1)
-read-gives Required.first k t v e = int-is int-value true (2 ^ 31) (lit< tt) k t v e
-read-gives Required.last k t v e =
-    let r = int-gives int-value true (2 ^ 31) (lit< tt) k t (lastKeyAt k) e in
-    let p = last-gives k (r .0) v (r .2) in
-    rw (sym (p .0)) (r .1, p .1)
-read-gives Required.middle k t v e = int-is int-value true (2 ^ 15) (lit< tt) k t v e
-read-gives Required.reference k t v e = int-is int-value true (2 ^ 15) (lit< tt) k t v e
-read-gives Required.pitch k t v e = go (readDecimal t) refl e
+read-gives Required.first key k t v e = int-is int-value true (2 ^ 31) (lit< tt) k t v e
+read-gives Required.last key k t v e =
+    let r = int-gives int-value true (2 ^ 31) (lit< tt) k t (lastKeyAt key k) e in
+    let p = last-gives key k (r .0) v (r .2) in
+    rw (sym (p .0)) (r .1, p .1, p .2)
+read-gives Required.middle key k t v e = int-is int-value true (2 ^ 15) (lit< tt) k t v e
+read-gives Required.reference key k t v e = int-is int-value true (2 ^ 15) (lit< tt) k t v e
+read-gives Required.pitch key k t v e = go (readDecimal t) refl e
   where
     go : (x : DecimalAnswer) → readDecimal t ≡ x → andThen (saysDecimal float-value k x) (pitchOf k) ≡ gives v → DecimalText t v × (inPitch v ≡ true)
     go (decimal.Is u) p q = let g = pitch-gives k u v q in rw (sym (g .0)) (gives-sound t u p, g .1)
     go decimal.Unsupported p q = no-value q
     go decimal.Bad p q = no-value q
-read-gives Required.octave k t v e = int-is int-value true (2 ^ 15) (lit< tt) k t v e
+read-gives Required.octave key k t v e = int-is int-value true (2 ^ 15) (lit< tt) k t v e
 
-pub gives-read : (f : Required) (k : ℕ) (t : List ℕ) (v : Value f) → Gives f t v → readAs f k t ≡ gives v
-gives-read Required.size k t v g = gives-int int-value false (2 ^ 16) (lit< tt) k t (λ z. gives (natAbs z)) g
-gives-read Required.first k t v g = gives-int int-value true (2 ^ 31) (lit< tt) k t (λ z. gives z) g
-gives-read Required.last k t v g = gives-int int-value true (2 ^ 31) (lit< tt) k t (lastKeyAt k) (g .0) ∙ gives-last k t v (g .0) (g .1)
-gives-read Required.middle k t v g = gives-int int-value true (2 ^ 15) (lit< tt) k t (λ z. gives z) g
-gives-read Required.reference k t v g = gives-int int-value true (2 ^ 15) (lit< tt) k t (λ z. gives z) g
-gives-read Required.pitch k t v g = rw (gives-complete t v (g .0), g .1)
-gives-read Required.octave k t v g = gives-int int-value true (2 ^ 15) (lit< tt) k t (λ z. gives z) g
+pub gives-read : (f : Required) (key : Seen) (k : ℕ) (t : List ℕ) (v : Value f) → Gives f key t v → readAs f key k t ≡ gives v
+gives-read Required.size key k t v g = gives-int int-value false (2 ^ 16) (lit< tt) k t (λ z. gives (natAbs z)) g
+gives-read Required.first key k t v g = gives-int int-value true (2 ^ 31) (lit< tt) k t (λ z. gives z) g
+gives-read Required.last key k t v g = gives-int int-value true (2 ^ 31) (lit< tt) k t (lastKeyAt key k) (g .0) ∙ gives-last key k (g .0) (g .1) (g .2)
+gives-read Required.middle key k t v g = gives-int int-value true (2 ^ 15) (lit< tt) k t (λ z. gives z) g
+gives-read Required.reference key k t v g = gives-int int-value true (2 ^ 15) (lit< tt) k t (λ z. gives z) g
+gives-read Required.pitch key k t v g = rw (gives-complete t v (g .0), g .1)
+gives-read Required.octave key k t v g = gives-int int-value true (2 ^ 15) (lit< tt) k t (λ z. gives z) g
 
 -- IT IS REFUSED, at its line, exactly with the number that it draws
-pub read-wrong : (f : Required) (k : ℕ) (t : List ℕ) (n d : ℕ) → readAs f k t ≡ refuses n d → (d ≡ k) × Wrong f t n
-read-wrong Required.size k t n d e = int-wrong int-value false (2 ^ 16) (lit< tt) k t natAbs e
-read-wrong Required.first k t n d e = int-wrong int-value true (2 ^ 31) (lit< tt) k t (λ z. z) e
-read-wrong Required.last k t n d e = elim (int-refuses int-value true (2 ^ 31) (lit< tt) k t (lastKeyAt k) e) [
+pub read-wrong : (f : Required) (key : Seen) (k : ℕ) (t : List ℕ) (n d : ℕ) → readAs f key k t ≡ refuses n d → (d ≡ k) × Wrong f key t n
+read-wrong Required.size key k t n d e = int-wrong int-value false (2 ^ 16) (lit< tt) k t natAbs e
+read-wrong Required.first key k t n d e = int-wrong int-value true (2 ^ 31) (lit< tt) k t (λ z. z) e
+read-wrong Required.last key k t n d e = elim (int-refuses int-value true (2 ^ 31) (lit< tt) k t (lastKeyAt key k) e) [
   | inl w ↦ (w .0, inl (w .1))
-  | inr w ↦ let l = last-refuses k t (w .0) (w .1) (w .2) in (l .0, inr (l .1, l .2))
+  | inr w ↦ let l = last-refuses key k (w .1) (w .2) in (l .0, inr (l .1))
 ]
-read-wrong Required.middle k t n d e = int-wrong int-value true (2 ^ 15) (lit< tt) k t (λ z. z) e
-read-wrong Required.reference k t n d e = int-wrong int-value true (2 ^ 15) (lit< tt) k t (λ z. z) e
-read-wrong Required.pitch k t n d e = go (readDecimal t) refl e
+read-wrong Required.middle key k t n d e = int-wrong int-value true (2 ^ 15) (lit< tt) k t (λ z. z) e
+read-wrong Required.reference key k t n d e = int-wrong int-value true (2 ^ 15) (lit< tt) k t (λ z. z) e
+read-wrong Required.pitch key k t n d e = go (readDecimal t) refl e
   where
-    go : (x : DecimalAnswer) → readDecimal t ≡ x → andThen (saysDecimal float-value k x) (pitchOf k) ≡ refuses n d → (d ≡ k) × Wrong Required.pitch t n
+    go : (x : DecimalAnswer) → readDecimal t ≡ x → andThen (saysDecimal float-value k x) (pitchOf k) ≡ refuses n d → (d ≡ k) × Wrong Required.pitch key t n
     go (decimal.Is u) p q = let g = pitch-refuses k u q in (g .0, inr (inr (g .1, u, gives-sound t u p, g .2)))
     go decimal.Unsupported p q = let r = same-refuses q in (sym (r .1), inr (inl (sym (r .0), leaves-sound t p)))
     go decimal.Bad p q = let r = same-refuses q in (sym (r .1), inl (sym (r .0), refuses-sound t p))
-read-wrong Required.octave k t n d e = int-wrong int-value true (2 ^ 15) (lit< tt) k t (λ z. z) e
+read-wrong Required.octave key k t n d e = int-wrong int-value true (2 ^ 15) (lit< tt) k t (λ z. z) e
 
-pub wrong-read : (f : Required) (k : ℕ) (t : List ℕ) (n : ℕ) → Wrong f t n → readAs f k t ≡ refuses n k
-wrong-read Required.size k t n w = refuses-int int-value false (2 ^ 16) (lit< tt) k t (λ z. gives (natAbs z)) w
-wrong-read Required.first k t n w = refuses-int int-value true (2 ^ 31) (lit< tt) k t (λ z. gives z) w
-wrong-read Required.last k t n (inl w) = refuses-int int-value true (2 ^ 31) (lit< tt) k t (lastKeyAt k) w
-wrong-read Required.last k t n (inr w) = rw (w .0) (gives-int int-value true (2 ^ 31) (lit< tt) k t (lastKeyAt k) (w .1))
-wrong-read Required.middle k t n w = refuses-int int-value true (2 ^ 15) (lit< tt) k t (λ z. gives z) w
-wrong-read Required.reference k t n w = refuses-int int-value true (2 ^ 15) (lit< tt) k t (λ z. gives z) w
-wrong-read Required.pitch k t n (inl w) = rw (w .0, refuses-complete t (w .1))
-wrong-read Required.pitch k t n (inr (inl w)) = rw (w .0, leaves-complete t (w .1))
-wrong-read Required.pitch k t n (inr (inr w)) = rw (w .0, gives-complete t (w .1) (w .2), w .3)
-wrong-read Required.octave k t n w = refuses-int int-value true (2 ^ 15) (lit< tt) k t (λ z. gives z) w
+pub wrong-read : (f : Required) (key : Seen) (k : ℕ) (t : List ℕ) (n : ℕ) → Wrong f key t n → readAs f key k t ≡ refuses n k
+wrong-read Required.size key k t n w = refuses-int int-value false (2 ^ 16) (lit< tt) k t (λ z. gives (natAbs z)) w
+wrong-read Required.first key k t n w = refuses-int int-value true (2 ^ 31) (lit< tt) k t (λ z. gives z) w
+wrong-read Required.last key k t n (inl w) = refuses-int int-value true (2 ^ 31) (lit< tt) k t (lastKeyAt key k) w
+wrong-read Required.last key k t n (inr (inl w)) = rw (w .0) (gives-int int-value true (2 ^ 31) (lit< tt) k t (lastKeyAt key k) (w .1))
+wrong-read Required.last key k t n (inr (inr w)) = gives-int int-value true (2 ^ 31) (lit< tt) k t (lastKeyAt key k) (w .2) ∙ backwards-said key k w
+wrong-read Required.middle key k t n w = refuses-int int-value true (2 ^ 15) (lit< tt) k t (λ z. gives z) w
+wrong-read Required.reference key k t n w = refuses-int int-value true (2 ^ 15) (lit< tt) k t (λ z. gives z) w
+wrong-read Required.pitch key k t n (inl w) = rw (w .0, refuses-complete t (w .1))
+wrong-read Required.pitch key k t n (inr (inl w)) = rw (w .0, leaves-complete t (w .1))
+wrong-read Required.pitch key k t n (inr (inr w)) = rw (w .0, gives-complete t (w .1) (w .2), w .3)
+wrong-read Required.octave key k t n w = refuses-int int-value true (2 ^ 15) (lit< tt) k t (λ z. gives z) w

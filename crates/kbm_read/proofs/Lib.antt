@@ -1,11 +1,15 @@
 pub mod Finishes
 pub mod Fills
 pub mod Leaves
+pub mod LastKey
 pub mod Fields
 pub mod EntryTexts
 pub mod Stands
 pub mod Ends
 pub mod Language
+pub mod Backwards
+pub mod Forward
+pub mod Swapped
 pub mod Tables
 pub mod Theorems
 pub mod Samples

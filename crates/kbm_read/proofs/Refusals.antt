@@ -11,14 +11,14 @@ use Rattle.listing.specs.Refusals.{OneOf}
 use Rattle.listing.proofs.Details.{each-one}
 use Rattle.listing.proofs.Refusals.{DrawnAt, drawn-at}
 use Rattle.text.specs.Reading.{strict}
-use Rattle.kbm_read.specs.Language.{Required, required, Wrong, NoEntry, mapping, Values, sizeOf, WrongEnd, FaultText}
+use Rattle.kbm_read.specs.Language.{Required, Seen, required, Wrong, NoEntry, mapping, Values, sizeOf, WrongEnd, FaultText}
 use Rattle.kbm_read.specs.Reader.{readOf}
 use Rattle.kbm_read.specs.Refusals.{MayRefuse}
 use Rattle.kbm_read.proofs.Language.{refuses-fault}
 
 -- ---- THE NUMBERS OF A LINE, and those after the last
 abbrev Line : ℕ → Type 0
-Line = OneOf (1 ∷ 3 ∷ 7 ∷ 8 ∷ 9 ∷ 10 ∷ 11 ∷ 12 ∷ [])
+Line = OneOf (1 ∷ 3 ∷ 7 ∷ 8 ∷ 9 ∷ 10 ∷ 11 ∷ 12 ∷ 25 ∷ [])
 
 abbrev Last : ℕ → Type 0
 Last = OneOf (12 ∷ 13 ∷ 14 ∷ [])
@@ -26,17 +26,18 @@ Last = OneOf (12 ∷ 13 ∷ 14 ∷ [])
 full : Line 12
 full = inr (inr (inr (inr (inr (inr (inr (inl refl)))))))
 
-wrong-line : (f : Required) (t : List ℕ) (n : ℕ) → Wrong f t n → Line n
-wrong-line Required.size t n e = inr (inl (e .0))
-wrong-line Required.first t n e = inr (inl (e .0))
-wrong-line Required.last t n (inl e) = inr (inl (e .0))
-wrong-line Required.last t n (inr e) = inr (inr (inr (inr (inr (inr (inl (e .0)))))))
-wrong-line Required.middle t n e = inr (inl (e .0))
-wrong-line Required.reference t n e = inr (inl (e .0))
-wrong-line Required.pitch t n (inl e) = inr (inr (inl (e .0)))
-wrong-line Required.pitch t n (inr (inl e)) = inr (inr (inr (inr (inl (e .0)))))
-wrong-line Required.pitch t n (inr (inr e)) = inr (inr (inr (inr (inr (inl (e .0))))))
-wrong-line Required.octave t n e = inr (inl (e .0))
+wrong-line : (f : Required) (key : Seen) (t : List ℕ) (n : ℕ) → Wrong f key t n → Line n
+wrong-line Required.size key t n e = inr (inl (e .0))
+wrong-line Required.first key t n e = inr (inl (e .0))
+wrong-line Required.last key t n (inl e) = inr (inl (e .0))
+wrong-line Required.last key t n (inr (inl e)) = inr (inr (inr (inr (inr (inr (inl (e .0)))))))
+wrong-line Required.last key t n (inr (inr e)) = inr (inr (inr (inr (inr (inr (inr (inr (inl (e .0)))))))))
+wrong-line Required.middle key t n e = inr (inl (e .0))
+wrong-line Required.reference key t n e = inr (inl (e .0))
+wrong-line Required.pitch key t n (inl e) = inr (inr (inl (e .0)))
+wrong-line Required.pitch key t n (inr (inl e)) = inr (inr (inr (inr (inl (e .0)))))
+wrong-line Required.pitch key t n (inr (inr e)) = inr (inr (inr (inr (inr (inl (e .0))))))
+wrong-line Required.octave key t n e = inr (inl (e .0))
 
 bad-line : (t : List ℕ) (n : ℕ) → NoEntry t n → Line n
 bad-line t n e = inr (inr (inr (inl (e .0))))
@@ -64,7 +65,7 @@ module _ {room : ℕ} {s : List ℕ} {n d : ℕ} (t : FaultText room s n d) wher
 
   pub fault-listed : MayRefuse s n d
   fault-listed =
-      go (drawn-at mapping End Line Last (inl refl) full (λ f s. wrong-line f) bad-line (λ vs. wrong-end room (sizeOf vs)) (t .fault))
+      go (drawn-at mapping End Line Last (inl refl) full wrong-line bad-line (λ vs. wrong-end room (sizeOf vs)) (t .fault))
     where
       go : DrawnAt mapping End Line Last (length (t .says)) n d → MayRefuse s n d
       go (DrawnAt.at-line l a b) =

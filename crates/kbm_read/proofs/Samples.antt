@@ -36,6 +36,24 @@ example =
       count = 3;
     }
 
+-- `60` and LF; the digits `214748364`
+abbrev sixty : List ℕ
+sixty = 54 ∷ 48 ∷ 10 ∷ []
+
+abbrev top : List ℕ
+top = 50 ∷ 49 ∷ 52 ∷ 55 ∷ 52 ∷ 56 ∷ 51 ∷ 54 ∷ 52 ∷ []
+
+-- no entries, key 60 alone, at 8 Hz
+abbrev oneKey : Kbm
+oneKey =
+    record {
+      root = record { reference = key (pos 60); pitch = record { 0 = ofBits binary64 0x4020_0000_0000_0000 }; offset = pos 0 };
+      start = key (pos 60);
+      end = key (pos 61);
+      octave = pos 0;
+      count = 0;
+    }
+
 pub record Samples : Type 0 where
   -- with `0`, `X` after them it is read, and one entry is added as unmapped
   pub mapping : readOf 8 (seven ++ 48 ∷ 10 ∷ 88 ∷ 10 ∷ []) ≡ gives example
@@ -50,6 +68,15 @@ pub record Samples : Type 0 where
   pub bad-first : readOf 8 (seven ++ 48 ∷ 10 ∷ 48 ∷ 10 ∷ 48 ∷ 10 ∷ 48 ∷ 10 ∷ 121 ∷ []) ≡ refuses 8 12
   -- a text without lines lacks the first required line
   pub nothing : readOf 8 [] ≡ refuses 2 1
+  -- the arranger's keys, `60` and `59`: 25 at the last key's line, though the next line is bad, the last is no UTF-8, and there is no room;
+  -- `!`, `1`, a blank line, `5`, `!`, `4`: at line 6
+  pub swapped : readOf 0 (49 ∷ 10 ∷ sixty ++ 53 ∷ 57 ∷ 10 ∷ 121 ∷ 10 ∷ 255 ∷ []) ≡ refuses 25 3
+  pub later : readOf 8 (33 ∷ 10 ∷ 49 ∷ 10 ∷ 10 ∷ 53 ∷ 10 ∷ 33 ∷ 10 ∷ 52 ∷ 10 ∷ []) ≡ refuses 25 6
+  -- `60` and `60` are one key, and stay
+  pub one-key : readOf 0 (48 ∷ 10 ∷ sixty ++ sixty ++ sixty ++ sixty ++ 56 ∷ 10 ∷ 48 ∷ []) ≡ gives oneKey
+  -- from the largest key to itself is 11, to the one before it 25
+  pub largest : readOf 0 (48 ∷ 10 ∷ top ++ 55 ∷ 10 ∷ top ++ 55 ∷ []) ≡ refuses 11 3
+  pub under-largest : readOf 0 (48 ∷ 10 ∷ top ++ 55 ∷ 10 ∷ top ++ 54 ∷ []) ≡ refuses 25 3
 
 pub samples : Samples
 unfolding lines meaningBy meanings tokenLength widthBy run leadOf utf8Step utf8.utf8From scan magnitudeOf readSigned numerals.digitRunOf spelled scanOf readDecimal entryIn takeToken finished walkLines givenAfter blanks round ofBits le
@@ -63,4 +90,9 @@ samples =
       too-many = refl;
       bad-first = refl;
       nothing = refl;
+      swapped = refl;
+      later = refl;
+      one-key = refl;
+      largest = refl;
+      under-largest = refl;
     }

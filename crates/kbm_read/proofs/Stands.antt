@@ -10,7 +10,7 @@ use lib.Ieee.{Float}
 use lib.IntN.{ℤ, pos, natAbs, _+ℤ_}
 use lib.ListN.{length, length-append}
 use lib.Signed.{leZ}
-use Rattle.base.specs.Numbers.{int-value, line-missing, float-value, keyboard-mapping, unusable, overflow, no-room, too-large, inconsistent-count}
+use Rattle.base.specs.Numbers.{int-value, line-missing, float-value, keyboard-mapping, unusable, overflow, no-room, too-large, inconsistent-count, backwards-range}
 use Rattle.base.specs.Said.{Said, gives, refuses, pick, andThen}
 use Rattle.floats.specs.Ranges.{inPitch}
 use Rattle.kbm.specs.declared.Entry.{Entry}
@@ -26,7 +26,7 @@ use Rattle.listing.proofs.Given as walks
 use Rattle.listing.proofs.Language.{atStart}
 use Rattle.listing.proofs.Walks.{Reads, Place, placed, wordOn, stepOn, endOn, walkOn}
 use Rattle.text.specs.Reading.{Meaning, invalid, blank, comment, content}
-use Rattle.kbm_read.specs.Language.{Required, Value, required, mapping}
+use Rattle.kbm_read.specs.Language.{Required, Value, required, see, mapping}
 use Rattle.kbm_read.specs.Reader.{goesOn, entryPlaced, entryIn, takeDue, takeToken, takeMeaning, whichOf, mappingOf, finished, unread, walk}
 use Rattle.kbm_read.specs.declared.line.Due.{Due}
 use Rattle.kbm_read.specs.declared.line.Due.the-variants as due
@@ -35,7 +35,8 @@ use Rattle.kbm_read.specs.declared.line.EntryRead.the-variants as entry
 use Rattle.kbm_read.specs.declared.line.Head.{Head}
 use Rattle.kbm_read.specs.declared.line.State.{State}
 use Rattle.kbm_read.proofs.EntryTexts.{entry-text, text-entry, no-entry, entry-none}
-use Rattle.kbm_read.proofs.Fields.{readAs, lastKeyAt, pitchOf, read-gives, gives-read, read-wrong, wrong-read}
+use Rattle.kbm_read.proofs.LastKey.{lastKeyAt}
+use Rattle.kbm_read.proofs.Fields.{readAs, pitchOf, read-gives, gives-read, read-wrong, wrong-read}
 use Rattle.base.proofs.Said.{same-value, no-value, no-refusal, same-refuses}
 
 -- what was said, with one value more
@@ -47,6 +48,16 @@ withField Required.middle h z = record { size = h .size; first = h .first; end =
 withField Required.reference h z = record { size = h .size; first = h .first; end = h .end; middle = h .middle; reference = z; hz = h .hz; octave = h .octave }
 withField Required.pitch h v = record { size = h .size; first = h .first; end = h .end; middle = h .middle; reference = h .reference; hz = v; octave = h .octave }
 withField Required.octave h z = record { size = h .size; first = h .first; end = h .end; middle = h .middle; reference = h .reference; hz = h .hz; octave = z }
+
+-- of which the first key is looked back at
+pub seen-put : (f : Required) (h : Head) (v : Value f) → withField f h v .first ≡ see f (h .first) v
+seen-put Required.size h v = refl
+seen-put Required.first h v = refl
+seen-put Required.last h v = refl
+seen-put Required.middle h v = refl
+seen-put Required.reference h v = refl
+seen-put Required.pitch h v = refl
+seen-put Required.octave h v = refl
 
 -- an entry at line k, or 8
 abbrev pub entrySaid : ℕ → EntryRead → Said Entry
@@ -66,14 +77,14 @@ abbrev pub reads : Reads mapping
 reads = record {
   Head = Head;
   put = withField;
-  seen = λ h. tt;
-  seen-put = λ f h v. refl;
-  readAs = λ f h. readAs f;
+  seen = λ h. h .first;
+  seen-put = seen-put;
+  readAs = λ f h. readAs f (h .first);
   entryAs = λ k t. entrySaid k (entryIn t);
-  read-gives = λ f h. read-gives f;
-  gives-read = λ f h. gives-read f;
-  read-wrong = λ f h. read-wrong f;
-  wrong-read = λ f h. wrong-read f;
+  read-gives = λ f h. read-gives f (h .first);
+  gives-read = λ f h. gives-read f (h .first);
+  read-wrong = λ f h. read-wrong f (h .first);
+  wrong-read = λ f h. wrong-read f (h .first);
   entry-is = λ k t e q. entry-text t e (said-is k (entryIn t) e q);
   is-entry = λ k t e x. ap (entrySaid k) (text-entry t e x);
   entry-bad = λ k t n d q. let r = said-not k (entryIn t) n d q in (r .0, (r .1, no-entry t (r .2)));
@@ -119,15 +130,21 @@ module _ (k : ℕ) (es : List Entry) (z : length es ≡ 0) (d : Due) (start : Ea
   int-alike (value y) v w = Alike.values _ _ (goes (w (v y)))
   int-alike none v w = Alike.refusals _ _
 
-  last-alike : (i : Int) (w : ℤ → Head) →
-      Alike Stands (andThen (intAt int-value k i) (λ y. pick (leZ (pos 2147483647) y) (refuses overflow k) (goesOn d (w y))))
-      (andThen (andThen (intAt int-value k i) (lastKeyAt k)) (λ a. gives (record { fields = fieldsFrom d; head = w a; es = es })))
-  last-alike (value y) w = go (leZ (pos 2147483647) y)
+  -- the last key, after that first
+  abbrev lastPicked : Head → Bool → Bool → Said State
+  lastPicked h over up = pick over (refuses overflow k) (pick up (goesOn d h) (refuses backwards-range k))
+
+  last-alike : (key : ℤ) (i : Int) (w : ℤ → Head) →
+      Alike Stands (andThen (intAt int-value k i) (λ y. lastPicked (w y) (leZ (pos 2147483647) y) (leZ key y)))
+      (andThen (andThen (intAt int-value k i) (lastKeyAt key k)) (λ a. gives (record { fields = fieldsFrom d; head = w a; es = es })))
+  last-alike key (value y) w = go (leZ (pos 2147483647) y) (leZ key y)
     where
-      go : (b : Bool) → Alike Stands (pick b (refuses overflow k) (goesOn d (w y))) (andThen (pick b (refuses overflow k) (gives y)) (λ a. gives (record { fields = fieldsFrom d; head = w a; es = es })))
-      go true = Alike.refusals _ _
-      go false = Alike.values _ _ (goes (w y))
-  last-alike none w = Alike.refusals _ _
+      go : (over up : Bool) → Alike Stands (lastPicked (w y) over up)
+          (andThen (pick over (refuses overflow k) (pick up (gives y) (refuses backwards-range k))) (λ a. gives (record { fields = fieldsFrom d; head = w a; es = es })))
+      go true up = Alike.refusals _ _
+      go false true = Alike.values _ _ (goes (w y))
+      go false false = Alike.refusals _ _
+  last-alike key none w = Alike.refusals _ _
 
   pitch-alike : (x : DecimalAnswer) (w : Float → Head) →
       Alike Stands (andThen (saysDecimal float-value k x) (λ v. pick (inPitch v) (goesOn d (w v)) (refuses unusable k)))
@@ -158,7 +175,7 @@ due-alike : (room k : ℕ) (t : List ℕ) (s : State) (es : List Entry) → s .c
     Alike Stands (takeDue room k t s d) (wordOn mapping reads room k t (s .head) es (fieldsFrom d))
 due-alike room k t s es c due.Size z = int-alike k es (sym c ∙ z) due.FirstKey refl (readInt false (2 ^ 16) t) natAbs (withField Required.size (s .head))
 due-alike room k t s es c due.FirstKey z = int-alike k es (sym c ∙ z) due.LastKey refl (readInt true (2 ^ 31) t) (λ y. y) (withField Required.first (s .head))
-due-alike room k t s es c due.LastKey z = last-alike k es (sym c ∙ z) due.MiddleKey refl (readInt true (2 ^ 31) t) (withField Required.last (s .head))
+due-alike room k t s es c due.LastKey z = last-alike k es (sym c ∙ z) due.MiddleKey refl (s .head .first) (readInt true (2 ^ 31) t) (withField Required.last (s .head))
 due-alike room k t s es c due.MiddleKey z = int-alike k es (sym c ∙ z) due.ReferenceKey refl (readInt true (2 ^ 15) t) (λ y. y) (withField Required.middle (s .head))
 due-alike room k t s es c due.ReferenceKey z = int-alike k es (sym c ∙ z) due.ReferencePitch refl (readInt true (2 ^ 15) t) (λ y. y) (withField Required.reference (s .head))
 due-alike room k t s es c due.ReferencePitch z = pitch-alike k es (sym c ∙ z) due.Octave refl (readDecimal t) (withField Required.pitch (s .head))

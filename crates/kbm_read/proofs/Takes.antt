@@ -14,16 +14,14 @@ use mir.Val.{SFits}
 use borrow.Author.Tests.{ne-eqb, lt-ltb, le-ltb, le-leb, lt-leb, leb-false}
 use types.Run.{OneOf}
 use denote.Enum.Declared.{tagOf}
-use Rattle.base.specs.Numbers.{keyboard-mapping, unusable, overflow, no-room}
+use Rattle.base.specs.Numbers.{keyboard-mapping, unusable, overflow, no-room, backwards-range}
 use Rattle.base.specs.Said.{gives, refuses}
 use Rattle.floats.specs.Ranges.{inPitch}
 use Rattle.decimals.specs.DecimalScan.{readDecimal}
-use Rattle.integers.specs.Integer.{readInt, i16Of, i32Of}
+use Rattle.integers.specs.Integer.{readInt, i16Of}
 use Rattle.decimals.specs.declared.DecimalAnswer.{DecimalAnswer}
 use Rattle.decimals.specs.declared.DecimalAnswer.the-variants as decimal
 use Rattle.integers.specs.declared.I16.{I16}
-use Rattle.integers.specs.declared.I32.{I32}
-use Rattle.integers.specs.declared.I32.the-variants as i32
 use Rattle.decimals.proofs.DecimalAnswer.{the-type}
 use Rattle.text.specs.Part.{part}
 use Rattle.text.specs.ReadLine.{shown}
@@ -31,7 +29,7 @@ use Rattle.text.specs.declared.line.LineSays.{LineSays}
 use Rattle.text.specs.declared.line.LineSays.the-variants.{Content}
 use Rattle.kbm.specs.declared.Entry.{Entry}
 use Rattle.kbm.specs.declared.Entry.the-variants.{Unmapped}
-use Rattle.kbm_read.specs.Steps.{goesOn, takeLast, decimalRefused, referencePitchSaid, takePitch, takeEntry, takeDue, takeToken, takeMeaning, isCross, degreeIn, entryIn, foundEntry, foundIn}
+use Rattle.kbm_read.specs.Steps.{goesOn, lastTaken, decimalRefused, referencePitchSaid, takePitch, takeEntry, takeDue, takeToken, takeMeaning, isCross, degreeIn, entryIn, foundEntry, foundIn}
 use Rattle.kbm_read.specs.declared.line.Due.{Due}
 use Rattle.kbm_read.specs.declared.line.Due.the-variants as due
 use Rattle.kbm_read.specs.declared.line.Found.the-variants as found
@@ -46,14 +44,17 @@ next-fits (pos n) h e = let m = leb-false 2147483647 n e in record { sfits = ome
 next-fits (negsuc zero) h e = record { sfits = omega arith }
 next-fits (negsuc (suc n)) h e = record { sfits = rw (lt-ltb 1 (suc (suc n)) (omega arith)) (omega (arith, h .sfits)) }
 
--- the last key
-module _ (k : ℕ) (t : List ℕ) (h : Head) {r : I32} {z : ℤ} (e : i32Of r ≡ readInt true (2 ^ 31) t) (q : r ≡ i32.Is z) where
-  pub last-over : leZ (pos 2147483647) z ≡ true → refuses overflow k ≡ takeLast k t h
-  last-over f = rw (← e, q, f)
+-- the last key z, by its two tests
+module _ (k : ℕ) (h : Head) (z : ℤ) where
+  pub last-over : leZ (pos 2147483647) z ≡ true → refuses overflow k ≡ lastTaken k h z
+  last-over f = rw f
 
-  pub last-is : leZ (pos 2147483647) z ≡ false →
-      goesOn due.MiddleKey (record { size = h .size; first = h .first; end = z +ℤ pos 1; middle = h .middle; reference = h .reference; hz = h .hz; octave = h .octave }) ≡ takeLast k t h
-  last-is f = rw (← e, q, f)
+  pub last-is : leZ (pos 2147483647) z ≡ false → leZ (h .first) z ≡ true →
+      goesOn due.MiddleKey (record { size = h .size; first = h .first; end = z +ℤ pos 1; middle = h .middle; reference = h .reference; hz = h .hz; octave = h .octave }) ≡ lastTaken k h z
+  last-is f g = rw (f, g)
+
+  pub last-backwards : leZ (pos 2147483647) z ≡ false → leZ (h .first) z ≡ false → refuses backwards-range k ≡ lastTaken k h z
+  last-backwards f g = rw (f, g)
 
 -- the reference pitch: a decimal is refused by its answer, or has its value tested
 module _ (k : ℕ) (t : List ℕ) (h : Head) {x : DecimalAnswer} (e : x ≡ readDecimal t) where

@@ -17,7 +17,7 @@ seven = five ++ 57 ∷ 10 ∷ 49 ∷ 10 ∷ []
 
 pub record EachSaid : Type 0 where
   -- with their line: a byte that is no UTF-8, `y` for the size, `y` for the pitch, `y` as an entry, `1e5` and `0` as pitches, the last key
-  -- 2147483647, and an entry where there is no place
+  -- 2147483647, an entry where there is no place, and the keys `5`, `4`
   pub not-utf8 : readOf 1 (255 ∷ []) ≡ refuses 1 1
   pub int-value : readOf 1 (121 ∷ []) ≡ refuses 3 1
   pub float-value : readOf 1 (five ++ 121 ∷ []) ≡ refuses 7 6
@@ -26,6 +26,7 @@ pub record EachSaid : Type 0 where
   pub unusable : readOf 1 (five ++ 48 ∷ []) ≡ refuses 10 6
   pub overflow : readOf 1 (pair ++ 50 ∷ 49 ∷ 52 ∷ 55 ∷ 52 ∷ 56 ∷ 51 ∷ 54 ∷ 52 ∷ 55 ∷ []) ≡ refuses 11 3
   pub no-room : readOf 0 (seven ++ 48 ∷ []) ≡ refuses 12 8
+  pub backwards : readOf 1 (49 ∷ 10 ∷ 53 ∷ 10 ∷ 52 ∷ []) ≡ refuses 25 3
   -- which required line is missing
   pub no-size : readOf 1 [] ≡ refuses 2 1
   pub no-first : readOf 1 (49 ∷ []) ≡ refuses 2 2

@@ -1,5 +1,5 @@
--- THE LANGUAGE OF MAPPINGS, document 01, "Lines" and "Mapping": which texts are mapping files, what one says, and the earliest
--- fault of any other. No reader is named here. Assumes nothing.
+-- THE LANGUAGE OF MAPPINGS, document 01, "Lines" and "Mapping", and document 02, W8: which texts are mapping files, what one says, and
+-- the earliest fault of any other. No reader is named here. Assumes nothing.
 use mathlib.Core.Path.{_≡_}
 use mathlib.Core.Bool.{Bool, true, false}
 use mathlib.Core.List.{List, [], _∷_, _++_}
@@ -8,7 +8,9 @@ use Prim.Native.Nat.{ℕ, zero, suc, _+_, _-_, _^_, _≤_, _<_}
 use lib.Ieee.{Float}
 use lib.IntN.{ℤ, pos, _+ℤ_, _-ℤ_}
 use lib.ListN.{length}
+use lib.Signed.{_≤ℤ_, _<ℤ_}
 use Rattle.base.specs.Numbers.{int-value, float-value, keyboard-mapping, unsupported-numeral, unusable, overflow, no-room, too-large, inconsistent-count}
+use Rattle.base.specs.Numbers.{backwards-range}
 use Rattle.floats.specs.Ranges.{inPitch}
 use Rattle.kbm.specs.declared.Entry.{Entry}
 use Rattle.kbm.specs.declared.Entry.the-variants.{Mapped, Unmapped}
@@ -44,27 +46,50 @@ Value Required.reference = ℤ
 Value Required.pitch = Float
 Value Required.octave = ℤ
 
--- the token t has the value v there: the last key is not 2147483647, and the pitch is a supported decimal from 2^-10 to 2^20
-abbrev pub Gives : (f : Required) → List ℕ → Value f → Type 0
-Gives Required.size t n = IntText false (2 ^ 16) t (pos n)
-Gives Required.first t z = IntText true (2 ^ 31) t z
-Gives Required.last t z = IntText true (2 ^ 31) t z × (z ≡ pos 2147483647 → ⊥)
-Gives Required.middle t z = IntText true (2 ^ 15) t z
-Gives Required.reference t z = IntText true (2 ^ 15) t z
-Gives Required.pitch t v = DecimalText t v × (inPitch v ≡ true)
-Gives Required.octave t z = IntText true (2 ^ 15) t z
+-- what a later line looks back at: the first key. (None looks before that line was read; until then it is 0)
+abbrev pub Seen : Type 0
+Seen = ℤ
 
--- n is the first number of 01's order that the token t draws there: syntax (3, 7), 9, 10, 11
-abbrev pub Wrong : Required → List ℕ → ℕ → Type 0
-Wrong Required.size t n = NoInteger int-value false (2 ^ 16) t n
-Wrong Required.first t n = NoInteger int-value true (2 ^ 31) t n
-Wrong Required.last t n = NoInteger int-value true (2 ^ 31) t n ⊎ ((n ≡ overflow) × IntText true (2 ^ 31) t (pos 2147483647))
-Wrong Required.middle t n = NoInteger int-value true (2 ^ 15) t n
-Wrong Required.reference t n = NoInteger int-value true (2 ^ 15) t n
-Wrong Required.pitch t n =
+abbrev pub unseen : Seen
+unseen = pos 0
+
+abbrev pub see : (f : Required) → Seen → Value f → Seen
+see Required.size key n = key
+see Required.first key z = z
+see Required.last key z = key
+see Required.middle key z = key
+see Required.reference key z = key
+see Required.pitch key v = key
+see Required.octave key z = key
+
+-- the token t has the value v there, after that first key: the last key is not 2147483647 and not below the first, and the pitch is a
+-- supported decimal from 2^-10 to 2^20
+abbrev pub Gives : (f : Required) → Seen → List ℕ → Value f → Type 0
+Gives Required.size key t n = IntText false (2 ^ 16) t (pos n)
+Gives Required.first key t z = IntText true (2 ^ 31) t z
+Gives Required.last key t z = IntText true (2 ^ 31) t z × (z ≡ pos 2147483647 → ⊥) × (key ≤ℤ z)
+Gives Required.middle key t z = IntText true (2 ^ 15) t z
+Gives Required.reference key t z = IntText true (2 ^ 15) t z
+Gives Required.pitch key t v = DecimalText t v × (inPitch v ≡ true)
+Gives Required.octave key t z = IntText true (2 ^ 15) t z
+
+-- "Refuse a mapping whose last key is below its first. [..] 25, at the last-key line, after 3 and 11 there" (document 02, W8)
+abbrev pub Backwards : Seen → List ℕ → ℕ → Type 0
+Backwards key t n = (n ≡ backwards-range) × (z : ℤ) × IntText true (2 ^ 31) t z × (z ≡ pos 2147483647 → ⊥) × (z <ℤ key)
+
+-- n is the first number of 01's order that the token t draws there: syntax (3, 7), 9, 10, 11, and then 25
+abbrev pub Wrong : Required → Seen → List ℕ → ℕ → Type 0
+Wrong Required.size key t n = NoInteger int-value false (2 ^ 16) t n
+Wrong Required.first key t n = NoInteger int-value true (2 ^ 31) t n
+Wrong Required.last key t n =
+    NoInteger int-value true (2 ^ 31) t n ⊎
+    (((n ≡ overflow) × IntText true (2 ^ 31) t (pos 2147483647)) ⊎ Backwards key t n)
+Wrong Required.middle key t n = NoInteger int-value true (2 ^ 15) t n
+Wrong Required.reference key t n = NoInteger int-value true (2 ^ 15) t n
+Wrong Required.pitch key t n =
     ((n ≡ float-value) × ((f : Form) → FloatText t f → ⊥)) ⊎
     (((n ≡ unsupported-numeral) × UnsupportedText t) ⊎ ((n ≡ unusable) × (v : Float) × DecimalText t v × (inPitch v ≡ false)))
-Wrong Required.octave t n = NoInteger int-value true (2 ^ 15) t n
+Wrong Required.octave key t n = NoInteger int-value true (2 ^ 15) t n
 
 -- "then entries: `x` or `X`, or i16"
 pub data EntryText (t : List ℕ) : Entry → Type 0 where
@@ -76,13 +101,6 @@ pub data EntryText (t : List ℕ) : Entry → Type 0 where
 abbrev pub NoEntry : List ℕ → ℕ → Type 0
 NoEntry t n = (n ≡ keyboard-mapping) × ((e : Entry) → EntryText t e → ⊥)
 
--- no line looks back at another
-abbrev pub Seen : Type 0
-Seen = Unit {0}
-
-abbrev pub unseen : Seen
-unseen = tt
-
 -- THE FORMAT: seven required lines and then entries, each by its token
 abbrev pub mapping : Format
 mapping = record {
@@ -93,9 +111,9 @@ mapping = record {
   Value = Value;
   Seen = Seen;
   unseen = unseen;
-  see = λ f s v. tt;
-  Gives = λ f s t v. Gives f t v;
-  Wrong = λ f s t n. Wrong f t n;
+  see = see;
+  Gives = Gives;
+  Wrong = Wrong;
   Entry = Entry;
   Is = EntryText;
   Bad = NoEntry;

@@ -6,6 +6,7 @@ use lib.Dec.{leb, ltb, eqb}
 use lib.IntN.{ℤ, pos, natAbs, _+ℤ_}
 use lib.Signed.{leZ}
 use Rattle.base.specs.Numbers.{not-utf8, int-value, float-value, keyboard-mapping, unsupported-numeral, unusable, overflow, no-room}
+use Rattle.base.specs.Numbers.{backwards-range}
 use Rattle.base.specs.Said.{Said, gives, refuses, refusal, pick, andThen}
 use Rattle.floats.specs.Ranges.{inPitch}
 use Rattle.kbm.specs.declared.Entry.the-variants.{Mapped, Unmapped}
@@ -48,11 +49,16 @@ takeFirst k t h =
     andThen (intAt int-value k (readInt true (2 ^ 31) t)) (λ z. goesOn due.LastKey
     (record { size = h .size; first = z; end = h .end; middle = h .middle; reference = h .reference; hz = h .hz; octave = h .octave }))
 
--- the last key: 11 for the largest
+-- the last key: 11 for the largest, 25 below the first
+abbrev pub lastTaken : ℕ → Head → ℤ → Said State
+lastTaken k h z =
+    pick (leZ (pos 2147483647) z) (refuses overflow k) (pick (leZ (h .first) z) (goesOn due.MiddleKey
+    (record { size = h .size; first = h .first; end = z +ℤ pos 1; middle = h .middle; reference = h .reference; hz = h .hz; octave = h .octave }))
+    (refuses backwards-range k))
+
 abbrev pub takeLast : ℕ → List ℕ → Head → Said State
 takeLast k t h =
-    andThen (intAt int-value k (readInt true (2 ^ 31) t)) (λ z. pick (leZ (pos 2147483647) z) (refuses overflow k) (goesOn due.MiddleKey
-    (record { size = h .size; first = h .first; end = z +ℤ pos 1; middle = h .middle; reference = h .reference; hz = h .hz; octave = h .octave })))
+    andThen (intAt int-value k (readInt true (2 ^ 31) t)) (lastTaken k h)
 
 abbrev pub takeMiddle : ℕ → List ℕ → Head → Said State
 takeMiddle k t h =

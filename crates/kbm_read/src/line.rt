@@ -13,7 +13,8 @@ use text::line::LineSays;
 ghost use mathlib.Core.Path.{_≡_};
 ghost use Rattle.base.specs.Said.{refuses};
 ghost use Rattle.text.specs.ReadLine.{shown, InText};
-ghost use Rattle.kbm_read.specs.Steps.{saysStep, goesOn, decimalRefused, takeEntry, entryIn, takeToken, takeMeaning, foundIn};
+ghost use Rattle.kbm_read.specs.Steps.{saysStep, goesOn, decimalRefused, takeEntry, entryIn};
+ghost use Rattle.kbm_read.specs.Steps.{lastTaken, takeToken, takeMeaning, foundIn};
 
 // What the next line with content is: one of the seven required ones, or an entry.
 pub enum Due {
@@ -136,8 +137,22 @@ fn take_entry(token: &[u8], line: usize, room: usize, state: State) -> Step
     })
 }
 
-// The token of the line that is due: an integer of its type (3; 11 for the largest last key), the pitch in Hz, in 2^-10..2^20 (7,
-// 9, 10), or an entry (8, 12).
+// The last key: 11 for the largest, 25 below the first.
+fn take_last(last: i32, line: usize, mut head: Head) -> Step
+    ensures { λ r. ⌜ saysStep r ≡ lastTaken line head last ⌝ }
+{
+    if LARGEST <= last {
+        return refused(base::OVERFLOW, line);
+    }
+    if head.first <= last {
+        head.end = last + 1;
+        return goes_on(Due::MiddleKey, head);
+    }
+    refused(base::BACKWARDS_RANGE, line)
+}
+
+// The token of the line that is due: an integer of its type (3; of the last key 11 and 25), the pitch in Hz, in 2^-10..2^20 (7, 9,
+// 10), or an entry (8, 12).
 fn take_token(token: &[u8], line: usize, room: usize, state: State) -> Step
     ensures { λ r. ⌜ saysStep r ≡ takeToken room line (now (token .entry)) state ⌝ }
 {
@@ -162,11 +177,7 @@ fn take_token(token: &[u8], line: usize, room: usize, state: State) -> Step
             let I32::Is(last) = read_i32(token) else {
                 return refused(base::INT_VALUE, line);
             };
-            if LARGEST <= last {
-                return refused(base::OVERFLOW, line);
-            }
-            head.end = last + 1;
-            goes_on(Due::MiddleKey, head)
+            take_last(last, line, head)
         }
         Due::MiddleKey => {
             let I16::Is(middle) = read_i16(token) else {

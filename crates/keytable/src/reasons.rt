@@ -1,4 +1,5 @@
-// Refusals in words: the sentences of the crate `base`, a line for each number; that of 12 says how much room this program has.
+// Refusals in words: the sentences of the crate `base`, a line for each number from 1 to 18, and that of 25; that of 12 says how much
+// room this program has. No call that it makes says 29.
 use libc::STDERR_FILENO;
 
 // The line that starts at a place; nothing past the end.
@@ -27,6 +28,9 @@ fn line_of(lines: &[u8], number: usize) -> &[u8] {
 
 // Writes why a call refused.
 pub fn say(fd: i32, number: u32) -> bool {
+    if number == base::BACKWARDS_RANGE {
+        return io::write_all(fd, b"the last key is below the first");
+    }
     io::write_all(
         fd,
         line_of(

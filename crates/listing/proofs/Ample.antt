@@ -44,27 +44,28 @@ module _ (F : Format) where
       omega (arith, words-few ms (b .first ++ b .rest) (b .words), length-append (b .first) (b .rest), as-many (b .rest) es (b .entries))
 
   module _ (End : Values F (F .required) → List (F .Entry) → ℕ → Type 0) (room : ℕ) (ms : List Meaning) (n d : ℕ) where
-    -- IN AMPLE ROOM a fault has one of the numbers by which a text is outside its language
-    module _ (ample : length ms ≤ room) (wrong : (f : F .Required) (s : F .Seen) (w : F .Word) → F .Wrong f s w n → Drawn n) (bad : (w : F .Word) → F .Bad w n → Drawn n)
-        (end : (vs : Values F (F .required)) (es : List (F .Entry)) → Begins F ms (F .required) vs es → End vs es n → Drawn n) where
-      at-line : (f : F .Required) (s : F .Seen) (line : Meaning) → WrongLine F f s line n → Drawn n
-      at-line f s invalid w = inl (omega (arith, w), omega (arith, w))
+    -- IN AMPLE ROOM a fault has one of the numbers by which a text is outside its language: 1, 2, and what its lines draw
+    module _ (Draws : ℕ → Type 0) (early : (1 ≤ n) → (n ≤ 2) → Draws n) (ample : length ms ≤ room)
+        (wrong : (f : F .Required) (s : F .Seen) (w : F .Word) → F .Wrong f s w n → Draws n) (bad : (w : F .Word) → F .Bad w n → Draws n)
+        (end : (vs : Values F (F .required)) (es : List (F .Entry)) → Begins F ms (F .required) vs es → End vs es n → Draws n) where
+      at-line : (f : F .Required) (s : F .Seen) (line : Meaning) → WrongLine F f s line n → Draws n
+      at-line f s invalid w = early (omega (arith, w)) (omega (arith, w))
       at-line f s blank w = absurd w
       at-line f s comment w = absurd w
       at-line f s (content m t) w = wrong f s (F .word m t) w
 
-      at-entry : (es : List (F .Entry)) → suc (length es) ≤ room → (line : Meaning) → WrongEntry F room es line n → Drawn n
-      at-entry es h invalid w = inl (omega (arith, w), omega (arith, w))
+      at-entry : (es : List (F .Entry)) → suc (length es) ≤ room → (line : Meaning) → WrongEntry F room es line n → Draws n
+      at-entry es h invalid w = early (omega (arith, w)) (omega (arith, w))
       at-entry es h blank w = absurd w
       at-entry es h comment w = absurd w
       at-entry es h (content m t) (inl w) = bad (F .word m t) w
       at-entry es h (content m t) (inr w) = absurd (omega (arith, w .1))
 
-      pub fault-drawn : Fault F End room ms n d → Drawn n
+      pub fault-drawn : Fault F End room ms n d → Draws n
       fault-drawn (Fault.at-required before line after e p done f more rq vs b w) = at-line f (seenFrom F (F .unseen) done vs) line w
       fault-drawn (Fault.at-entry before line after e p vs es b f w) =
           at-entry es (omega (arith, entries-few b, ap length e, length-append before (line ∷ after))) line w
-      fault-drawn (Fault.missing e done f more rq p vs b) = inl (omega (arith, e), omega (arith, e))
+      fault-drawn (Fault.missing e done f more rq p vs b) = early (omega (arith, e)) (omega (arith, e))
       fault-drawn (Fault.at-end e vs es b f w) = end vs es b w
 
     -- WITH MORE ROOM: a fault that is not 12 is one there too

@@ -6,3 +6,4 @@ pub mod Given
 pub mod Details
 pub mod Ample
 pub mod Refusals
+pub mod Parted

@@ -44,7 +44,7 @@ module _ (n : ℕ) where
 drawn : (room : ℕ) (s : List ℕ) → Ample room s → (n d : ℕ) → FaultText s n d room → Drawn n
 drawn zero s a n d f = absurd (omega arith)
 drawn (suc places) s a n d (FaultText.at-lines _ says t f) =
-    fault-drawn scale WrongEnd places says n d (omega (arith, says-few t, a)) (λ f s. wrong-drawn n f) (λ l w. bad-drawn n (l .token) w) (λ vs es b w. end-drawn n vs es w) f
+    fault-drawn scale WrongEnd places says n d Drawn (λ low high. inl (low, omega (arith, high))) (omega (arith, says-few t, a)) (λ f s. wrong-drawn n f) (λ l w. bad-drawn n (l .token) w) (λ vs es b w. end-drawn n vs es w) f
 
 module _ (room : ℕ) (s : List ℕ) (a : Ample room s) where
   -- a fault is one of 1 to 11, 13, 14 and 18

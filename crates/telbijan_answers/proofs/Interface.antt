@@ -1,16 +1,16 @@
 -- From an answer to what the interface for C says of it. Assumes nothing.
-use mathlib.Core.Path.{_≡_, refl, sym, _∙_, ap}
+use mathlib.Core.Path.{_≡_, refl, sym, _∙_, ap, subst}
 use mathlib.Core.List.{List, _++_}
 use mathlib.Core.Logic.{_↔_}
 use Prim.Native.Nat.{ℕ, _≤_, _<_, _^_}
 use native.Mathlib.Omega.{arith}
 use lib.ListN.{length, take, drop}
 use lib.Seq.{take-append-le, take-length}
-use Rattle.base.specs.Said.{Said, gives, refuses, refusal, Numbered}
+use Rattle.base.specs.Said.{Said, gives, refuses, refusal, Numbered, NumberedOr}
 use Rattle.base.specs.declared.Refusal.{Refusal}
-use Rattle.base.proofs.Said.{no-value, same-refuses}
+use Rattle.base.proofs.Said.{no-value}
 use Rattle.writing.specs.Fitted.{textLength}
-use Rattle.telbijan_answers.specs.Interface.{code, result, kept, fieldOf, numberIn, detailIn}
+use Rattle.telbijan_answers.specs.Interface.{code, result, Coded, kept, fieldOf, numberIn, detailIn}
 use Rattle.telbijan_answers.specs.Calls.{Written}
 
 -- x is what a call answered, told what its contract says of it, and x′ what a match made of it
@@ -49,30 +49,35 @@ number-back number detail h = omega arith
 pub detail-back : (number detail : ℕ) → number ≤ 255 → detail < 2 ^ 56 → detailIn (code number detail) ≡ detail
 detail-back number detail h l = omega arith
 
+-- the numbers of documents 01 and 02 can
+pub coded : {A : Type 0} {s : Said A} → Numbered s → Coded s
+coded (Numbered.value a) = tt
+coded (Numbered.number low high) = (low, omega (arith, high))
+
+pub coded-or : {A : Type 0} {s : Said A} {more : ℕ} → 1 ≤ more → more ≤ 255 → NumberedOr more s → Coded s
+coded-or low high (NumberedOr.known n) = coded n
+coded-or low high NumberedOr.other = (low, high)
+
 -- a result is 0 exactly where the answer is a value
-pub zero-accepted : {A : Type 0} (s : Said A) → Numbered s → (result s ≡ 0) ↔ ((a : A) × (s ≡ gives a))
+pub zero-accepted : {A : Type 0} (s : Said A) → Coded s → (result s ≡ 0) ↔ ((a : A) × (s ≡ gives a))
 zero-accepted s n = (there s n, back s)
   where
-    there : {A : Type 0} (s : Said A) → Numbered s → result s ≡ 0 → (a : A) × (s ≡ gives a)
-    there s (Numbered.value a) e = (a, refl)
-    there s (Numbered.number low high) e = absurd (omega arith)
+    there : {A : Type 0} (s : Said A) → Coded s → result s ≡ 0 → (a : A) × (s ≡ gives a)
+    there (gives a) n e = (a, refl)
+    there (refuses number detail) n e = absurd (omega (arith, n .0, n .1))
 
     back : {A : Type 0} (s : Said A) → (a : A) × (s ≡ gives a) → result s ≡ 0
     back s g = ap result (g .1)
 
 -- A REFUSED CALL: its result is not 0, and the refusal's number and detail are taken back from it
-pub refused-back : {A : Type 0} {s : Said A} {r n d : ℕ} → Numbered s → r ≡ result s → s ≡ refuses n d → d < 2 ^ 56 →
+pub refused-back : {A : Type 0} {s : Said A} {r n d : ℕ} → Coded s → r ≡ result s → s ≡ refuses n d → d < 2 ^ 56 →
     (r ≡ 0 → ⊥) × (numberIn r ≡ n) × (detailIn r ≡ d)
 refused-back {A} {s} {r} {n} {d} w told e h =
     let q : r ≡ code n d = told ∙ ap result e in
-    let b = bounds s w e in
-    let back = number-back n d (omega (arith, b .1)) in
+    let b : (1 ≤ n) × (n ≤ 255) = subst (λ (x : Said A). Coded x) e w in
+    let back = number-back n d (b .1) in
     let zero : r ≡ 0 → ⊥ = λ z. omega (arith, b .0, back, ap numberIn (sym q ∙ z)) in
-    (zero, ap numberIn q ∙ back, ap detailIn q ∙ detail-back n d (omega (arith, b .1)) h)
-  where
-    bounds : (s : Said A) → Numbered s → s ≡ refuses n d → (1 ≤ n) × (n ≤ 18)
-    bounds s (Numbered.value a) e = no-value (sym e)
-    bounds s (Numbered.number low high) e = let w = same-refuses e in (omega (arith, low, w .0), omega (arith, high, w .0))
+    (zero, ap numberIn q ∙ back, ap detailIn q ∙ detail-back n d (b .1) h)
 
 -- AN ACCEPTED EXPORT: the bytes up to the length that is stored are the text
 pub written-text : (s : Said (List ℕ)) (old : List ℕ) (size r : ℕ) (new : List ℕ) (written : ℕ) → Numbered (textLength s) →
@@ -82,4 +87,4 @@ written-text (gives t) old size r new written n w zero =
     take-append-le (length t) t (drop (length t) old) (omega arith) ∙ take-length t in
     (t, refl, (λ i. take (w .2 i) (w .1 i)) ∙ l)
 written-text (refuses number detail) old size r new written n w zero =
-    no-value (zero-accepted (textLength (refuses number detail)) n .0 (sym (w .0) ∙ zero) .1)
+    no-value (zero-accepted (textLength (refuses number detail)) (coded n) .0 (sym (w .0) ∙ zero) .1)

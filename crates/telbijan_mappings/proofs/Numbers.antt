@@ -1,17 +1,18 @@
--- What the functions of this crate say is a value or one of document 01's numbers, so a result is 0 exactly where a value is stored
--- (`zero-accepted` of telbijan_answers). Assumes nothing.
+-- What the functions of this crate say is a value or one of document 01's numbers, and of a read and a build also 25, so a result is 0
+-- exactly where a value is stored (`zero-accepted` of telbijan_answers). Assumes nothing.
 use mathlib.Core.Bool.{Bool, true, false, _&&_}
 use mathlib.Core.List.{List, [], _∷_}
 use Prim.Native.Nat.{ℕ, _+_, _≤_}
 use native.Mathlib.Omega.{arith}
-use lib.Dec.{leb, ltb}
+use lib.Dec.{leb, ltb, lit≤}
 use lib.IntN.{ℤ, pos, _+ℤ_, _-ℤ_, _*ℤ_}
 use lib.ListN.{length, getD}
 use lib.Signed.{leZ}
 use lib.Ieee.{Float}
 use Rattle.base.specs.Integers.{floorDiv, floorMod, inI32, held}
-use Rattle.base.specs.Said.{Said, gives, Numbered}
-use Rattle.base.proofs.Said.{numbered-pick, numbered-then}
+use Rattle.base.specs.Numbers.{backwards-range}
+use Rattle.base.specs.Said.{Said, gives, Numbered, NumberedOr}
+use Rattle.base.proofs.Said.{numbered-pick, numbered-then, or-pick}
 use Rattle.floats.specs.Ranges.{inPitch}
 use Rattle.key.specs.declared.PianoKey.{PianoKey}
 use Rattle.pitch.specs.declared.Pitch.{Pitch}
@@ -23,8 +24,12 @@ use Rattle.kbm.specs.declared.Entry.the-variants.{Mapped, Unmapped}
 use Rattle.kbm.specs.declared.Kbm.{Kbm}
 use Rattle.writing.specs.Fitted.{fitted, textLength}
 use Rattle.kbm_write.specs.Export.{lastKeyOf, middleKeyOf, exportText, exportOf}
-use Rattle.kbm_build.specs.Builder.{fitsTable, pushed, isReady, kbmWith, kbmOf, built, withOneMore}
+use Rattle.kbm_build.specs.Builder.{fitsTable, pushed, isReady, isBackwards, kbmWith, kbmOf, built, withOneMore}
 use Rattle.kbm_build.specs.declared.KbmBuilder.{KbmBuilder}
+use Rattle.kbm_read.specs.Reader.{readOf}
+use Rattle.kbm_read.proofs.Numbers.{read-kbm-numbered}
+use Rattle.telbijan_answers.specs.Interface.{Coded}
+use Rattle.telbijan_answers.proofs.Interface.{coded-or}
 use Rattle.kbm_build.specs.declared.Octave.{Octave}
 use Rattle.kbm_build.specs.declared.Octave.the-variants.{Given, Missing}
 
@@ -69,13 +74,23 @@ pub pushed-numbered : (b : KbmBuilder) (map : List ℤ) → Numbered (pushed b m
 unfolding pushed
 pushed-numbered b map = numbered-pick (fitsTable b map) (numbered-pick (ltb (b .count) (b .room)) (Numbered.value (withOneMore b)) (Numbered.number (omega arith) (omega arith))) (Numbered.number (omega arith) (omega arith))
 
-with-numbered : (b : KbmBuilder) (octave : ℤ) → Numbered (kbmWith b octave)
-with-numbered b octave = numbered-pick (leb (b .count) 65535) (Numbered.value _) (Numbered.number (omega arith) (omega arith))
+-- ---- what a mapping is made by: 25 too
+with-numbered : (b : KbmBuilder) (octave : ℤ) → NumberedOr backwards-range (kbmWith b octave)
+with-numbered b octave =
+    or-pick (isBackwards (b .start) (b .end)) NumberedOr.other
+    (NumberedOr.known (numbered-pick (leb (b .count) 65535) (Numbered.value _) (Numbered.number (omega arith) (omega arith))))
 
-of-numbered : (b : KbmBuilder) (o : Octave) → Numbered (kbmOf b o)
+of-numbered : (b : KbmBuilder) (o : Octave) → NumberedOr backwards-range (kbmOf b o)
 of-numbered b (Given octave) = with-numbered b octave
-of-numbered b Missing = numbered-pick (ltb 0 (b .count)) (Numbered.number (omega arith) (omega arith)) (with-numbered b (pos 0))
+of-numbered b Missing = or-pick (ltb 0 (b .count)) (NumberedOr.known (Numbered.number (omega arith) (omega arith))) (with-numbered b (pos 0))
 
-pub build-kbm-numbered : (b : KbmBuilder) (map : List ℤ) → Numbered (built b map)
+pub build-kbm-numbered : (b : KbmBuilder) (map : List ℤ) → NumberedOr backwards-range (built b map)
 unfolding built
-build-kbm-numbered b map = numbered-pick (isReady b map) (of-numbered b (b .octave)) (Numbered.number (omega arith) (omega arith))
+build-kbm-numbered b map =
+    or-pick (isReady b map) (of-numbered b (b .octave)) (NumberedOr.known (Numbered.number (omega arith) (omega arith)))
+
+pub build-kbm-coded : (b : KbmBuilder) (map : List ℤ) → Coded (built b map)
+build-kbm-coded b map = coded-or (lit≤ tt) (lit≤ tt) (build-kbm-numbered b map)
+
+pub read-kbm-coded : (room : ℕ) (text : List ℕ) → Coded (readOf room text)
+read-kbm-coded room text = coded-or (lit≤ tt) (lit≤ tt) (read-kbm-numbered room text)

@@ -18,12 +18,12 @@ use Rattle.kbm_read.specs.Reader.{readOf, entriesIn}
 use Rattle.kbm_read.specs.Refusals.{MayRefuse}
 use Rattle.kbm_read.proofs.Inside.{detail-small, read-over}
 use Rattle.kbm_read.proofs.Language.{accepts, refuses-fault}
-use Rattle.kbm_read.proofs.Numbers.{read-kbm-numbered}
 use Rattle.kbm_read.proofs.Refusals.{fault-listed}
 use Rattle.kbm_read.proofs.Tables.{leaves-meaning}
 use Rattle.telbijan_answers.specs.Interface.{result, kept, numberIn, detailIn}
 use Rattle.telbijan_answers.proofs.Interface.{zero-accepted, refused-back}
 use Rattle.telbijan_mappings.specs.Calls.{ReadKbm}
+use Rattle.telbijan_mappings.proofs.Numbers.{read-kbm-coded}
 
 module _ (text : List ℕ) (map : List ℤ) (old : Kbm) (r : ℕ) (left : List ℤ) (new : Kbm) (c : ReadKbm text map old r left new) where
   abbrev said : Said Kbm
@@ -34,7 +34,7 @@ module _ (text : List ℕ) (map : List ℤ) (old : Kbm) (r : ℕ) (left : List �
       (r ≡ 0 → ⊥) × (numberIn r ≡ number) × (detailIn r ≡ detail) × (left ≡ map) × (new ≡ old)
   refused-call short number detail f =
       let e : said ≡ refuses number detail = refuses-fault (length map) text number detail .1 f in
-      let b = refused-back (read-kbm-numbered (length map) text) (c .0) e (detail-small f short) in
+      let b = refused-back (read-kbm-coded (length map) text) (c .0) e (detail-small f short) in
       (b .0, b .1, b .2, c .1 ∙ rw e, c .2 ∙ ap (λ (s : Said Kbm). kept s old) e)
 
   -- and a result that is not 0 says the earliest fault, which is in the header's list
@@ -61,7 +61,7 @@ module _ (text : List ℕ) (map : List ℤ) (old : Kbm) (r : ℕ) (left : List �
   pub accepted-call : r ≡ 0 → (es : List Entry) × MappingText text new es × (length es ≤ length map) × (left ≡ over map (numbersOf es))
       × (isTable (new .count) left ≡ true) × (tableOf (new .count) left ≡ es)
   accepted-call zero =
-      let (k, e) = zero-accepted said (read-kbm-numbered (length map) text) .0 (sym (c .0) ∙ zero) in
+      let (k, e) = zero-accepted said (read-kbm-coded (length map) text) .0 (sym (c .0) ∙ zero) in
       let es = entriesIn (k .count) text in
       let a = accepts (length map) text k es .0 (e, refl) in
       let same : new ≡ k = c .2 ∙ ap (λ (s : Said Kbm). kept s old) e in

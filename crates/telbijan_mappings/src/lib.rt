@@ -52,8 +52,9 @@ pub fn mapping_with(
     }
 }
 
-// The degree of a key, stored: 10 for a table that cannot be used, 16 outside start..end (end is outside), 11 where the distance
-// from the reference key passes 32 bits, 17 unmapped, 11 where the degree does. The pitch plays no part: any `hz` will do.
+// The degree of a key, stored: 10 for a table that cannot be used, 16 outside start..end (end is outside, and every key where end is
+// not above start), 11 where the distance from the reference key passes 32 bits, 17 unmapped, 11 where the degree does. The pitch plays
+// no part: any `hz` will do.
 #[no_mangle]
 pub extern "C" fn telbijan_scale_degree_of(
     map: &[i32],
@@ -76,7 +77,7 @@ pub extern "C" fn telbijan_scale_degree_of(
 
 // The text of a mapping, written into the lent bytes; the number of bytes is stored, and bytes behind it keep their values. 10 for
 // a table or pitch that cannot be used, 11 where the last or the middle key passes 32 bits, 12 where the text is longer than
-// the bytes.
+// the bytes. A mapping whose last key is below its first is written as any other; a read refuses that text (25).
 #[no_mangle]
 pub extern "C" fn telbijan_export_kbm(
     map: &[i32],
@@ -181,7 +182,7 @@ fn octave_of(given: bool, octave: i16) -> Octave
 
 // The mapping of the entries that were pushed: its count and its formal octave are stored. `given` says whether there is a formal
 // octave, `octave`; with none and no entries 0 is stored. 10 for a state, table or pitch that cannot be used, 15 for entries
-// and no formal octave, 13 over 65,535 entries.
+// and no formal octave, 25 where `end` is not above `start`, so that the last key is below the first, 13 over 65,535 entries.
 #[no_mangle]
 pub extern "C" fn telbijan_build_kbm(
     map: &[i32],
@@ -225,8 +226,9 @@ pub extern "C" fn telbijan_build_kbm(
 }
 
 // A mapping file, read: its entries go to the first places of the table, the places behind them keep their values, and its numbers
-// are stored. The refusals are 1, 3, 7, 8, 9, 10, 11 and 12 with their line; 2 with which required line is missing (1 size, 2
-// first key, 3 last key, 4 middle key, 5 reference key, 6 pitch, 7 formal octave); 12, 13 and 14 with 0, after the last line.
+// are stored. The refusals are 1, 3, 7, 8, 9, 10, 11, 12 and 25 with their line; 2 with which required line is missing (1 size, 2
+// first key, 3 last key, 4 middle key, 5 reference key, 6 pitch, 7 formal octave); 12, 13 and 14 with 0, after the last line. 25 is for
+// a last key below the first, at the last key's line, after 3 and 11 there: what is read has at least one key in its range.
 #[no_mangle]
 pub extern "C" fn telbijan_read_kbm(
     text: &[u8],

@@ -24,7 +24,7 @@ use Rattle.scl_read.proofs.Leaves.{leaves-items, leaves-list}
 use Rattle.scl_read.proofs.Numbers.{read-scl-numbered}
 use Rattle.scl_read.proofs.Refusals.{fault-listed}
 use Rattle.telbijan_answers.specs.Interface.{result, kept, numberIn, detailIn}
-use Rattle.telbijan_answers.proofs.Interface.{zero-accepted, refused-back}
+use Rattle.telbijan_answers.proofs.Interface.{coded, zero-accepted, refused-back}
 use Rattle.telbijan_scales.specs.Calls.{ReadScl}
 use Rattle.telbijan_scales.specs.Readings.{ReadLeaves}
 
@@ -38,7 +38,7 @@ module _ (text : List ℕ) (t : ItemTable) (l : ListTable) (old : SclRead) (r : 
       (r ≡ 0 → ⊥) × (numberIn r ≡ number) × (detailIn r ≡ detail) × (u ≡ t) × (m ≡ l) × (new ≡ old)
   refused-call short number detail f =
       let e : said ≡ refuses number detail = refuses-fault (roomOf t l) text number detail .1 f in
-      let b = refused-back (read-scl-numbered (roomOf t l) text) (c .0) e (detail-small f short) in
+      let b = refused-back (coded (read-scl-numbered (roomOf t l) text)) (c .0) e (detail-small f short) in
       (b .0, b .1, b .2, c .1 ∙ rw e, c .2 ∙ rw e, c .3 ∙ ap (λ (s : Said SclRead). kept s old) e)
 
   -- and a result that is not 0 says the earliest fault, which is in the header's list
@@ -83,6 +83,6 @@ module _ (text : List ℕ) (t : ItemTable) (l : ListTable) (old : SclRead) (r : 
   pub accepted-call : r ≡ 0 → (d : List ℕ) × (items : List Item) × (list : List Entry) × ScaleText text d items list ×
       (length items < roomOf t l) × ReadLeaves text t l d items list u m new
   accepted-call zero =
-      let (x, e) = zero-accepted said (read-scl-numbered (roomOf t l) text) .0 (sym (c .0) ∙ zero) in
+      let (x, e) = zero-accepted said (coded (read-scl-numbered (roomOf t l) text)) .0 (sym (c .0) ∙ zero) in
       let (d, list, s, fits, is) = accepted (roomOf t l) text x e in
       (d, _, list, s, fits, language-call s fits .1)

@@ -3,11 +3,15 @@
 use crate::raw;
 use crate::scales::ROOTS;
 use crate::tally::Tally;
+use std::ops::Range;
+use telbijan::number::{BACKWARDS_RANGE, FORMAL_OCTAVE_MISSING, INT_VALUE, KEY_OUT_OF_RANGE, NOT_UTF8, OVERFLOW, TOO_LARGE};
 use telbijan::{MappingBuilder, MappingRef, Numbers, Root, UNMAPPED};
 
 /// No two of its numbers are the same; the last entry is lacking.
 pub const GAPS: &[u8] = b"! a comment\n5\n3\n90\n61\n58\n431.5\n7\n0\nx\n-2\n6\n";
 pub const LINEAR: &[u8] = b"0\n0\n127\n60\n69\n440.0\n0\n";
+/// `GAPS` with its first and last key swapped.
+pub const SWAPPED: &[u8] = b"! a comment\n5\n90\n3\n61\n58\n431.5\n7\n0\nx\n-2\n6\n";
 const PLACES: usize = 12;
 
 /// A table with another number in every place.
@@ -40,7 +44,7 @@ fn read(text: &[u8], map: &mut [i32], places: usize, n: &mut Numbers) -> u64 {
 fn mappings() -> Vec<(Vec<i32>, Numbers)> {
     let (map, n) = mapping(GAPS);
     let mut all = vec![mapping(LINEAR), (map.clone(), n), (map.clone(), Numbers { count: 6, ..n }), (map.clone(), Numbers { start: i32::MIN, ..n })];
-    all.extend([(map.clone(), Numbers { end: i32::MIN, ..n }), (map.clone(), Numbers { end: i32::MAX, ..n })]);
+    all.extend([i32::MIN, i32::MAX, n.start, n.start - 1, n.start + 1].map(|end| (map.clone(), Numbers { end, ..n })));
     all.extend(ROOTS.map(|root| (map.clone(), Numbers { root, ..n })));
     all
 }
@@ -49,7 +53,10 @@ fn mappings() -> Vec<(Vec<i32>, Numbers)> {
 fn reads() {
     let mut seen = Tally::default();
     assert_eq!(UNMAPPED, i32::MIN);
-    for text in [GAPS, LINEAR, b"", b"1\n0\n127\n60\n", b"1\n0\n127\n60\n60\n440.0\n12\ny\n", b"1\n0\n127\n60\n60\n440.0\n12\n0\n1\n", b"9\n0\n2147483647\n"] {
+    for text in [
+        GAPS, LINEAR, SWAPPED, b"", b"1\n0\n127\n60\n", b"1\n0\n127\n60\n60\n440.0\n12\ny\n", b"1\n0\n127\n60\n60\n440.0\n12\n0\n1\n",
+        b"9\n0\n2147483647\n", b"9\n0\n-1\n",
+    ] {
         for places in 0..PLACES {
             let (mut ours, mut theirs, mut n) = (table(), table(), numbers());
             let result = read(text, &mut theirs, places, &mut n);
@@ -59,6 +66,49 @@ fn reads() {
         }
     }
     seen.done(1);
+}
+
+/// The range of a text, or why it has none, number and line; a refusal leaves the table as it was.
+fn range_of(text: &[u8], places: usize) -> Result<Range<i32>, (u8, u64)> {
+    let mut map = table();
+    let answer = telbijan::read_mapping(text, &mut map[..places]);
+    assert!(answer.is_ok() || map == table());
+    answer.map(|n| n.start..n.end).map_err(|x| (x.number(), x.detail()))
+}
+
+/// A last key below the first is refused at its own line, before all that later lines have; one key is enough.
+#[test]
+fn backwards_texts() {
+    assert_eq!(range_of(b"1\n60\n60\n60\n60\n440.0\n1\n0\n", 1), Ok(60..61));
+    assert_eq!(range_of(b"1\n-2147483648\n2147483646\n60\n60\n440.0\n1\n0\n", 1), Ok(i32::MIN..i32::MAX));
+    assert_eq!(range_of(SWAPPED, PLACES), Err((BACKWARDS_RANGE, 4)));
+    let later = ["", "60\n60\n440.0\n1\n0\n", "x\n", "60\n60\n0\n", "60\n60\n440.0\n1\ny\n", "60\n60\n440.0\n1\n0\n0\n"];
+    for (rest, places) in later.into_iter().flat_map(|rest| [(rest, 0), (rest, 1)]) {
+        assert_eq!(range_of(format!("1\n60\n59\n{rest}").as_bytes(), places), Err((BACKWARDS_RANGE, 3)));
+    }
+    assert_eq!(range_of(b"! a\n1\n\n5\n!\n4\nx\n\xff", 8), Err((BACKWARDS_RANGE, 6)));
+    // far down, behind comments before the size and between the keys
+    for (head, between) in [(9, 0), (20, 0), (0, 254), (20, 300), (65_534, 0)] {
+        let text = format!("{}1\n60\n{}59\n60\n", "! c\n".repeat(head), "! c\n".repeat(between));
+        assert_eq!(range_of(text.as_bytes(), 8), Err((BACKWARDS_RANGE, (head + between + 3) as u64)));
+    }
+    assert_eq!(range_of(b"1\n2147483647\n2147483646\n", 8), Err((BACKWARDS_RANGE, 3)));
+    assert_eq!(range_of(b"1\n2147483647\n2147483647\n", 8), Err((OVERFLOW, 3)));
+    assert_eq!((range_of(b"1\nx\n0\n", 8), range_of(b"1\n5\n4!\n", 8)), (Err((INT_VALUE, 2)), Err((INT_VALUE, 3))));
+    assert_eq!(range_of(b"1\n5\n! \xff\n4\n", 8), Err((NOT_UTF8, 3)));
+}
+
+/// Numbers with no key in their range are taken as they are: every key is outside, and the text that is written is not read again.
+#[test]
+fn backwards_numbers() {
+    let (map, n) = mapping(GAPS);
+    let (swapped, mut text) = (MappingRef { map: &map, numbers: Numbers { start: n.end, end: n.start, ..n } }, [0; 64]);
+    for key in [n.start - 1, n.start, 58, n.end - 1, n.end] {
+        assert_eq!(swapped.degree_of(key).unwrap_err().number(), KEY_OUT_OF_RANGE);
+    }
+    let written = swapped.export(&mut text).unwrap();
+    assert_eq!(&text[..written], b"5\n91\n2\n61\n58\n431.500\n7\n0\nx\n-2\n6\nx\n");
+    assert_eq!(range_of(&text[..written], PLACES), Err((BACKWARDS_RANGE, 3)));
 }
 
 #[test]
@@ -99,12 +149,13 @@ fn exports() {
     seen.done(1);
 }
 
-/// Entries pushed and built in a table of so many places, beside the flat calls.
-fn build(seen: &mut Tally, places: usize, root: Root, entries: &[Option<i16>], octave: Option<i16>) {
-    let (mut ours, mut theirs, mut count, mut n) = (table(), table(), 0, Numbers { start: -3, end: 99, root, ..numbers() });
+/// Entries pushed and built for these keys in a table of so many places, beside the flat calls.
+fn build(seen: &mut Tally, places: usize, root: Root, keys: Range<i32>, entries: &[Option<i16>], octave: Option<i16>) {
+    let Range { start, end } = keys;
+    let (mut ours, mut theirs, mut count, mut n) = (table(), table(), 0, Numbers { start, end, root, ..numbers() });
     // Safety: no memory is lent.
     let result = unsafe { raw::telbijan_kbm_root(root.reference, root.hz, root.offset) };
-    let builder = MappingBuilder::new(&mut ours[..places], root, -3..99);
+    let builder = MappingBuilder::new(&mut ours[..places], root, keys);
     if !seen.agree("MappingBuilder::new", builder.as_ref().map(|_| ()).map_err(|&x| x), result, ()) {
         return assert_eq!(ours, theirs);
     }
@@ -127,7 +178,9 @@ fn build(seen: &mut Tally, places: usize, root: Root, entries: &[Option<i16>], o
     let given = (octave.is_some(), octave.unwrap_or(0));
     // Safety: the table has as many places.
     let result = unsafe {
-        raw::telbijan_build_kbm(map, places, places, count, -3, 99, root.reference, root.hz, root.offset, given.0, given.1, &mut n.count, &mut n.octave)
+        raw::telbijan_build_kbm(
+            map, places, places, count, start, end, root.reference, root.hz, root.offset, given.0, given.1, &mut n.count, &mut n.octave,
+        )
     };
     let built = builder.build(octave);
     assert!(built.is_err() || built.is_ok_and(|built| built.map == &theirs[..places]));
@@ -140,10 +193,46 @@ fn builders() {
     let mut seen = Tally::default();
     let entries = [Some(-7), None, Some(32_767), None, Some(5)];
     for (root, places) in ROOTS.into_iter().flat_map(|root| (0..8).map(move |places| (root, places))) {
-        for pushed in 0..=entries.len() {
-            build(&mut seen, places, root, &entries[..pushed], None);
-            build(&mut seen, places, root, &entries[..pushed], Some(-31));
+        for (pushed, keys) in (0..=entries.len()).flat_map(|pushed| [-3..99, 99..-3, 7..7, 7..8].map(|keys| (pushed, keys))) {
+            build(&mut seen, places, root, keys.clone(), &entries[..pushed], None);
+            build(&mut seen, places, root, keys, &entries[..pushed], Some(-31));
         }
     }
     seen.done(4);
+}
+
+/// What a build of so many entries says; in any case the table is as it was pushed.
+fn built(entries: usize, keys: Range<i32>, octave: Option<i16>) -> Result<Range<i32>, (u8, u64)> {
+    let mut map = vec![-7; entries + 1];
+    let mut builder = MappingBuilder::new(&mut map, Root { reference: 60, hz: 256.0, offset: 2 }, keys).unwrap();
+    (0..entries).try_for_each(|_| builder.push(5)).unwrap();
+    let answer = builder.build(octave).map(|built| built.numbers.start..built.numbers.end).map_err(|x| (x.number(), x.detail()));
+    assert!(map[..entries].iter().all(|&entry| entry == 5) && map[entries] == -7);
+    answer
+}
+
+/// A last key below the first is refused with no line, after 15 and before 13. The empty range is such a one, a range of one key is not.
+#[test]
+fn backwards_builds() {
+    for keys in [5..4, 5..5, 128..0, -1..-1, i32::MAX..i32::MIN] {
+        for (entries, octave) in [(2, Some(7)), (0, Some(7)), (0, None), (65_536, Some(7))] {
+            assert_eq!(built(entries, keys.clone(), octave), Err((BACKWARDS_RANGE, 0)));
+        }
+        assert_eq!(built(2, keys, None), Err((FORMAL_OCTAVE_MISSING, 0)));
+    }
+    assert_eq!((built(2, 4..5, Some(7)), built(0, i32::MIN..i32::MIN + 1, None)), (Ok(4..5), Ok(i32::MIN..i32::MIN + 1)));
+    assert_eq!((built(65_536, 4..5, Some(7)), built(65_536, 5..4, None)), (Err((TOO_LARGE, 0)), Err((FORMAL_OCTAVE_MISSING, 0))));
+}
+
+/// A build that was refused for its range is made again in the same table, with a range that has a key.
+#[test]
+fn mended_builds() {
+    let mut map = table();
+    let mut build = |keys: Range<i32>| {
+        let mut builder = MappingBuilder::new(&mut map, Root { reference: 60, hz: 256.0, offset: 2 }, keys)?;
+        builder.push(5).and(builder.push_unmapped())?;
+        builder.build(Some(7))?.degree_of(62)
+    };
+    assert_eq!(build(62..61).unwrap_err().number(), BACKWARDS_RANGE);
+    assert_eq!(build(61..63), Ok(12));
 }

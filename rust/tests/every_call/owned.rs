@@ -1,6 +1,6 @@
 //! Scales and mappings that own their tables: they hold what the calls on lent ones leave in tables of their room.
 
-use crate::mappings::{GAPS, LINEAR};
+use crate::mappings::{GAPS, LINEAR, SWAPPED};
 use crate::scales::{MIXED, NONE, ONE};
 use crate::tally::counted;
 use telbijan::{read_mapping, Columns, Mapping, MappingBuilder, Refusal, Root, Scale, ScaleRef};
@@ -81,7 +81,7 @@ fn scales_built_and_written() {
 
 #[test]
 fn mappings_read_and_written() {
-    let texts = [GAPS, LINEAR, b"", b"1\n0\n127\n60\n60\n440.0\n12\n0\n1\n"];
+    let texts = [GAPS, LINEAR, SWAPPED, b"", b"1\n0\n127\n60\n60\n440.0\n12\n0\n1\n"];
     counted("Mapping::read", sides(texts.map(Mapping::read)));
     for text in texts {
         let (mut map, owned) = (vec![0; 65_535], Mapping::read(text));
@@ -112,6 +112,8 @@ fn mappings_built() {
     assert_eq!(Mapping::build(9, root, -3..99, Some(-31), fill).unwrap().view().map, lent.map);
     assert_eq!(Mapping::build(1, root, -3..99, Some(-31), fill).unwrap_err().number(), 12);
     assert_eq!(Mapping::build(2, root, -3..99, None, fill).unwrap_err().number(), 15);
+    assert_eq!(Mapping::build(2, root, 99..-3, Some(-31), fill).unwrap_err().number(), 25);
+    assert_eq!(Mapping::build(2, root, 99..-3, None, fill).unwrap_err().number(), 15);
     assert_eq!(Mapping::build(2, Root { hz: 0.0, ..root }, -3..99, Some(-31), fill).unwrap_err().number(), 10);
 }
 

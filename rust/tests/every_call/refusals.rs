@@ -26,7 +26,7 @@ fn no_octave() -> Refusal {
 }
 
 /// All that there are; those between are no numbers of this library.
-const NUMBERS: [u8; 19] = [1, 2, 3, 4, 5, 6, 7, 8, 9, 10, 11, 12, 13, 14, 15, 16, 17, 18, 29];
+const NUMBERS: [u8; 20] = [1, 2, 3, 4, 5, 6, 7, 8, 9, 10, 11, 12, 13, 14, 15, 16, 17, 18, 25, 29];
 
 #[test]
 fn each_number() {
@@ -50,6 +50,7 @@ fn each_number() {
         (key(91), 0, "the key is outside the range"),
         (key(59), 0, "the key is unmapped"),
         (ratio::exp2(901.0).unwrap_err(), 0, "beyond reach: a period of 1.0, 0 divisions, or a computed pitch or ratio outside its range"),
+        (kbm(b"0\n! keys\n61\n60\n"), 4, "line 4: the last key is below the first"),
         (ratio::best_fraction(1.5, 0).unwrap_err(), 0, "no fraction: the odd limit is 0"),
     ];
     for (number, (refusal, detail, sentence)) in NUMBERS.into_iter().zip(said) {
@@ -67,7 +68,7 @@ fn names() {
     let names = [
         NOT_UTF8, LINE_MISSING, INT_VALUE, CENTS_VALUE, NUMER, DENOM, FLOAT_VALUE, KEYBOARD_MAPPING, UNSUPPORTED_NUMERAL,
         UNUSABLE, OVERFLOW, NO_ROOM, TOO_LARGE, INCONSISTENT_COUNT, FORMAL_OCTAVE_MISSING, KEY_OUT_OF_RANGE, UNMAPPED_KEY, BEYOND_REACH,
-        NO_FRACTION,
+        BACKWARDS_RANGE, NO_FRACTION,
     ];
     assert_eq!(names, NUMBERS);
     for number in (0..=255).filter(|number| !NUMBERS.contains(number)) {

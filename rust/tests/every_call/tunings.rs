@@ -4,6 +4,7 @@ use crate::mappings::{mapping, GAPS, LINEAR};
 use crate::memory::{lengths, Lengths, Memory};
 use crate::scales::{MIXED, NONE, ONE, ROOTS};
 use crate::tally::Tally;
+use telbijan::number::KEY_OUT_OF_RANGE;
 use telbijan::{MappingRef, Numbers, Tuning};
 
 const PLACES: usize = 16;
@@ -67,4 +68,20 @@ fn runs_of_keys() {
         }
     }
     seen.done(1);
+}
+
+/// Numbers with no key in their range, the last below the first: each key is outside, by itself, by its degree and in a run.
+#[test]
+fn backwards_numbers() {
+    let ((mut memory, count), (map, n)) = (Memory::with(MIXED), mapping(GAPS));
+    let lent = memory.lend([20, 21, 22, 23, 24, 25, 26]);
+    let numbers = Numbers { start: n.end, end: n.start, ..n };
+    let tuning = Tuning { scale: lent.scale(count), mapping: MappingRef { map: &map, numbers } };
+    for key in n.start - 1..=n.end {
+        assert_eq!(tuning.pitch_of(key).unwrap_err().number(), KEY_OUT_OF_RANGE);
+        assert_eq!(tuning.pitch_of_degree(key - n.root.reference).unwrap_err().number(), KEY_OUT_OF_RANGE);
+    }
+    let (mut hz, mut said) = ([0.5; 90], [77; 90]);
+    tuning.pitches_of(n.start - 1, &mut hz, &mut said).unwrap();
+    assert_eq!((hz, said), ([0.5; 90], [KEY_OUT_OF_RANGE.into(); 90]));
 }

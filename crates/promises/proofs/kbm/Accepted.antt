@@ -1,4 +1,4 @@
--- A TEXT OF THE PUBLISHED FORMAT IS IN DOCUMENT 01'S LANGUAGE exactly within 01's limits, with the same numbers (01 has the f64 nearest the
+-- A TEXT OF THE PUBLISHED FORMAT IS IN DOCUMENT 01'S LANGUAGE exactly within its limits, with the same numbers (01 has the f64 nearest the
 -- frequency) and entries; it is read where the table has a place for each entry. Which degrees its keys have: Sounding. Assumes nothing.
 use mathlib.Core.Path.{_≡_, refl, sym, _∙_, subst}
 use mathlib.Core.Bool.{true, false, _&&_}
@@ -133,7 +133,7 @@ module _ {s : List ℕ} {m : P.Mapping} (p : P.PublishedText s m) where
         (
           whole-integer (2 ^ 31) 2147483647 refl (w .first) (p .first .value),
           (
-            (whole-integer (2 ^ 31) 2147483647 refl (w .last) (p .last .value), w .before-end),
+            (whole-integer (2 ^ 31) 2147483647 refl (w .last) (p .last .value), w .before-end, w .forward),
             (
               whole-integer (2 ^ 15) 32767 refl (w .middle) (p .middle .value),
               (

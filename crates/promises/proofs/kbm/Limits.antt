@@ -64,14 +64,16 @@ module _ {s : List ℕ} {m : P.Mapping} (p : P.PublishedText s m) where
       let hz-is = hertz-agrees (p .frequency .token) (m .hertz) (m .places) hz x dec in
       let size-is : pos (m .size) ≡ pos n = same-number (p .size) (g .0) in
       let count : m .size ≡ n = cc in
+      let first-is = same-number (p .first) (g .1 .0) in
       let last-is = same-number (p .last) (g .1 .1 .0 .0) in
       record {
         utf8 = u;
         size = omega (arith, count, small (g .0));
         unsigned = λ t. no-minus (g .0);
-        first = rw (same-number (p .first) (g .1 .0)) (typed-int (2 ^ 31) 2147483647 (lit≤ tt) (g .1 .0));
+        first = rw first-is (typed-int (2 ^ 31) 2147483647 (lit≤ tt) (g .1 .0));
         last = rw last-is (typed-int (2 ^ 31) 2147483647 (lit≤ tt) (g .1 .1 .0 .0));
         before-end = λ e. g .1 .1 .0 .1 (sym last-is ∙ e);
+        forward = rw (first-is, last-is) (g .1 .1 .0 .2);
         middle = rw (same-number (p .middle) (g .1 .1 .1 .0)) (typed-int (2 ^ 15) 32767 (lit≤ tt) (g .1 .1 .1 .0));
         reference = rw (same-number (p .reference) (g .1 .1 .1 .1 .0)) (typed-int (2 ^ 15) 32767 (lit≤ tt) (g .1 .1 .1 .1 .0));
         digits = omega (arith, at-most (length (fromNonzero (x .whole ++ x .part))) 18 (λ h. supported (Unsupported.long h)));

@@ -142,6 +142,7 @@ module _ (middle : List ℕ) (n : ℕ) (cut : lines (linesText (parts middle)) �
         first = refl;
         last = refl;
         before-end = λ e. not-largest e;
+        forward = leZ-yes tt;
         middle = i;
         reference = refl;
         digits = lit≤ tt;

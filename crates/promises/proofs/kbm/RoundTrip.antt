@@ -1,6 +1,6 @@
--- THE ROUND TRIP: the export of a mapping, read again into a table with a place for each entry, is the same mapping exactly when reference
--- and middle key fit i16 and the pitch is the f64 nearest its own three decimals. That a read leaves the entries is `entries-back` of Agree,
--- also where the pitch comes back as another. Assumes nothing.
+-- THE ROUND TRIP: the export of a mapping, read again into a table with a place for each entry, is the same mapping exactly when its range
+-- has a key, reference and middle key fit i16 and the pitch is the f64 nearest its own three decimals. That a read leaves the entries is
+-- `entries-back` of Agree, also where the pitch comes back as another. Assumes nothing.
 use mathlib.Core.Path.{_≡_, refl, sym, ap, _∙_}
 use mathlib.Core.Bool.{Bool, true, false}
 use mathlib.Core.List.{List, _∷_, append-nil}
@@ -17,6 +17,7 @@ use borrow.Author.Tests.{le-leb, lt-leb}
 use Rattle.base.specs.Integers.{inI32}
 use Rattle.base.specs.Said.{gives, refuses}
 use Rattle.base.proofs.Integers.{mag-in}
+use Rattle.base.proofs.Order.{at-most, passed, before-end, end-after}
 use Rattle.base.proofs.Said.{same-value, no-value}
 use Rattle.floats.specs.Ranges.{inPitch}
 use Rattle.decimals.specs.DecimalScan.{readDecimal}
@@ -57,18 +58,22 @@ last-below (negsuc n) h = refl
 -- the refusals of the lines that may not come back
 module _ (room : ℕ) (t1 t2 t3 t4 t5 t6 : List ℕ) (ts : List (List ℕ)) {size : ℕ} {first last : ℤ} (e1 : readInt false (2 ^ 16) t1 ≡ value (pos size)) (e2 : readInt true (2 ^ 31) t2 ≡ value first)
     (e3 : readInt true (2 ^ 31) t3 ≡ value last) (n3 : leZ (pos 2147483647) last ≡ false) where
-  middle-not : readInt true (2 ^ 15) t4 ≡ none → walk room 1 unread (selves (t1 ∷ t2 ∷ t3 ∷ t4 ∷ t5 ∷ t6 ∷ ts)) ≡ refuses 3 4
+  last-not : leZ first last ≡ false → walk room 1 unread (selves (t1 ∷ t2 ∷ t3 ∷ t4 ∷ t5 ∷ t6 ∷ ts)) ≡ refuses 25 3
   unfolding walkLines selves takeToken
-  middle-not e4 = rw (e1, e2, e3, n3, e4)
+  last-not d3 = rw (e1, e2, e3, n3, d3)
 
-  reference-not : {middle : ℤ} → readInt true (2 ^ 15) t4 ≡ value middle → readInt true (2 ^ 15) t5 ≡ none → walk room 1 unread (selves (t1 ∷ t2 ∷ t3 ∷ t4 ∷ t5 ∷ t6 ∷ ts)) ≡ refuses 3 5
+  middle-not : leZ first last ≡ true → readInt true (2 ^ 15) t4 ≡ none → walk room 1 unread (selves (t1 ∷ t2 ∷ t3 ∷ t4 ∷ t5 ∷ t6 ∷ ts)) ≡ refuses 3 4
   unfolding walkLines selves takeToken
-  reference-not e4 e5 = rw (e1, e2, e3, n3, e4, e5)
+  middle-not u3 e4 = rw (e1, e2, e3, n3, u3, e4)
 
-  pitch-not : {middle reference : ℤ} {hz : Float} → readInt true (2 ^ 15) t4 ≡ value middle → readInt true (2 ^ 15) t5 ≡ value reference → readDecimal t6 ≡ decimal.Is hz → inPitch hz ≡ false
+  reference-not : {middle : ℤ} → leZ first last ≡ true → readInt true (2 ^ 15) t4 ≡ value middle → readInt true (2 ^ 15) t5 ≡ none → walk room 1 unread (selves (t1 ∷ t2 ∷ t3 ∷ t4 ∷ t5 ∷ t6 ∷ ts)) ≡ refuses 3 5
+  unfolding walkLines selves takeToken
+  reference-not u3 e4 e5 = rw (e1, e2, e3, n3, u3, e4, e5)
+
+  pitch-not : {middle reference : ℤ} {hz : Float} → leZ first last ≡ true → readInt true (2 ^ 15) t4 ≡ value middle → readInt true (2 ^ 15) t5 ≡ value reference → readDecimal t6 ≡ decimal.Is hz → inPitch hz ≡ false
       → walk room 1 unread (selves (t1 ∷ t2 ∷ t3 ∷ t4 ∷ t5 ∷ t6 ∷ ts)) ≡ refuses 10 6
   unfolding walkLines selves takeToken
-  pitch-not e4 e5 e6 n6 = rw (e1, e2, e3, n3, e4, e5, e6, n6)
+  pitch-not u3 e4 e5 e6 n6 = rw (e1, e2, e3, n3, u3, e4, e5, e6, n6)
 
 -- the mapping of the seven lines is the one that was written
 mapping-is : (kbm : Kbm) → mappingOf (headIs (kbm .count) (kbm .start .0) (lastKeyOf kbm) (middleKeyOf kbm) (kbm .root .reference .0) (kbm .root .pitch .0) (kbm .octave)) ≡ kbm
@@ -101,22 +106,26 @@ module _ (kbm : Kbm) (es : List Entry) (y : TypedKbm kbm es) where
   octave-back : readInt true (2 ^ 15) (wholeText (kbm .octave)) ≡ value (kbm .octave)
   octave-back = whole-value (2 ^ 15) (kbm .octave) (lit< tt) (mag-i16 (kbm .octave) (y .octave)) (lit< tt)
 
-  -- what is read where the two keys are, and the pitch's three decimals are usable
-  read-back : (room : ℕ) → kbm .count ≤ room → readInt true (2 ^ 15) (wholeText (middleKeyOf kbm)) ≡ value (middleKeyOf kbm) → readInt true (2 ^ 15) (wholeText (kbm .root .reference .0)) ≡ value (kbm .root .reference .0)
+  -- the last key is not below the first
+  abbrev Up : Type 0
+  Up = leZ (kbm .start .0) (lastKeyOf kbm) ≡ true
+
+  -- what is read where the range has a key, the two keys are read, and the pitch's three decimals are usable
+  read-back : (room : ℕ) → kbm .count ≤ room → Up → readInt true (2 ^ 15) (wholeText (middleKeyOf kbm)) ≡ value (middleKeyOf kbm) → readInt true (2 ^ 15) (wholeText (kbm .root .reference .0)) ≡ value (kbm .root .reference .0)
       → {x : Float} → readDecimal (textOf 3 false hz) ≡ decimal.Is x → inPitch x ≡ true
       → readOf room (exportText kbm es) ≡ gives (mappingOf (headIs (kbm .count) (kbm .start .0) (lastKeyOf kbm) (middleKeyOf kbm) (kbm .root .reference .0) x (kbm .octave)))
-  read-back room r e4 e5 {x} e6 n6 =
+  read-back room r u e4 e5 {x} e6 n6 =
       let h = headIs (kbm .count) (kbm .start .0) (lastKeyOf kbm) (middleKeyOf kbm) (kbm .root .reference .0) x (kbm .octave) in
       ap (walk room 1 unread) (export-found kbm es)
       ∙ head-read room (wholeText (pos (kbm .count))) (wholeText (kbm .start .0)) (wholeText (lastKeyOf kbm)) (wholeText (middleKeyOf kbm)) (wholeText (kbm .root .reference .0)) (textOf 3 false hz) (wholeText (kbm .octave)) (entryTexts es)
-      size-back start-back last-back last-low e4 e5 e6 n6 octave-back
+      size-back start-back last-back last-low u e4 e5 e6 n6 octave-back
       ∙ entries-read room 8 h 0 es (y .degrees) (omega (arith, y .counted, r))
       ∙ ends-read room h (0 + length es) (zero-add (length es) ∙ y .counted) (omega (arith, y .counted, y .size)) (omega (arith, y .counted, r))
 
   module _ (room : ℕ) (r : kbm .count ≤ room) where
     comes-back : ComesBack kbm → readOf room (exportText kbm es) ≡ gives kbm
     comes-back c =
-        read-back room r (whole-value (2 ^ 15) (middleKeyOf kbm) (lit< tt) (mag-i16 (middleKeyOf kbm) (c .middle)) (lit< tt))
+        read-back room r (passed (before-end (c .forward))) (whole-value (2 ^ 15) (middleKeyOf kbm) (lit< tt) (mag-i16 (middleKeyOf kbm) (c .middle)) (lit< tt))
         (whole-value (2 ^ 15) (kbm .root .reference .0) (lit< tt) (mag-i16 (kbm .root .reference .0) (c .reference)) (lit< tt))
         (pitch-back ∙ ap decimal.Is (c .pitch)) (y .pitch)
         ∙ ap gives (mapping-is kbm)
@@ -125,35 +134,46 @@ module _ (kbm : Kbm) (es : List Entry) (y : TypedKbm kbm es) where
     ts = wholeText (kbm .octave) ∷ entryTexts es
 
     -- what reading gives determines which lines were read
-    had-pitch : (b : Bool) → inPitch (nearestThree hz) ≡ b → readInt true (2 ^ 15) (wholeText (middleKeyOf kbm)) ≡ value (middleKeyOf kbm) → readInt true (2 ^ 15) (wholeText (kbm .root .reference .0)) ≡ value (kbm .root .reference .0)
+    had-pitch : Up → (b : Bool) → inPitch (nearestThree hz) ≡ b → readInt true (2 ^ 15) (wholeText (middleKeyOf kbm)) ≡ value (middleKeyOf kbm) → readInt true (2 ^ 15) (wholeText (kbm .root .reference .0)) ≡ value (kbm .root .reference .0)
         → readOf room (exportText kbm es) ≡ gives kbm → nearestThree hz ≡ hz
-    had-pitch false n e4 e5 e =
+    had-pitch u false n e4 e5 e =
         no-value (sym (ap (walk room 1 unread) (export-found kbm es)
-        ∙ pitch-not room (wholeText (pos (kbm .count))) (wholeText (kbm .start .0)) (wholeText (lastKeyOf kbm)) (wholeText (middleKeyOf kbm)) (wholeText (kbm .root .reference .0)) (textOf 3 false hz) ts size-back start-back last-back last-low e4 e5 pitch-back n) ∙ e)
-    had-pitch true n e4 e5 e = ap (λ (k : Kbm). k .root .pitch .0) (same-value _ _ (sym (read-back room r e4 e5 pitch-back n) ∙ e))
+        ∙ pitch-not room (wholeText (pos (kbm .count))) (wholeText (kbm .start .0)) (wholeText (lastKeyOf kbm)) (wholeText (middleKeyOf kbm)) (wholeText (kbm .root .reference .0)) (textOf 3 false hz) ts size-back start-back last-back last-low u e4 e5 pitch-back n) ∙ e)
+    had-pitch u true n e4 e5 e = ap (λ (k : Kbm). k .root .pitch .0) (same-value _ _ (sym (read-back room r u e4 e5 pitch-back n) ∙ e))
 
-    had-reference : (i : Int) → readInt true (2 ^ 15) (wholeText (kbm .root .reference .0)) ≡ i → readInt true (2 ^ 15) (wholeText (middleKeyOf kbm)) ≡ value (middleKeyOf kbm) → inI16 (middleKeyOf kbm) ≡ true
+    had-reference : Up → (i : Int) → readInt true (2 ^ 15) (wholeText (kbm .root .reference .0)) ≡ i → readInt true (2 ^ 15) (wholeText (middleKeyOf kbm)) ≡ value (middleKeyOf kbm) → inI16 (middleKeyOf kbm) ≡ true
         → readOf room (exportText kbm es) ≡ gives kbm → ComesBack kbm
-    had-reference none q e4 m e =
+    had-reference u none q e4 m e =
         no-value (sym (ap (walk room 1 unread) (export-found kbm es)
-        ∙ reference-not room (wholeText (pos (kbm .count))) (wholeText (kbm .start .0)) (wholeText (lastKeyOf kbm)) (wholeText (middleKeyOf kbm)) (wholeText (kbm .root .reference .0)) (textOf 3 false hz) ts size-back start-back last-back last-low e4 q) ∙ e)
-    had-reference (value z) q e4 m e =
+        ∙ reference-not room (wholeText (pos (kbm .count))) (wholeText (kbm .start .0)) (wholeText (lastKeyOf kbm)) (wholeText (middleKeyOf kbm)) (wholeText (kbm .root .reference .0)) (textOf 3 false hz) ts size-back start-back last-back last-low u e4 q) ∙ e)
+    had-reference u (value z) q e4 m e =
         let key = kbm .root .reference .0 in
         let h = reads-only (2 ^ 15) key z (lit< tt) (lit≤ tt) (mag-in key (y .reference)) (sound true (2 ^ 15) (lit< tt) z (wholeText key) (sym q)) in
-        record { reference = in-i16 key (h .1); middle = m; pitch = had-pitch (inPitch (nearestThree hz)) refl e4 (q ∙ ap value (h .0)) e }
+        record {
+          forward = end-after (at-most u);
+          reference = in-i16 key (h .1);
+          middle = m;
+          pitch = had-pitch u (inPitch (nearestThree hz)) refl e4 (q ∙ ap value (h .0)) e;
+        }
 
-    had-middle : (i : Int) → readInt true (2 ^ 15) (wholeText (middleKeyOf kbm)) ≡ i → readOf room (exportText kbm es) ≡ gives kbm → ComesBack kbm
-    had-middle none q e =
+    had-middle : Up → (i : Int) → readInt true (2 ^ 15) (wholeText (middleKeyOf kbm)) ≡ i → readOf room (exportText kbm es) ≡ gives kbm → ComesBack kbm
+    had-middle u none q e =
         no-value (sym (ap (walk room 1 unread) (export-found kbm es)
-        ∙ middle-not room (wholeText (pos (kbm .count))) (wholeText (kbm .start .0)) (wholeText (lastKeyOf kbm)) (wholeText (middleKeyOf kbm)) (wholeText (kbm .root .reference .0)) (textOf 3 false hz) ts size-back start-back last-back last-low q) ∙ e)
-    had-middle (value z) q e =
+        ∙ middle-not room (wholeText (pos (kbm .count))) (wholeText (kbm .start .0)) (wholeText (lastKeyOf kbm)) (wholeText (middleKeyOf kbm)) (wholeText (kbm .root .reference .0)) (textOf 3 false hz) ts size-back start-back last-back last-low u q) ∙ e)
+    had-middle u (value z) q e =
         let key = middleKeyOf kbm in
         let h = reads-only (2 ^ 15) key z (lit< tt) (lit≤ tt) (mag-in key (y .middle)) (sound true (2 ^ 15) (lit< tt) z (wholeText key) (sym q)) in
-        had-reference (readInt true (2 ^ 15) (wholeText (kbm .root .reference .0))) refl (q ∙ ap value (h .0)) (in-i16 key (h .1)) e
+        had-reference u (readInt true (2 ^ 15) (wholeText (kbm .root .reference .0))) refl (q ∙ ap value (h .0)) (in-i16 key (h .1)) e
+
+    had-last : (b : Bool) → leZ (kbm .start .0) (lastKeyOf kbm) ≡ b → readOf room (exportText kbm es) ≡ gives kbm → ComesBack kbm
+    had-last false d e =
+        no-value (sym (ap (walk room 1 unread) (export-found kbm es)
+        ∙ last-not room (wholeText (pos (kbm .count))) (wholeText (kbm .start .0)) (wholeText (lastKeyOf kbm)) (wholeText (middleKeyOf kbm)) (wholeText (kbm .root .reference .0)) (textOf 3 false hz) ts size-back start-back last-back last-low d) ∙ e)
+    had-last true u e = had-middle u (readInt true (2 ^ 15) (wholeText (middleKeyOf kbm))) refl e
 
     -- an export read again, into a table with a place for each entry, is the same mapping exactly when it comes back
     pub round-trip : (readOf room (exportText kbm es) ≡ gives kbm) ↔ ComesBack kbm
-    round-trip = (had-middle (readInt true (2 ^ 15) (wholeText (middleKeyOf kbm))) refl, comes-back)
+    round-trip = (had-last (leZ (kbm .start .0) (lastKeyOf kbm)) refl, comes-back)
 
   -- the entries that the lines of the export say, read or not
   lines-back : entriesIn (kbm .count) (exportText kbm es) ≡ es

@@ -10,7 +10,7 @@ use lib.Dec.{lit<, lit≤}
 use lib.Ieee.{Float, ofBits, round, le}
 use lib.IntN.{ℤ, pos, negsuc}
 use lib.ListN.{length}
-use lib.Signed.{leZ-yes}
+use lib.Signed.{leZ-yes, ltZ-yes}
 use Rattle.base.specs.Integers.{held}
 use Rattle.base.specs.Said.{gives}
 use Rattle.numerals.specs.Scan.{spelled, scanOf}
@@ -24,7 +24,7 @@ use Rattle.kbm.specs.Keys.{Lacks}
 use Rattle.kbm.specs.Table.{entriesOf}
 use Rattle.kbm.specs.declared.Entry.{Entry}
 use Rattle.kbm.specs.declared.Entry.the-variants.{Mapped, Unmapped}
-use Rattle.kbm_read.specs.Language.{Required, required, unseen, Values, GiveAll, EntryText, Entries, Tokens, sizeOf, mappingFrom, blanks, added, MappingText}
+use Rattle.kbm_read.specs.Language.{Required, Seen, required, unseen, see, Values, GiveAll, EntryText, Entries, Tokens, sizeOf, mappingFrom, blanks, added, MappingText}
 use Rattle.kbm_read.specs.Reader.{afterRead}
 use Rattle.kbm_read.proofs.Fields.{readAs, read-gives}
 use Rattle.kbm_read.proofs.Language.{in-language}
@@ -42,19 +42,19 @@ use Rattle.promises.proofs.kbm.KeysOfText.{other, read-answers, text-la
 
 -- ---- A TEXT OF THE LANGUAGE, by computation
 -- the values that the required lines are read as
-abbrev ReadAll : (fs : List Required) → List (List ℕ) → Values fs → Type 0
-ReadAll [] [] vs = Unit {0}
-ReadAll [] (t ∷ ts) vs = ⊥
-ReadAll (f ∷ fs) [] vs = ⊥
-ReadAll (f ∷ fs) (t ∷ ts) vs = (readAs f 0 t ≡ gives (vs .0)) × ReadAll fs ts (vs .1)
+abbrev ReadAll : Seen → (fs : List Required) → List (List ℕ) → Values fs → Type 0
+ReadAll key [] [] vs = Unit {0}
+ReadAll key [] (t ∷ ts) vs = ⊥
+ReadAll key (f ∷ fs) [] vs = ⊥
+ReadAll key (f ∷ fs) (t ∷ ts) vs = (readAs f key 0 t ≡ gives (vs .0)) × ReadAll (see f key (vs .0)) fs ts (vs .1)
 
-all-read : (fs : List Required) (ts : List (List ℕ)) (vs : Values fs) → ReadAll fs ts vs → GiveAll unseen fs ts vs
-all-read [] [] vs r = tt
-all-read [] (t ∷ ts) vs r = absurd r
-all-read (f ∷ fs) [] vs r = absurd r
-all-read (f ∷ fs) (t ∷ ts) vs r = (read-gives f 0 t (vs .0) (r .0), all-read fs ts (vs .1) (r .1))
+all-read : (key : Seen) (fs : List Required) (ts : List (List ℕ)) (vs : Values fs) → ReadAll key fs ts vs → GiveAll key fs ts vs
+all-read key [] [] vs r = tt
+all-read key [] (t ∷ ts) vs r = absurd r
+all-read key (f ∷ fs) [] vs r = absurd r
+all-read key (f ∷ fs) (t ∷ ts) vs r = (read-gives f key 0 t (vs .0) (r .0), all-read (see f key (vs .0)) fs ts (vs .1) (r .1))
 
-by-lines : (s : List ℕ) (first rest : List (List ℕ)) (vs : Values required) (es : List Entry) → Tokens (saidIn s) (first ++ rest) → ReadAll required first vs → Entries rest es
+by-lines : (s : List ℕ) (first rest : List (List ℕ)) (vs : Values required) (es : List Entry) → Tokens (saidIn s) (first ++ rest) → ReadAll unseen required first vs → Entries rest es
     → length (added (sizeOf vs) es) ≤ 65535 → length es ≤ sizeOf vs → MappingText s (mappingFrom vs) (added (sizeOf vs) es)
 by-lines s first rest vs es t r e l c =
     record {
@@ -62,7 +62,7 @@ by-lines s first rest vs es t r e l c =
       text = strict-text s;
       values = vs;
       given = es;
-      lines = record { first = first; rest = rest; words = t; values = all-read required first vs r; entries = e };
+      lines = record { first = first; rest = rest; words = t; values = all-read unseen required first vs r; entries = e };
       not-large = l;
       consistent = c;
       mapping = refl;
@@ -148,7 +148,7 @@ sample-back =
             degrees = (refl, (tt, (refl, tt)));
             counted = refl;
           };
-      back = record { reference = refl; middle = refl; pitch = refl };
+      back = record { forward = ltZ-yes tt; reference = refl; middle = refl; pitch = refl };
       not-back = λ c. no-test (ap (λ (x : Float). le x (exampleKbm (pos 62) .root .pitch .0)) (c .pitch));
     }
   where

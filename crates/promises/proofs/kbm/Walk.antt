@@ -71,12 +71,12 @@ headIs size first last middle reference hz octave =
 -- THE SEVEN LINES: each token is read, and the next line is due
 pub head-read : (room : ℕ) (t1 t2 t3 t4 t5 t6 t7 : List ℕ) (ts : List (List ℕ)) {size : ℕ} {first last middle reference : ℤ} {hz : Float} {octave : ℤ}
     → readInt false (2 ^ 16) t1 ≡ value (pos size) → readInt true (2 ^ 31) t2 ≡ value first → readInt true (2 ^ 31) t3 ≡ value last
-    → leZ (pos 2147483647) last ≡ false → readInt true (2 ^ 15) t4 ≡ value middle → readInt true (2 ^ 15) t5 ≡ value reference
+    → leZ (pos 2147483647) last ≡ false → leZ first last ≡ true → readInt true (2 ^ 15) t4 ≡ value middle → readInt true (2 ^ 15) t5 ≡ value reference
     → readDecimal t6 ≡ decimal.Is hz → inPitch hz ≡ true → readInt true (2 ^ 15) t7 ≡ value octave
     → walk room 1 unread (selves (t1 ∷ t2 ∷ t3 ∷ t4 ∷ t5 ∷ t6 ∷ t7 ∷ ts))
     ≡ walk room 8 (record { due = due.Entries; head = headIs size first last middle reference hz octave; count = 0 }) (selves ts)
 unfolding walkLines selves takeToken
-head-read room t1 t2 t3 t4 t5 t6 t7 ts e1 e2 e3 n3 e4 e5 e6 n6 e7 = rw (e1, e2, e3, n3, e4, e5, e6, n6, e7)
+head-read room t1 t2 t3 t4 t5 t6 t7 ts e1 e2 e3 n3 u3 e4 e5 e6 n6 e7 = rw (e1, e2, e3, n3, u3, e4, e5, e6, n6, e7)
 
 -- THE ENTRIES: each takes a place, where there are enough
 pub entries-read : (room k : ℕ) (h : Head) (n : ℕ) (es : List Entry) → AreI16 es → n + length es ≤ room

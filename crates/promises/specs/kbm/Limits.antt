@@ -1,6 +1,6 @@
--- THE LIMITS OF DOCUMENT 01 on Scala's published format: what a published text must be besides, so that 01 takes it, given room (12), each
--- with the sentence of 01 that it comes from and the number that it draws. There are no others (`published-exactly`): comments, blanks before
--- a value, and after it a blank and anything, are taken as published. Assumes nothing.
+-- THE LIMITS OF DOCUMENT 01, and of W8 in 02, on Scala's published format: what a published text must be besides, so that it is taken,
+-- given room (12), each with the sentence that it comes from and the number that it draws. There are no others (`published-exactly`):
+-- comments, blanks before a value, and after it a blank and anything, are taken as published. Assumes nothing.
 use mathlib.Core.Path.{_≡_}
 use mathlib.Core.Bool.{true, false}
 use mathlib.Core.List.{List, [], _∷_, _++_}
@@ -8,6 +8,7 @@ use Prim.Native.Nat.{ℕ, _^_, _≤_}
 use lib.Ieee.{round, binary64}
 use lib.IntN.{pos}
 use lib.ListN.{length}
+use lib.Signed.{_≤ℤ_}
 use Rattle.base.specs.Integers.{inI32}
 use Rattle.decimals.specs.DecimalText.{fromNonzero}
 use Rattle.floats.specs.Ranges.{inPitch}
@@ -32,6 +33,8 @@ pub record WithinLimits {s : List ℕ} {m : P.Mapping} (p : P.PublishedText s m)
   pub last : inI32 (m .last) ≡ true
   -- "Last key 2147483647 gives 11 at its line"
   pub before-end : m .last ≡ pos 2147483647 → ⊥
+  -- "Refuse a mapping whose last key is below its first": 25 (document 02, W8)
+  pub forward : m .first ≤ℤ m .last
   -- "middle key, reference key (i16)": 3
   pub middle : inI16 (m .middle) ≡ true
   pub reference : inI16 (m .reference) ≡ true

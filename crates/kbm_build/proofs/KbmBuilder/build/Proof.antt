@@ -1,4 +1,4 @@
--- `KbmBuilder::build` meets its contract: 10, then 15, then 13.
+-- `KbmBuilder::build` meets its contract: 10, then 15, then 25, then 13.
 -- Assumes nothing.
 use borrow.Author.Needs.{needs}
 use borrow.Author.Tests.{lt-ltb, le-ltb}
@@ -24,10 +24,12 @@ enum-told c = search needs
 returns : tie.Need-returns
 unfolding built
 returns c =
-    let told = c .before .before in
-    let test = told .before .before in
-    let start = test .before .before in
-    rw (sym (test .before .is-ready .ensures) ∙ test .if1 .taken, told .enum-told .given .1, lt-ltb 0 (start .args .self .count) (c .if2 .taken))
+    let start : tie.Start = search in
+    let ready : tie.Then1 = search in
+    let told : tie.After-enum-told = search in
+    let some : tie.Then2 = search in
+    let is-ready = sym (ready .before .is-ready .ensures) ∙ ready .if1 .taken in
+    rw (is-ready, told .enum-told .given .1, lt-ltb 0 (start .args .self .count) (some .if2 .taken))
 
 finish-requires-2 : tie.Need-finish-requires-2
 finish-requires-2 c κs = search needs

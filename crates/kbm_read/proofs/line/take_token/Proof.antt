@@ -3,14 +3,13 @@
 use borrow.Author.Needs.{needs}
 use mathlib.Core.Path.{_∙_}
 use native.Mathlib.Omega.{arith}
-use lib.IntN.{pos, _+ℤ_}
 use mir.Facts.{toZ-ofZ}
 use mir.Syntax.{w16, w32}
 use mir.Val.{SFits}
 use Rattle.integers.specs.Integer.{u16Of, i16Of, i32Of}
 use Rattle.base.specs.Numbers.{int-value}
 use Rattle.integers.proofs.AtLine.{int-step}
-use Rattle.kbm_read.proofs.Takes.{next-fits, last-over, last-is, pitch-refused, pitch-is, pitch-out, due-step}
+use Rattle.kbm_read.proofs.Takes.{pitch-refused, pitch-is, pitch-out, due-step}
 use Rattle.kbm_read.proofs.line.take_token.Statement.{statement}
 use Rattle.kbm_read.proofs.line.take_token.Tie as tie
 
@@ -74,25 +73,8 @@ refused-requires-3 c κs = search needs
 returns-3 : tie.Need-returns-3
 returns-3 c = c .refused3 .ensures ∙ int-step i32Of int-value _ _ (c .before .before .before .read-i322 .ensures) (c .before .enum-told6 .given .1) ∙ due-step _ _ _ _ (c .before .before .before .before .enum-told5 .given .1)
 
--- the last key that was read fits its type
-fits : (c : tie.After-known-told3) → SFits w32 (c .before .last .given .0 .0)
-fits c = record { sfits = omega (arith, c .known-told3) }
-
-refused-requires-4 : tie.Need-refused-requires-4
-refused-requires-4 c κs = search needs
-
-returns-4 : tie.Need-returns-4
-returns-4 c = c .refused4 .ensures ∙ last-over _ _ (c .before .before .before .before .before .before .before .before .before .before .args .state .head) (c .before .before .before .before .before .read-i322 .ensures) (c .before .before .before .last .given .1) (rw (toZ-ofZ (fits (c .before .before))) at (c .before .if1 .taken)) ∙ due-step _ _ _ _ (c .before .before .before .before .before .before .enum-told5 .given .1)
-
--- and so does the key after it
-next : (c : tie.Else1) → SFits w32 (c .before .before .last .given .0 .0 +ℤ pos 1)
-next c = next-fits _ (fits (c .before)) (rw (toZ-ofZ (fits (c .before))) at (c .if1 .left))
-
-add-head : tie.Need-add-head
-add-head c = rw (toZ-ofZ (fits (c .before))) (next c)
-
-goes-on-requires-3 : tie.Need-goes-on-requires-3
-goes-on-requires-3 c κs = search needs
+take-last-requires : tie.Need-take-last-requires
+take-last-requires c κs = search needs
 
 enum-told-7 : tie.Need-enum-told-7
 enum-told-7 c = search needs
@@ -106,14 +88,14 @@ enum-known-middle c = search needs
 enum-told-8 : tie.Need-enum-told-8
 enum-told-8 c = search needs
 
-refused-requires-5 : tie.Need-refused-requires-5
-refused-requires-5 c κs = search needs
+refused-requires-4 : tie.Need-refused-requires-4
+refused-requires-4 c κs = search needs
 
-returns-5 : tie.Need-returns-5
-returns-5 c = c .refused5 .ensures ∙ int-step i16Of int-value _ _ (c .before .before .before .read-i16 .ensures) (c .before .enum-told8 .given .1) ∙ due-step _ _ _ _ (c .before .before .before .before .enum-told7 .given .1)
+returns-4 : tie.Need-returns-4
+returns-4 c = c .refused4 .ensures ∙ int-step i16Of int-value _ _ (c .before .before .before .read-i16 .ensures) (c .before .enum-told8 .given .1) ∙ due-step _ _ _ _ (c .before .before .before .before .enum-told7 .given .1)
 
-goes-on-requires-4 : tie.Need-goes-on-requires-4
-goes-on-requires-4 c κs = search needs
+goes-on-requires-3 : tie.Need-goes-on-requires-3
+goes-on-requires-3 c κs = search needs
 
 enum-told-9 : tie.Need-enum-told-9
 enum-told-9 c = search needs
@@ -127,14 +109,14 @@ enum-known-reference c = search needs
 enum-told-10 : tie.Need-enum-told-10
 enum-told-10 c = search needs
 
-refused-requires-6 : tie.Need-refused-requires-6
-refused-requires-6 c κs = search needs
+refused-requires-5 : tie.Need-refused-requires-5
+refused-requires-5 c κs = search needs
 
-returns-6 : tie.Need-returns-6
-returns-6 c = c .refused6 .ensures ∙ int-step i16Of int-value _ _ (c .before .before .before .read-i162 .ensures) (c .before .enum-told10 .given .1) ∙ due-step _ _ _ _ (c .before .before .before .before .enum-told9 .given .1)
+returns-5 : tie.Need-returns-5
+returns-5 c = c .refused5 .ensures ∙ int-step i16Of int-value _ _ (c .before .before .before .read-i162 .ensures) (c .before .enum-told10 .given .1) ∙ due-step _ _ _ _ (c .before .before .before .before .enum-told9 .given .1)
 
-goes-on-requires-5 : tie.Need-goes-on-requires-5
-goes-on-requires-5 c κs = search needs
+goes-on-requires-4 : tie.Need-goes-on-requires-4
+goes-on-requires-4 c κs = search needs
 
 enum-told-11 : tie.Need-enum-told-11
 enum-told-11 c = search needs
@@ -148,20 +130,20 @@ enum-known-answer c = search needs
 decimal-refused-requires : tie.Need-decimal-refused-requires
 decimal-refused-requires c κs = search needs
 
-returns-7 : tie.Need-returns-7
-returns-7 c = c .decimal-refused .ensures ∙ pitch-refused _ _ (c .before .before .before .before .before .before .before .args .state .head) (c .before .before .read-decimal .ensures) (c .before .match7 .keys2) ∙ due-step _ _ _ _ (c .before .before .before .enum-told11 .given .1)
+returns-6 : tie.Need-returns-6
+returns-6 c = c .decimal-refused .ensures ∙ pitch-refused _ _ (c .before .before .before .before .before .before .before .args .state .head) (c .before .before .read-decimal .ensures) (c .before .match7 .keys2) ∙ due-step _ _ _ _ (c .before .before .before .enum-told11 .given .1)
 
 is-in-pitch-requires : tie.Need-is-in-pitch-requires
 is-in-pitch-requires c κs = search needs
 
-goes-on-requires-6 : tie.Need-goes-on-requires-6
-goes-on-requires-6 c κs = search needs
+goes-on-requires-5 : tie.Need-goes-on-requires-5
+goes-on-requires-5 c κs = search needs
 
-returns-8 : tie.Need-returns-8
-returns-8 c = c .goes-on6 .ensures ∙ pitch-is _ _ (c .before .before .before .before .before .before .before .before .before .before .before .args .state .head) (c .before .before .before .before .before .before .read-decimal .ensures) (c .before .before .before .before .answer .given .1) (c .before .before .is-in-pitch .ensures) (c .before .if2 .taken) ∙ due-step _ _ _ _ (c .before .before .before .before .before .before .before .enum-told11 .given .1)
+returns-7 : tie.Need-returns-7
+returns-7 c = c .goes-on5 .ensures ∙ pitch-is _ _ (c .before .before .before .before .before .before .before .before .before .before .before .args .state .head) (c .before .before .before .before .before .before .read-decimal .ensures) (c .before .before .before .before .answer .given .1) (c .before .before .is-in-pitch .ensures) (c .before .if1 .taken) ∙ due-step _ _ _ _ (c .before .before .before .before .before .before .before .enum-told11 .given .1)
 
-refused-requires-7 : tie.Need-refused-requires-7
-refused-requires-7 c κs = search needs
+refused-requires-6 : tie.Need-refused-requires-6
+refused-requires-6 c κs = search needs
 
 enum-told-12 : tie.Need-enum-told-12
 enum-told-12 c = search needs
@@ -175,14 +157,14 @@ enum-known-octave c = search needs
 enum-told-13 : tie.Need-enum-told-13
 enum-told-13 c = search needs
 
-refused-requires-8 : tie.Need-refused-requires-8
-refused-requires-8 c κs = search needs
+refused-requires-7 : tie.Need-refused-requires-7
+refused-requires-7 c κs = search needs
 
-returns-9 : tie.Need-returns-9
-returns-9 c = c .refused8 .ensures ∙ int-step i16Of int-value _ _ (c .before .before .before .read-i163 .ensures) (c .before .enum-told13 .given .1) ∙ due-step _ _ _ _ (c .before .before .before .before .enum-told12 .given .1)
+returns-8 : tie.Need-returns-8
+returns-8 c = c .refused7 .ensures ∙ int-step i16Of int-value _ _ (c .before .before .before .read-i163 .ensures) (c .before .enum-told13 .given .1) ∙ due-step _ _ _ _ (c .before .before .before .before .enum-told12 .given .1)
 
-goes-on-requires-7 : tie.Need-goes-on-requires-7
-goes-on-requires-7 c κs = search needs
+goes-on-requires-6 : tie.Need-goes-on-requires-6
+goes-on-requires-6 c κs = search needs
 
 enum-told-14 : tie.Need-enum-told-14
 enum-told-14 c = search needs
@@ -190,39 +172,39 @@ enum-told-14 c = search needs
 take-entry-requires : tie.Need-take-entry-requires
 take-entry-requires c κs = search needs
 
-returns-10 : tie.Need-returns-10
-returns-10 c = c .goes-on .ensures ∙ int-step u16Of int-value _ _ (c .before .before .before .before .read-u16 .ensures) (c .before .before .size .given .1) ∙ due-step _ _ _ _ (c .before .before .before .before .before .enum-told .given .1)
+returns-9 : tie.Need-returns-9
+returns-9 c = c .goes-on .ensures ∙ int-step u16Of int-value _ _ (c .before .before .before .before .read-u16 .ensures) (c .before .before .size .given .1) ∙ due-step _ _ _ _ (c .before .before .before .before .before .enum-told .given .1)
 
-returns-11 : tie.Need-returns-11
-returns-11 c =
+returns-10 : tie.Need-returns-10
+returns-10 c =
     let f : SFits w32 (c .before .before .first .given .0 .0) = record { sfits = omega (arith, c .before .known-told2) } in
     (rw (toZ-ofZ f) at (c .goes-on2 .ensures)) ∙ int-step i32Of int-value _ _ (c .before .before .before .before .read-i32 .ensures) (c .before .before .first .given .1) ∙ due-step _ _ _ _ (c .before .before .before .before .before .enum-told3 .given .1)
 
+returns-11 : tie.Need-returns-11
+returns-11 c =
+    let f : SFits w32 (c .before .before .last .given .0 .0) = record { sfits = omega (arith, c .before .known-told3) } in
+    (rw (toZ-ofZ f) at (c .take-last .ensures)) ∙ int-step i32Of int-value _ _ (c .before .before .before .before .read-i322 .ensures) (c .before .before .last .given .1) ∙ due-step _ _ _ _ (c .before .before .before .before .before .enum-told5 .given .1)
+
 returns-12 : tie.Need-returns-12
 returns-12 c =
-    (rw (toZ-ofZ (fits (c .before .before)), toZ-ofZ (next (c .before))) at (c .goes-on3 .ensures))
-    ∙ last-is _ _ (c .before .before .before .before .before .before .before .before .before .before .args .state .head) (c .before .before .before .before .before .read-i322 .ensures) (c .before .before .before .last .given .1) (rw (toZ-ofZ (fits (c .before .before))) at (c .before .if1 .left)) ∙ due-step _ _ _ _ (c .before .before .before .before .before .before .enum-told5 .given .1)
+    let f : SFits w16 (c .before .before .middle .given .0 .0) = record { sfits = omega (arith, c .before .known-told4) } in
+    (rw (toZ-ofZ f) at (c .goes-on3 .ensures)) ∙ int-step i16Of int-value _ _ (c .before .before .before .before .read-i16 .ensures) (c .before .before .middle .given .1) ∙ due-step _ _ _ _ (c .before .before .before .before .before .enum-told7 .given .1)
 
 returns-13 : tie.Need-returns-13
 returns-13 c =
-    let f : SFits w16 (c .before .before .middle .given .0 .0) = record { sfits = omega (arith, c .before .known-told4) } in
-    (rw (toZ-ofZ f) at (c .goes-on4 .ensures)) ∙ int-step i16Of int-value _ _ (c .before .before .before .before .read-i16 .ensures) (c .before .before .middle .given .1) ∙ due-step _ _ _ _ (c .before .before .before .before .before .enum-told7 .given .1)
+    let f : SFits w16 (c .before .before .reference .given .0 .0) = record { sfits = omega (arith, c .before .known-told5) } in
+    (rw (toZ-ofZ f) at (c .goes-on4 .ensures)) ∙ int-step i16Of int-value _ _ (c .before .before .before .before .read-i162 .ensures) (c .before .before .reference .given .1) ∙ due-step _ _ _ _ (c .before .before .before .before .before .enum-told9 .given .1)
 
 returns-14 : tie.Need-returns-14
-returns-14 c =
-    let f : SFits w16 (c .before .before .reference .given .0 .0) = record { sfits = omega (arith, c .before .known-told5) } in
-    (rw (toZ-ofZ f) at (c .goes-on5 .ensures)) ∙ int-step i16Of int-value _ _ (c .before .before .before .before .read-i162 .ensures) (c .before .before .reference .given .1) ∙ due-step _ _ _ _ (c .before .before .before .before .before .enum-told9 .given .1)
+returns-14 c = c .refused6 .ensures ∙ pitch-out _ _ (c .before .before .before .before .before .before .before .before .before .before .before .args .state .head) (c .before .before .before .before .before .before .read-decimal .ensures) (c .before .before .before .before .answer .given .1) (c .before .before .is-in-pitch .ensures) (c .before .if1 .left) ∙ due-step _ _ _ _ (c .before .before .before .before .before .before .before .enum-told11 .given .1)
 
 returns-15 : tie.Need-returns-15
-returns-15 c = c .refused7 .ensures ∙ pitch-out _ _ (c .before .before .before .before .before .before .before .before .before .before .before .args .state .head) (c .before .before .before .before .before .before .read-decimal .ensures) (c .before .before .before .before .answer .given .1) (c .before .before .is-in-pitch .ensures) (c .before .if2 .left) ∙ due-step _ _ _ _ (c .before .before .before .before .before .before .before .enum-told11 .given .1)
+returns-15 c =
+    let f : SFits w16 (c .before .before .octave .given .0 .0) = record { sfits = omega (arith, c .before .known-told7) } in
+    (rw (toZ-ofZ f) at (c .goes-on6 .ensures)) ∙ int-step i16Of int-value _ _ (c .before .before .before .before .read-i163 .ensures) (c .before .before .octave .given .1) ∙ due-step _ _ _ _ (c .before .before .before .before .before .enum-told12 .given .1)
 
 returns-16 : tie.Need-returns-16
-returns-16 c =
-    let f : SFits w16 (c .before .before .octave .given .0 .0) = record { sfits = omega (arith, c .before .known-told7) } in
-    (rw (toZ-ofZ f) at (c .goes-on7 .ensures)) ∙ int-step i16Of int-value _ _ (c .before .before .before .before .read-i163 .ensures) (c .before .before .octave .given .1) ∙ due-step _ _ _ _ (c .before .before .before .before .before .enum-told12 .given .1)
-
-returns-17 : tie.Need-returns-17
-returns-17 c = c .take-entry .ensures ∙ due-step _ _ _ _ (c .before .enum-told14 .given .1)
+returns-16 c = c .take-entry .ensures ∙ due-step _ _ _ _ (c .before .enum-told14 .given .1)
 
 pub take-token-spec : {M : Type 1} → statement M
 take-token-spec =
@@ -248,47 +230,44 @@ take-token-spec =
     enum-told-6
     refused-requires-3
     returns-3
-    refused-requires-4
-    returns-4
-    add-head
-    goes-on-requires-3
+    take-last-requires
     enum-told-7
     read-i16-requires
     enum-known-middle
     enum-told-8
-    refused-requires-5
-    returns-5
-    goes-on-requires-4
+    refused-requires-4
+    returns-4
+    goes-on-requires-3
     enum-told-9
     read-i16-requires-2
     enum-known-reference
     enum-told-10
-    refused-requires-6
-    returns-6
-    goes-on-requires-5
+    refused-requires-5
+    returns-5
+    goes-on-requires-4
     enum-told-11
     read-decimal-requires
     enum-known-answer
     decimal-refused-requires
-    returns-7
+    returns-6
     is-in-pitch-requires
-    goes-on-requires-6
-    returns-8
-    refused-requires-7
+    goes-on-requires-5
+    returns-7
+    refused-requires-6
     enum-told-12
     read-i16-requires-3
     enum-known-octave
     enum-told-13
-    refused-requires-8
-    returns-9
-    goes-on-requires-7
+    refused-requires-7
+    returns-8
+    goes-on-requires-6
     enum-told-14
     take-entry-requires
+    returns-9
     returns-10
     returns-11
     returns-12
     returns-13
     returns-14
     returns-15
-    returns-16
-    returns-17)
+    returns-16)
