@@ -4,9 +4,11 @@
  * Build:  ./install target/telbijan
  *         cc examples/keytable.c -Itarget/telbijan/include -Ltarget/telbijan/lib -ltelbijan -o target/keytable
  * Run:    target/keytable examples/just.scl examples/linear.kbm
+ *         target/keytable examples/just.scl examples/harp.kbm middle
  */
 #include <inttypes.h>
 #include <stdio.h>
+#include <string.h>
 
 #include "telbijan.h"
 
@@ -76,10 +78,10 @@ static void print_cents(double reference, double pitch) {
         printf("%s\n", reason(number));
 }
 
-static void print_key(const telbijan_mapping *mapping, int32_t key, double pitch, uint32_t number) {
+static void print_key(const telbijan_mapping *mapping, bool middle, int32_t key, double pitch, uint32_t number) {
     int32_t degree = 0;
     if (number == TELBIJAN_ACCEPTED)
-        number = telbijan_mapping_degree_of(mapping, key, &degree).number;
+        number = (middle ? telbijan_mapping_degree_from_middle : telbijan_mapping_degree_of)(mapping, key, &degree).number;
     if (number != TELBIJAN_ACCEPTED) {
         printf("%" PRId32 " %s\n", key, number == TELBIJAN_UNMAPPED_KEY ? "unmapped" : reason(number));
         return;
@@ -102,8 +104,9 @@ int main(int argc, char **argv) {
     telbijan_mapping mapping = {map, PLACES, 0, 0, 0, {0, 0, 0}, 0};
     telbijan_span description;
     size_t length;
-    if (argc != 3) {
-        fprintf(stderr, "usage: keytable SCL KBM\n");
+    bool middle = argc == 4 && strcmp(argv[3], "middle") == 0; /* counted from the middle key, as Scala does */
+    if (argc != 3 && !middle && !(argc == 4 && strcmp(argv[3], "reference") == 0)) {
+        fprintf(stderr, "usage: keytable SCL KBM [reference | middle]\n");
         return 1;
     }
     if (!read_file(argv[1], &length) || !accepted(argv[1], scale_lines, telbijan_scale_read(&scale, text, length, &description)))
@@ -112,11 +115,13 @@ int main(int argc, char **argv) {
         return 1;
     int64_t keys = (int64_t)mapping.end - mapping.start; /* at least one */
     uint32_t shown = keys < MOST ? (uint32_t)keys : MOST;
-    if (!accepted(argv[2], mapping_lines, telbijan_tuning_pitches_of(&scale, &mapping, mapping.start, shown, hz, numbers)))
+    telbijan_refusal said = (middle ? telbijan_tuning_pitches_from_middle : telbijan_tuning_pitches_of)(&scale, &mapping, mapping.start,
+        shown, hz, numbers);
+    if (!accepted(argv[2], mapping_lines, said))
         return 1;
-    printf("key degree Hz cents\n");
+    printf("key degree Hz cents, counted from the %s key\n", middle ? "middle" : "reference");
     for (uint32_t k = 0; k < shown; k++)
-        print_key(&mapping, (int32_t)(mapping.start + (int64_t)k), hz[k], numbers[k]);
+        print_key(&mapping, middle, (int32_t)(mapping.start + (int64_t)k), hz[k], numbers[k]);
     print_left(keys - MOST);
     if (fflush(stdout) != 0 || ferror(stdout)) {
         fprintf(stderr, "keytable: standard output cannot be written\n");

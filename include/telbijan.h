@@ -48,6 +48,7 @@ extern "C" {
 #define TELBIJAN_KEY_OUT_OF_RANGE 16 /* the key is outside the range */
 #define TELBIJAN_UNMAPPED_KEY 17 /* the key is unmapped */
 #define TELBIJAN_BEYOND_REACH 18 /* beyond reach: a period of 1.0, 0 divisions, or a computed pitch or ratio outside its range */
+#define TELBIJAN_REFERENCE_UNMAPPED 19 /* the reference key is unmapped, counted from the middle key; said of pitches alone */
 #define TELBIJAN_BACKWARDS_RANGE 25 /* the last key is below the first; the detail is the last key's line, or 0 */
 #define TELBIJAN_NO_FRACTION 29 /* no fraction: the odd limit is 0 */
 
@@ -69,6 +70,11 @@ extern "C" {
  * its key, from -32768 to 32767, or TELBIJAN_UNMAPPED; a table with any other number among its `count` entries is refused (10).
  * What was read or built has a `start` below its `end` (25 where it would not): one key at least. A call that is given a mapping does
  * not ask for that: with an `end` not above the `start` no key is in the range (16).
+ * Keys are counted in one of two ways; the first entry belongs to the key that is counted from. The calls `.._from_middle` count from the
+ * middle key, the exact sum of reference and offset, and tune the reference key to `hz`, but for rounding, as Scala's pages say: take them
+ * for files made for Scala. Where the reference key is unmapped, there is no pitch (19). All others, the searches too, count from the
+ * reference key, as the Rust crate `tune` does. Where the offset is 0 both give a key the same degree, and the same pitch too if the first
+ * entry is 0 or there are no entries.
  */
 #define TELBIJAN_UNMAPPED (-2147483647 - 1)
 
@@ -244,6 +250,11 @@ uint64_t telbijan_create_rank2_temperament_scale(double generator, uint16_t posi
    no part: any `hz` will do. */
 uint64_t telbijan_scale_degree_of(const int32_t *map, size_t map_length, uint16_t count, int32_t start, int32_t end, int32_t reference, double hz, int32_t offset, int16_t octave, int32_t number, int32_t *degree);
 
+/* The degree of a key counted from the middle key, as in Scala, stored. The middle key is the exact sum of reference and offset, which may
+   lie outside 32 bits. 10 for a table that cannot be used, 16 outside start..end, 11 where the distance from the middle key passes 32 bits,
+   17 unmapped, 11 where the degree does. The pitch plays no part: any `hz` will do. */
+uint64_t telbijan_scale_degree_from_middle(const int32_t *map, size_t map_length, uint16_t count, int32_t start, int32_t end, int32_t reference, double hz, int32_t offset, int16_t octave, int32_t number, int32_t *degree);
+
 /* The text of a mapping, written into the lent bytes; the number of bytes is stored, and bytes behind it keep their values. 10 for
    a table or pitch that cannot be used, 11 where the last or the middle key passes 32 bits, 12 where the text is longer than
    the bytes. A mapping whose last key is below its first is written as any other; a read refuses that text (25). */
@@ -303,6 +314,20 @@ uint64_t telbijan_maybe_pitch_of_degree(const uint8_t *kind, size_t kind_length,
    root's pitch that cannot be used, 12 where a slice is shorter than the run. Else each key answers as telbijan_maybe_pitch_of does, and
    11 where there is no such key; a refused key's pitch stays as it was, and so do the places behind the run. The tables are tested once. */
 uint64_t telbijan_pitches_of(const uint8_t *kind, size_t kind_length, const double *cents, size_t cents_length, const uint32_t *numer, size_t numer_length, const uint32_t *denom, size_t denom_length, uint16_t count, const int32_t *map, size_t map_length, uint16_t size, int32_t start, int32_t end, int32_t reference, double hz, int32_t offset, int16_t octave, int32_t first, uint32_t keys, double *pitches, size_t pitches_length, uint32_t *numbers, size_t numbers_length);
+
+/* ---- Pitches for C, counted from the middle key as in Scala. The middle key is the exact sum of reference and offset. */
+
+/* The pitch of a key of a mapping counted from the middle key, stored: `hz` over the ratio of the reference key's own degree, times that of
+   the key's degree. 10 for tables or a root's pitch that cannot be used; of the key 16 outside start..end, 11 where its distance from the
+   middle key passes 32 bits, 17 unmapped, 11 where its degree does; of the reference key, which no range limits, 11 for its distance, 19
+   unmapped, 11 for its degree; 18. */
+uint64_t telbijan_maybe_pitch_from_middle(const uint8_t *kind, size_t kind_length, const double *cents, size_t cents_length, const uint32_t *numer, size_t numer_length, const uint32_t *denom, size_t denom_length, uint16_t count, const int32_t *map, size_t map_length, uint16_t size, int32_t start, int32_t end, int32_t reference, double hz, int32_t offset, int16_t octave, int32_t number, double *pitch);
+
+/* The pitches of `keys` keys of a mapping counted from the middle key, from key `first` on, and beside each its refusal's number, 0 for a
+   pitch: 10 for tables or a root's pitch that cannot be used, 12 where a slice is shorter than the run. Else each key answers as
+   telbijan_maybe_pitch_from_middle does, and 11 where there is no such key; a refused key's pitch stays as it was, and so do the places
+   behind the run. The tables are tested once. */
+uint64_t telbijan_pitches_from_middle(const uint8_t *kind, size_t kind_length, const double *cents, size_t cents_length, const uint32_t *numer, size_t numer_length, const uint32_t *denom, size_t denom_length, uint16_t count, const int32_t *map, size_t map_length, uint16_t size, int32_t start, int32_t end, int32_t reference, double hz, int32_t offset, int16_t octave, int32_t first, uint32_t keys, double *pitches, size_t pitches_length, uint32_t *numbers, size_t numbers_length);
 
 /* ---- Searches for C: the degree or key that comes nearest to a ratio or a pitch, over a scale's lent columns. */
 
@@ -375,6 +400,7 @@ static inline const char *telbijan_reason(uint32_t number) {
     case TELBIJAN_KEY_OUT_OF_RANGE: return "the key is outside the range";
     case TELBIJAN_UNMAPPED_KEY: return "the key is unmapped";
     case TELBIJAN_BEYOND_REACH: return "beyond reach: a period of 1.0, 0 divisions, or a computed pitch or ratio outside its range";
+    case TELBIJAN_REFERENCE_UNMAPPED: return "the reference key is unmapped, counted from the middle key";
     case TELBIJAN_BACKWARDS_RANGE: return "the last key is below the first";
     case TELBIJAN_NO_FRACTION: return "no fraction: the odd limit is 0";
     default: return "no number of this library";
@@ -596,9 +622,15 @@ static inline telbijan_refusal telbijan_mapping_export(const telbijan_mapping *m
     return telbijan_refusal_of(telbijan_export_kbm(TELBIJAN_MAPPING(mapping), telbijan_room(out, room, written), room, written));
 }
 
-/* The degree of a key, by telbijan_scale_degree_of: 10, 16, 11, 17. */
+/* The degree of a key, counted from the reference key, by telbijan_scale_degree_of: 10, 16, 11, 17. */
 static inline telbijan_refusal telbijan_mapping_degree_of(const telbijan_mapping *mapping, int32_t key, int32_t *degree) {
     return telbijan_refusal_of(telbijan_scale_degree_of(TELBIJAN_MAPPING(mapping), key, degree));
+}
+
+/* The degree of a key, counted from the middle key, by telbijan_scale_degree_from_middle: 10, 16, 11, 17. Take this one for files made for
+ * Scala: there the first entry belongs to the middle key. Where the offset is 0 it answers as telbijan_mapping_degree_of. */
+static inline telbijan_refusal telbijan_mapping_degree_from_middle(const telbijan_mapping *mapping, int32_t key, int32_t *degree) {
+    return telbijan_refusal_of(telbijan_scale_degree_from_middle(TELBIJAN_MAPPING(mapping), key, degree));
 }
 
 /* ---- A mapping, built: `mapping` lends the table, and has root and range; its count and octave do not matter. A range without a key is
@@ -661,7 +693,7 @@ static inline telbijan_refusal telbijan_tuning_sorted_pitch_of(const telbijan_sc
     return telbijan_refusal_of(telbijan_sorted_pitch_of(TELBIJAN_COLUMNS(scale), scale->count, TELBIJAN_ROOT(root), degree, hz));
 }
 
-/* The pitch of a key through a mapping, by telbijan_maybe_pitch_of: 10, 16, 11, 17, 18. */
+/* The pitch of a key through a mapping, counted from the reference key, by telbijan_maybe_pitch_of: 10, 16, 11, 17, 18. */
 static inline telbijan_refusal telbijan_tuning_maybe_pitch_of(const telbijan_scale *scale, const telbijan_mapping *mapping, int32_t key, double *hz) {
     return telbijan_refusal_of(telbijan_maybe_pitch_of(TELBIJAN_ITEMS(scale), scale->count, TELBIJAN_MAPPING(mapping), key, hz));
 }
@@ -675,6 +707,23 @@ static inline telbijan_refusal telbijan_tuning_maybe_pitch_of_degree(const telbi
  * places each; the pitch of a refused key stays as it was. */
 static inline telbijan_refusal telbijan_tuning_pitches_of(const telbijan_scale *scale, const telbijan_mapping *mapping, int32_t first, uint32_t keys, double *hz, uint32_t *numbers) {
     return telbijan_refusal_of(telbijan_pitches_of(TELBIJAN_ITEMS(scale), scale->count, TELBIJAN_MAPPING(mapping), first, keys, hz, keys, numbers, keys));
+}
+
+/* The pitch of a key through a mapping, counted from the middle key, by telbijan_maybe_pitch_from_middle: 10, 16, 11, 17, 19, 18. Take
+ * this one for files made for Scala: whichever key is the middle one, the reference key sounds the root's `hz`, but for rounding; 19 where
+ * that key is unmapped. It answers as telbijan_tuning_maybe_pitch_of where the offset is 0 and the first entry is 0 or there are no
+ * entries. */
+static inline telbijan_refusal telbijan_tuning_pitch_from_middle(const telbijan_scale *scale, const telbijan_mapping *mapping,
+    int32_t key, double *hz) {
+    return telbijan_refusal_of(telbijan_maybe_pitch_from_middle(TELBIJAN_ITEMS(scale), scale->count, TELBIJAN_MAPPING(mapping), key, hz));
+}
+
+/* The same of a run of keys, and beside each 0 or why it has none, by telbijan_pitches_from_middle: 10. `hz` and `numbers` have `keys`
+ * places each; the pitch of a refused key stays as it was. */
+static inline telbijan_refusal telbijan_tuning_pitches_from_middle(const telbijan_scale *scale, const telbijan_mapping *mapping,
+    int32_t first, uint32_t keys, double *hz, uint32_t *numbers) {
+    return telbijan_refusal_of(telbijan_pitches_from_middle(TELBIJAN_ITEMS(scale), scale->count, TELBIJAN_MAPPING(mapping), first, keys,
+        hz, keys, numbers, keys));
 }
 
 /* The degree whose pitch above a root comes nearest to `hz`, by telbijan_find_by_pitch: 10, 11, 18. */

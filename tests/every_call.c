@@ -274,11 +274,21 @@ static void pitch_of(int32_t key) {
         telbijan_maybe_pitch_of(ITEMS(theirs), theirs.scale.count, KEYS(theirs), key, &theirs.out.x));
 }
 
+static void degree_from_middle(int32_t key) {
+    ALIKE(telbijan_mapping_degree_from_middle(&ours.mapping, key, &ours.out.degree),
+        telbijan_scale_degree_from_middle(KEYS(theirs), key, &theirs.out.degree));
+}
+
+static void pitch_from_middle(int32_t key) {
+    ALIKE(telbijan_tuning_pitch_from_middle(&ours.scale, &ours.mapping, key, &ours.out.x),
+        telbijan_maybe_pitch_from_middle(ITEMS(theirs), theirs.scale.count, KEYS(theirs), key, &theirs.out.x));
+}
+
 /* Every key from the one before the first to the one after the last. */
 static void keys(void) {
     int32_t key;
     for (key = 4; key <= 91; key++) {
-        degree_of(key), pitch_of(key);
+        degree_of(key), pitch_of(key), degree_from_middle(key), pitch_from_middle(key);
         ALIKE(telbijan_tuning_maybe_pitch_of_degree(&ours.scale, &ours.mapping, key - 67, &ours.out.x), telbijan_maybe_pitch_of_degree(ITEMS(theirs), theirs.scale.count, KEYS(theirs), key - 67, &theirs.out.x));
     }
 }
@@ -288,10 +298,17 @@ static void run_of_keys(int32_t first, uint32_t number) {
     SAID(number, 0);
 }
 
+static void run_from_middle(int32_t first, uint32_t number) {
+    ALIKE(telbijan_tuning_pitches_from_middle(&ours.scale, &ours.mapping, first, 9, ours.out.hz, ours.out.numbers),
+        telbijan_pitches_from_middle(ITEMS(theirs), theirs.scale.count, KEYS(theirs), first, 9, theirs.out.hz, 9, theirs.out.numbers, 9));
+    SAID(number, 0);
+}
+
 /* A room one short of its count is refused by all that look at it. */
 static void lookups(const char *scale, size_t room, size_t table, uint32_t scale_number, uint32_t number) {
     filled(scale, room, table);
     scale_lookups(scale_number), searches(scale_number), keys(), run_of_keys(4, number), run_of_keys(83, number);
+    run_from_middle(4, number), run_from_middle(83, number);
     export_scale(ROOM_OF_TEXT), SAID(scale_number, 0);
     export_mapping(ROOM_OF_TEXT), SAID(table < 4 ? 10u : 0u, 0);
 }
@@ -301,6 +318,144 @@ static void ends_of_runs(void) {
     filled(SCALE, 5, 4);
     run_of_keys(4, 0), SAME(seen.out.numbers[0], 16u), SAME(seen.out.numbers[1], 0u), SAME(seen.out.numbers[4], 17u), SAME(seen.out.numbers[9], 0x5a5a5a5au), SAME(seen.out.hz[0], seen.out.hz[9]);
     run_of_keys(83, 0), SAME(seen.out.numbers[7], 0u), SAME(seen.out.numbers[8], 16u);
+    run_from_middle(4, 0), SAME(seen.out.numbers[0], 16u), SAME(seen.out.numbers[1], 0u), SAME(seen.out.numbers[2], 17u);
+    SAME(seen.out.numbers[9], 0x5a5a5a5au), SAME(seen.out.hz[0], seen.out.hz[9]);
+    run_from_middle(83, 0), SAME(seen.out.numbers[7], 17u), SAME(seen.out.numbers[8], 16u);
+}
+
+/* ---- Counted from the middle key. */
+
+/* What the degree of a key says, and what its pitch. */
+#define SAYS(key, degree, pitch) (degree_from_middle(key), SAID(degree, 0), pitch_from_middle(key), SAID(pitch, 0))
+
+/* Entries 1 x 3: no two arguments have the same number. The middle key is 61, and the reference key's own degree 15. */
+static void three_entries(void) {
+    filled(SCALE, 5, 4), BOTH(mapping.count, 3);
+}
+
+/* The same above another root, for the keys of another range. */
+static void above_root(int32_t reference, int32_t offset, int32_t start, int32_t end) {
+    three_entries(), BOTH(mapping.root.reference, reference), BOTH(mapping.root.offset, offset), BOTH(mapping.start, start),
+        BOTH(mapping.end, end);
+}
+
+/* What is said beside the nine keys of a run, a letter for each: a pitch, outside, unmapped, reference key unmapped, overflow. The pitch
+ * of a refused key, and the places behind the run, stay as they were. */
+static void beside(const char *letters, int line) {
+    static const struct {
+        char letter;
+        uint32_t number;
+    } SAID_BY[] = {{'p', 0}, {'o', 16}, {'u', 17}, {'r', 19}, {'f', 11}};
+    uint32_t k, j;
+    for (k = 0; k < 9; k++) {
+        for (j = 0; SAID_BY[j].letter != letters[k]; j++)
+            ;
+        check(seen.out.numbers[k] == SAID_BY[j].number, "the number beside a key", line);
+        check((memcmp(&seen.out.hz[k], &seen.out.hz[9], sizeof(double)) == 0) == (j > 0), "the pitch of a key", line);
+    }
+    check(seen.out.numbers[9] == 0x5a5a5a5a, "the number behind a run", line);
+}
+
+#define RUN_SAYS(first, letters) (run_from_middle(first, 0), beside(letters, __LINE__))
+
+/* Slices shorter than the run, which only the flat call can be lent. */
+static void short_run(uint64_t number, size_t pitches, size_t beside_them) {
+    memcpy(&lent, &theirs, sizeof theirs);
+    SAME(telbijan_pitches_from_middle(ITEMS(theirs), theirs.scale.count, KEYS(theirs), 62, 9, theirs.out.hz, pitches, theirs.out.numbers,
+             beside_them),
+        number);
+    SAME(memcmp(&theirs, &lent, sizeof theirs), 0);
+}
+
+/* A pitch is made in two steps, each rounded once: the root's over the ratio of the reference key's degree, times that of the key's. */
+static void in_two_steps(int32_t own, int32_t key) {
+    double x = 0, y = 0;
+    degree_from_middle(key), SAID(0, 0);
+    SAME(telbijan_relative_pitch_of(ITEMS(theirs), theirs.scale.count, own, &x), 0);
+    SAME(telbijan_relative_pitch_of(ITEMS(theirs), theirs.scale.count, seen.out.degree, &y), 0);
+    SAME(telbijan_pitch_over_ratio(theirs.mapping.root.hz, x, &x), 0), SAME(telbijan_pitch_times_ratio(x, y, &x), 0);
+    pitch_from_middle(key), SAID(0, 0), SAME(memcmp(&seen.out.x, &x, sizeof x), 0);
+}
+
+/* Answers, and what cannot be used: 10 before all else; the pitch plays no part in a degree. */
+static void from_middle(void) {
+    int32_t key;
+    three_entries(), SAYS(4, 16, 16), SAYS(91, 16, 16), SAYS(71, 17, 17), SAYS(90, 0, 0);
+    degree_from_middle(67), SAME(seen.out.degree, 15), degree_from_middle(72), SAME(seen.out.degree, 24);
+    degree_from_middle(60), SAME(seen.out.degree, -4), degree_from_middle(61), SAME(seen.out.degree, 1);
+    pitch_from_middle(67), NEAR(seen.out.x, 300.5), pitch_from_middle(72), NEAR(seen.out.x, 345.36815618528);
+    pitch_from_middle(66), NEAR(seen.out.x, 23.369817973892637), pitch_from_middle(90), NEAR(seen.out.x, 393087.58085687296);
+    RUN_SAYS(66, "ppuppuppu"), NEAR(seen.out.hz[0], 23.369817973892637), NEAR(seen.out.hz[1], 300.5);
+    NEAR(seen.out.hz[6], 345.36815618528), RUN_SAYS(4, "ouppuppup"), RUN_SAYS(83, "uppuppupo");
+    for (key = 6; key < 90; key += 3)
+        in_two_steps(15, key), in_two_steps(15, key + 1);
+    short_run(12, 8, 9), short_run(12, 9, 8), short_run(12, 0, 0);
+    BOTH(mapping.root.hz, 0), SAYS(72, 0, 10), SAYS(4, 16, 10), run_from_middle(4, 10), short_run(10, 8, 9);
+    three_entries(), BOTH(scale.count, 65535), SAYS(72, 0, 10), SAYS(4, 16, 10), run_from_middle(4, 10), short_run(10, 9, 8);
+    three_entries(), BOTH(mapping.room, 2), SAYS(72, 10, 10), SAYS(4, 10, 10), run_from_middle(4, 10), short_run(10, 8, 9);
+    three_entries(), BOTH(m.map[2], 32768), SAYS(72, 10, 10), SAYS(4, 10, 10), run_from_middle(4, 10);
+}
+
+/* The reference key is unmapped: 19 for the pitch of each key that has a degree, and for no degree; what the key itself lacks comes first,
+ * and 18 comes after. The range does not limit the reference key. */
+static void reference_unmapped(void) {
+    above_root(67, -7, 5, 300000), SAYS(60, 0, 19), SAYS(61, 17, 17), SAYS(62, 0, 19), SAYS(67, 17, 17);
+    SAYS(4, 16, 16), SAYS(300000, 16, 16), SAYS(210060, 0, 19), RUN_SAYS(4, "orrurrurr");
+    BOTH(mapping.octave, 32767), SAYS(210060, 11, 11), SAYS(60, 0, 19);
+    /* the reference key's degree would pass 32 bits too */
+    above_root(300002, -300001, 0, 91), BOTH(mapping.octave, 32767), SAYS(1, 0, 19), SAYS(2, 17, 17);
+    above_root(67, -6, 60, 61), SAYS(60, 0, 0), SAYS(67, 16, 16), RUN_SAYS(59, "opooooooo"), NEAR(seen.out.hz[1], 2.6629640001910455);
+    above_root(67, -7, 60, 61), SAYS(60, 0, 19), SAYS(67, 16, 16), RUN_SAYS(59, "orooooooo");
+}
+
+/* Numbers that pass 32 bits: of the key, its distance and its degree; then of the reference key. Pitches beyond reach. */
+static void far_from_middle(void) {
+    above_root(67, 0, 5, 300000), BOTH(mapping.octave, 32767), SAYS(210067, 11, 11), SAYS(67, 0, 0), SAYS(210068, 17, 17);
+    above_root(300000, -300000, 0, 91), BOTH(mapping.octave, 32767), SAYS(0, 0, 11), SAYS(1, 17, 17), SAYS(91, 16, 16);
+    RUN_SAYS(0, "fuffuffuf");
+    above_root(67, INT32_MIN, 5, 91), BOTH(mapping.octave, 2), SAYS(67, 11, 11), SAYS(65, 0, 11), SAYS(66, 17, 17), SAYS(4, 16, 16);
+    degree_from_middle(65), SAME(seen.out.degree, 1431655765);
+    BOTH(mapping.count, 0), SAYS(66, 0, 11), SAYS(67, 11, 11), degree_from_middle(66), SAME(seen.out.degree, INT32_MAX);
+    above_root(67, -6, 5, 300000), BOTH(mapping.count, 0), SAYS(200000, 0, 18), SAYS(61, 0, 0);
+    run_from_middle(200000, 0), SAME(seen.out.numbers[0], 18u), SAME(seen.out.numbers[8], 18u);
+    /* the reference key's own ratio is beyond reach */
+    above_root(200000, -199939, 5, 91), BOTH(mapping.count, 0), SAYS(61, 0, 18), SAYS(90, 0, 18), SAYS(91, 16, 16);
+}
+
+/* The middle key is the exact sum, above and below all keys that there are. */
+static void outside_keys(void) {
+    above_root(INT32_MAX, 6, 5, INT32_MAX), degree_from_middle(2147483646), SAME(seen.out.degree, -18);
+    pitch_from_middle(2147483646), NEAR(seen.out.x, 23.36981797389264), SAYS(INT32_MAX, 16, 16);
+    RUN_SAYS(2147483640, "ppuppupof");
+    above_root(INT32_MIN, -6, INT32_MIN, 91), degree_from_middle(INT32_MIN), SAME(seen.out.degree, 15);
+    pitch_from_middle(INT32_MIN), NEAR(seen.out.x, 300.5), SAYS(INT32_MIN + 1, 17, 17), SAYS(INT32_MIN + 2, 0, 0);
+    above_root(INT32_MAX, INT32_MAX, INT32_MIN, INT32_MAX), SAYS(2147483646, 17, 17), SAYS(2147483645, 11, 11), SAYS(INT32_MIN, 11, 11);
+}
+
+/* How many keys have another degree, or another pitch, than in the old counting. */
+static void differ(int degrees, int pitches, int line) {
+    int32_t key;
+    uint32_t number;
+    int32_t degree;
+    double hz;
+    for (key = 4; key <= 91; key++) {
+        degree_of(key), number = said.number, degree = seen.out.degree;
+        degree_from_middle(key), degrees -= number != said.number || degree != seen.out.degree;
+        pitch_of(key), number = said.number, hz = seen.out.x;
+        pitch_from_middle(key), pitches -= number != said.number || memcmp(&hz, &seen.out.x, sizeof hz) != 0;
+    }
+    check(degrees == 0, "so many keys have another degree", line);
+    check(pitches == 0, "so many keys have another pitch", line);
+}
+
+#define DIFFER(degrees, pitches) differ((degrees), (pitches), __LINE__)
+
+/* With the offset 0 all degrees are the same, and all pitches where besides the first entry is 0 or there are none. */
+static void both_countings(void) {
+    three_entries(), BOTH(mapping.root.offset, 0), BOTH(m.map[0], 0), DIFFER(0, 0);
+    BOTH(mapping.count, 0), BOTH(m.map[0], 1), DIFFER(0, 0);
+    three_entries(), BOTH(mapping.root.offset, 0), DIFFER(0, 57), BOTH(m.map[0], TELBIJAN_UNMAPPED), DIFFER(0, 29);
+    three_entries(), DIFFER(57, 57), BOTH(mapping.count, 0), DIFFER(86, 86);
 }
 
 /* A mapping lent with its last key below its first: no key is in its range. It is written as any other, and no read takes that text. */
@@ -309,7 +464,8 @@ static void backwards(void) {
     int32_t key;
     filled(SCALE, 5, 4), BOTH(mapping.start, 91), BOTH(mapping.end, 5);
     for (key = 4; key <= 91; key++)
-        degree_of(key), SAID(16, 0), pitch_of(key), SAID(16, 0);
+        degree_of(key), SAID(16, 0), pitch_of(key), SAID(16, 0), SAYS(key, 16, 16);
+    run_from_middle(4, 0), SAME(seen.out.numbers[0], 16u), SAME(seen.out.numbers[8], 16u);
     run_of_keys(4, 0), SAME(seen.out.numbers[0], 16u), SAME(seen.out.numbers[1], 16u);
     run_of_keys(83, 0), SAME(seen.out.numbers[7], 16u), SAME(seen.out.numbers[8], 16u);
     export_mapping(strlen(text)), SAID(0, 0), SAME(seen.out.written, strlen(text)), SAME(memcmp(seen.out.text, text, strlen(text)), 0);
@@ -336,6 +492,10 @@ static void constants(void) {
         SAME(mapping.root.reference, 67), SAME(mapping.root.hz, 300.5), SAME(mapping.root.offset, -6), SAME(mapping.octave, 7);
         SAME(telbijan_scale_period(&scale, &ours.out.x).number, 0u);
         SAME(telbijan_mapping_degree_of(&mapping, 67, &ours.out.degree).number, 0u), SAME(ours.out.degree, 1);
+        SAME(telbijan_mapping_degree_from_middle(&mapping, 67, &ours.out.degree).number, 0u), SAME(ours.out.degree, 15);
+        SAME(telbijan_tuning_pitch_from_middle(&scale, &mapping, 67, &ours.out.x).number, 0u), NEAR(ours.out.x, 300.5);
+        SAME(telbijan_tuning_pitches_from_middle(&scale, &mapping, 66, 2, ours.out.hz, ours.out.numbers).number, 0u);
+        SAME(ours.out.numbers[1], 0u), NEAR(ours.out.hz[1], 300.5);
     }
 }
 
@@ -364,6 +524,7 @@ static const struct named {
     {TELBIJAN_KEY_OUT_OF_RANGE, 16, "the key is outside the range"},
     {TELBIJAN_UNMAPPED_KEY, 17, "the key is unmapped"},
     {TELBIJAN_BEYOND_REACH, 18, "beyond reach: a period of 1.0, 0 divisions, or a computed pitch or ratio outside its range"},
+    {TELBIJAN_REFERENCE_UNMAPPED, 19, "the reference key is unmapped, counted from the middle key"},
     {TELBIJAN_BACKWARDS_RANGE, 25, "the last key is below the first"},
     {TELBIJAN_NO_FRACTION, 29, "no fraction: the odd limit is 0"},
 };
@@ -401,6 +562,11 @@ int main(void) {
     lookups(SCALE, 4, 4, 10, 10);
     lookups(SCALE, 5, 3, 0, 10);
     ends_of_runs();
+    from_middle();
+    reference_unmapped();
+    far_from_middle();
+    outside_keys();
+    both_countings();
     backwards();
     unusable();
     constants();

@@ -138,6 +138,9 @@ static void mappings(void) {
     SAME(telbijan_scale_degree_of(KEYS, 71, &i), 17), SAME(telbijan_scale_degree_of(KEYS, 70, &i), 0), SAME(i, 10);
     SAME(telbijan_scale_degree_of(KEYS, 4, &i), 16), SAME(telbijan_scale_degree_of(KEYS, 5, &i), 17),
         SAME(telbijan_scale_degree_of(KEYS, 91, &i), 16), SAME(i, 10);
+    SAME(telbijan_scale_degree_from_middle(KEYS, 71, &i), 17), SAME(i, 10), SAME(telbijan_scale_degree_from_middle(KEYS, 72, &i), 0),
+        SAME(i, 33);
+    SAME(telbijan_scale_degree_from_middle(KEYS, 4, &i), 16), SAME(telbijan_scale_degree_from_middle(KEYS, 91, &i), 16), SAME(i, 33);
     SAME(telbijan_export_kbm(KEYS, bytes, 63, &s), 0), SAME(s, sizeof text - 1), SAME(memcmp(bytes, text, sizeof text - 1), 0);
     SAME(telbijan_kbm_root(67, 300.5, -6), 0), SAME(telbijan_kbm_root(67, 0, -6), 10);
     SAME(telbijan_push_mapped_key(map, 16, 16, 3, -8, &s), 0), SAME(s, 4u), SAME(map[3], -8);
@@ -171,6 +174,24 @@ static void pitches(void) {
     NEAR(hz[0], 7742.4588923577), NEAR(hz[18], 31893197.885747936), SAME(hz[19], 0), SAME(numbers[20], 0u);
 }
 
+/* Counted from the middle key, 61; with the middle key 60 the reference key, 67, has the second entry, which is unmapped. */
+static void from_middle(void) {
+    read_scale(), read_mapping();
+    STORES(telbijan_maybe_pitch_from_middle(ITEMS, 4, KEYS, 72, &x), 1186.3443965440115),
+        STORES(telbijan_maybe_pitch_from_middle(ITEMS, 4, KEYS, 67, &x), 300.5);
+    SAME(telbijan_maybe_pitch_from_middle(ITEMS, 4, KEYS, 71, &x), 17), SAME(telbijan_maybe_pitch_from_middle(ITEMS, 4, KEYS, 91, &x), 16);
+    SAME(telbijan_maybe_pitch_from_middle(ITEMS, 4, map, 3, 3, RANGE, 67, 300.5, -7, 9, 60, &x), 19), NEAR(x, 300.5);
+    memset(hz, 0, sizeof hz), memset(numbers, 90, sizeof numbers);
+    SAME(telbijan_pitches_from_middle(ITEMS, 4, KEYS, 72, 20, hz, 21, numbers, 22), 0), SAME(numbers[0], 0u), SAME(numbers[1], 0u),
+        SAME(numbers[2], 17u), SAME(numbers[3], 0u), SAME(numbers[18], 0u), SAME(numbers[19], 16u), SAME(numbers[20], 0x5a5a5a5au);
+    NEAR(hz[0], 1186.3443965440115), NEAR(hz[1], 2377.1471626339826), SAME(hz[2], 0), NEAR(hz[3], 3030.905015407598),
+        NEAR(hz[18], 40664395.94012812), SAME(hz[19], 0);
+    SAME(telbijan_pitches_from_middle(ITEMS, 4, KEYS, 75, 20, hz, 19, numbers, 22), 12), NEAR(hz[0], 1186.3443965440115),
+        SAME(numbers[0], 0u);
+    SAME(telbijan_pitches_from_middle(ITEMS, 4, map, 3, 3, RANGE, 67, 300.5, -7, 9, 60, 2, hz, 21, numbers, 22), 0), SAME(numbers[0], 19u),
+        SAME(numbers[1], 17u), NEAR(hz[0], 1186.3443965440115);
+}
+
 #define FINDS(call, number, deviation) (i = 99, y = -1, SAME(call, 0), SAME(i, number), NEAR(y, deviation))
 
 static void searches(void) {
@@ -191,6 +212,7 @@ int main(void) {
     mappings();
     backwards();
     pitches();
+    from_middle();
     searches();
     return faults != 0;
 }

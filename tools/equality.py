@@ -6,9 +6,9 @@
 DATA is a type of values, known by its form (`is_data`); any other premise is a fault. What is asked of a result, `says r ≡ s` or each part of FACT,
 must be what the contract ensures, with the line's variables replaced by terms of what goes in; and what is equated must be the result and all that
 a `&mut` holds after the call. Terms are compared as they are written, but for quotes, the abbreviations of the line's own file, and those
-that stand for a relation or a lent table in the specs of the crate or of a telbijan_ crate below it (`short_names`); a name is the same where
-both files import it from one place, under whatever name of its module. A contract is read with these written out (`ensured`), so that an
-argument that a relation leaves out is not there."""
+that stand for a relation in the specs of the crate or of a telbijan_ crate below it, or for a lent table in a file Lent.antt of the specs of
+a crate below it (`short_names`); a name is the same where both files import it from one place, under whatever name of its module. A contract
+is read with these written out (`ensured`), so that an argument that a relation leaves out is not there."""
 import re
 
 # records of columns or of stored numbers, and what makes them: equal where these are
@@ -27,7 +27,8 @@ RESULT = "the result"  # what a contract calls `r`, or otherwise
 ONE_OF = "Rattle.base.specs.Said.One"  # where it is imported from
 JOINS = {"λ", "let", "in", "if", "then", "else", "match", "case", "with", "where"}
 BINDS = {"×", "≡", "+", "-", "*", "/", "%", "^", "++", "∷", "[]", "⊥", "{"}  # signs that join no more than their sides
-LENT = "telbijan_answers"  # the crate whose specs have short names for lent tables
+MAKERS = {("listTable", "Rattle.sorted.specs.Lent.listTable")}  # what makes a table, by its place, where that is a file of short names
+LENT = ".specs.Lent"  # the file of specs that has short names for lent tables, in each crate that has such
 
 
 # ---- names, and what a file takes them from
@@ -143,10 +144,13 @@ def abbreviations(text, kind="", module=None):
     return {(name, f"{module}.{name}" if module else None): (words.split(), parse(body, (names, modules))) for name, words, body in found}
 
 
-def short_names(crate, texts):
-    """What these texts, the specs of a crate by their modules, have for short names of relations and of lent tables."""
-    kind = "(?:Type 0|Table)" if crate == LENT else "Type 0"
-    return {place: found for module, text in texts for place, found in abbreviations(text, kind, module).items()}
+def short_names(texts):
+    """What these texts, specs by their modules, have for short names of relations and of lent tables, but for what makes a table."""
+    names = {}
+    for module, text in texts:
+        kind = "(?:Type 0|Table)" if module.endswith(LENT) else "Type 0"
+        names |= {place: found for place, found in abbreviations(text, kind, module).items() if place not in MAKERS}
+    return names
 
 
 def unfolded(term, meant):

@@ -2,6 +2,7 @@
 //! does. `oracle differences` prints the rows as a table. The Rust runs with its own exp2 and log2 here.
 
 use crate::differences_kbm::mappings;
+use crate::differences_middle::from_middle;
 use crate::differences_scl::scales;
 use crate::differences_tuning::tunings;
 use crate::ffi::{self, one, two};
@@ -187,7 +188,8 @@ fn our_fraction(x: f64, limit: u16) -> String {
 }
 
 pub fn rows() -> Vec<Row> {
-    [integers(), powers(), made(), of_zero(), of_two(), alike(), best(), scales(), mappings(), tunings()].into_iter().flatten().collect()
+    let numbers = [integers(), powers(), made(), of_zero(), of_two(), alike(), best()];
+    numbers.into_iter().chain([scales(), mappings(), tunings(), from_middle()]).flatten().collect()
 }
 
 pub fn compare(all: &mut Report) {

@@ -56,7 +56,7 @@ fn numbers(m: Mapping, _: &[i32]) -> String {
     format!("{} {} {}", m.count, m.start, m.octave)
 }
 
-fn degree(m: Mapping, map: &[i32], key: i32) -> String {
+pub fn degree(m: Mapping, map: &[i32], key: i32) -> String {
     rust(|| rust_kbm::of(m, map).scale_degree_of(PianoKey::from_midi_number(key)))
 }
 
@@ -142,13 +142,18 @@ fn parted(sounds: impl Fn(i32) -> bool) -> String {
     (0..128).filter(|&key| sounds(key) == matches!((key - 60i32).rem_euclid(12), 1 | 6)).count().to_string()
 }
 
-fn field_here() -> String {
+/// The same by one of the calls here.
+pub fn field_with(degree: fn(Mapping, &[i32], i32) -> (Code, i32)) -> String {
     let mut map = [0; 12];
     let (_, mapping) = ffi_kbm::read_kbm(FIELD, &mut map);
-    parted(|key| ffi_kbm::scale_degree_of(mapping, &map, key).0 == Code::ACCEPTED)
+    parted(|key| degree(mapping, &map, key).0 == Code::ACCEPTED)
 }
 
-fn field_rust() -> String {
+fn field_here() -> String {
+    field_with(ffi_kbm::scale_degree_of)
+}
+
+pub fn field_rust() -> String {
     let kbm = tune::scala::Kbm::import(FIELD).unwrap();
     parted(|key| kbm.scale_degree_of(PianoKey::from_midi_number(key)).is_some())
 }

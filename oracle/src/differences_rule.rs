@@ -4,7 +4,7 @@
 use crate::differences::{Row, rows};
 
 /// What rows call a function that the comparison calls otherwise.
-const CALLED: [(&str, &str); 18] = [
+const CALLED: [(&str, &str); 24] = [
     ("pitch_times", "pitch times ratio"),
     ("pitch_over", "pitch over ratio"),
     ("best_fraction", "best_fraction, beside nearest_fraction"),
@@ -19,6 +19,12 @@ const CALLED: [(&str, &str); 18] = [
     ("maybe_pitch_of, key", "maybe_pitch_of"),
     ("maybe_pitch_of, degree", "maybe_pitch_of, a mapping degree"),
     ("pitches_of, a run of keys", "pitches_of"),
+    ("scale_degree_from_middle", "scale_degree_from_middle, beside scale_degree_of"),
+    ("degree_from_middle, rules", "scale_degree_from_middle, beside scale_degree_of"),
+    ("maybe_pitch_from_middle", "maybe_pitch_from_middle, beside maybe_pitch_of"),
+    ("pitch_from_middle, rules", "maybe_pitch_from_middle, beside maybe_pitch_of"),
+    ("pitches_from_middle", "pitches_from_middle, beside pitches_of"),
+    ("run_from_middle, rules", "pitches_from_middle, beside pitches_of"),
     ("find_by_rel_pitch_sorted", "Scl::find_by_relative_pitch_sorted"),
     ("find_by_pitch, degree", "find_by_pitch"),
     ("find_by_pitch, key", "find_by_pitch, a key"),
@@ -26,13 +32,14 @@ const CALLED: [(&str, &str); 18] = [
 ];
 
 /// Lines of the comparison that are no call of their own: parts of exports, further inputs, and the same calls on a slice of structs.
-const APART: [&str; 13] = [
+const APART: [&str; 14] = [
     "print f64",
     "print i32",
     "print u32",
     "backwards ranges, read",
     "backwards ranges, built",
     "backwards ranges, lent",
+    "middle key, fixed",
     "lent lists, strange",
     "searches, fixed",
     "lent tables, 10",

@@ -15,27 +15,27 @@ use tune::pitch::{Pitch, Ratio};
 use tune::scala::{self, Scl, SegmentType};
 use tune::tuning::{Approximation, KeyboardMapping, Scale, Tuning};
 
-const fn row(call: &'static str, input: &'static str, rust: fn() -> String, rust_says: &'static str, here: fn() -> String, here_says: &'static str) -> Row {
+pub const fn row(call: &'static str, input: &'static str, rust: fn() -> String, rust_says: &'static str, here: fn() -> String, here_says: &'static str) -> Row {
     Row { call, input, rust, rust_says, here, here_says }
 }
 
-const OCTAVE: &[Push] = &[Push::Int(2)];
-const JUST: &[Push] = &[Push::Fraction(9, 8), Push::Fraction(5, 4), Push::Int(2)];
+pub const OCTAVE: &[Push] = &[Push::Int(2)];
+pub const JUST: &[Push] = &[Push::Fraction(9, 8), Push::Fraction(5, 4), Push::Int(2)];
 const REPEATS: &[Push] = &[Push::Int(1), Push::Int(1), Push::Int(1), Push::Int(1), Push::Int(1), Push::Int(2)];
 /// An item that is the period twice.
 const TWICE: &[Push] = &[Push::Fraction(25, 9), Push::Fraction(5, 3)];
 const ROOT: Root = Root { reference: 69, hz: 440.0, offset: -9 };
 const UNTURNED: Root = Root { offset: i32::MIN, ..ROOT };
 
-fn scl(pushes: &[Push]) -> Scl {
+pub fn scl(pushes: &[Push]) -> Scl {
     rust_scl::pushes(pushes).build_with_description("").unwrap()
 }
 
-fn built(pushes: &[Push]) -> Built {
+pub fn built(pushes: &[Push]) -> Built {
     Built::new([pushes.len() + 1; 7], pushes).unwrap()
 }
 
-fn float((code, value): (Code, Float)) -> String {
+pub fn float((code, value): (Code, Float)) -> String {
     match value {
         Float::Is(bits) => format!("{:?}", f64::from_bits(bits)),
         _ => refused(code),
@@ -96,7 +96,7 @@ fn run(m: Mapping, places: usize) -> String {
     }
 }
 
-fn cannot_be() -> String {
+pub fn cannot_be() -> String {
     CANNOT_BE.to_string()
 }
 

@@ -3,7 +3,7 @@
 
 use crate::lent::Float;
 use crate::tally::{Code, Said, Who};
-use crate::{freeze_entries, freeze_kbm, freeze_numbers, freeze_scl, freeze_text, freeze_tuning};
+use crate::{freeze_entries, freeze_kbm, freeze_middle, freeze_numbers, freeze_scl, freeze_text, freeze_tuning};
 use std::fs;
 use std::io::{Error, Result};
 
@@ -11,7 +11,7 @@ use std::io::{Error, Result};
 const MOST: usize = 262_144;
 
 /// Refusals that the rules alone number: there the Rust goes on or panics, and a line that holds one is the rules'.
-const ONLY_RULES: [&str; 5] = ["!9", "!10", "!11", "!12", "!25"];
+const ONLY_RULES: [&str; 6] = ["!9", "!10", "!11", "!12", "!19", "!25"];
 
 /// A list under way: its questions and their answers, and for each whose answer it is, and which.
 #[derive(Default)]
@@ -89,11 +89,17 @@ fn first(list: &mut List) {
     freeze_numbers::best_fractions(list);
     freeze_text::texts(list);
     freeze_kbm::mappings(list);
+    freeze_middle::degrees(list);
 }
 
 fn second(list: &mut List) {
     freeze_scl::scales(list);
     freeze_entries::entry_lists(list);
+}
+
+fn third(list: &mut List) {
+    freeze_tuning::tunings(list);
+    freeze_middle::pitches(list);
 }
 
 /// The calls that a program has, by its source, and that no question asks for.
@@ -110,7 +116,7 @@ pub fn freeze(crates: &str) -> Result<()> {
     for (name, fill) in [
         ("replay", first as fn(&mut List)),
         ("replay_scl", second),
-        ("replay_tuning", freeze_tuning::tunings),
+        ("replay_tuning", third),
     ] {
         let mut list = List::default();
         fill(&mut list);

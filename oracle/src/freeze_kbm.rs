@@ -14,12 +14,12 @@ use crate::rust_kbm;
 use crate::tally::{Code, Said, Who};
 
 /// The seven fields of a mapping.
-fn fields(m: Mapping) -> String {
+pub fn fields(m: Mapping) -> String {
     format!("{} {} {} {} {} {} {}", m.count, m.start, m.end, m.reference, float(m.pitch()), m.offset, m.octave)
 }
 
 /// A table: its places, and each of them.
-fn table(map: &[i32]) -> String {
+pub fn table(map: &[i32]) -> String {
     let places: Vec<String> = map.iter().map(|z| format!(" {z}")).collect();
     format!("{}{}", map.len(), places.concat())
 }

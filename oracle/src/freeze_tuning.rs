@@ -16,9 +16,9 @@ use crate::{generators, rust_kbm};
 use tune::scala::Kbm;
 
 /// Entries of a mapping's table, and places of a run.
-const MAPPED: usize = 8;
-const OLD_HZ: f64 = 0.5;
-const OLD_NUMBER: u32 = 99;
+pub const MAPPED: usize = 8;
+pub const OLD_HZ: f64 = 0.5;
+pub const OLD_NUMBER: u32 = 99;
 
 /// A scale in the columns that the program lends.
 fn scale(pushes: &[Push]) -> Built {
@@ -33,7 +33,7 @@ fn scale(pushes: &[Push]) -> Built {
 }
 
 /// The fields of a question: count, root, a degree or a key, a ratio or a pitch, what a mapping adds, and the columns.
-fn asked(name: &str, count: u16, root: Root, number: i32, x: f64, more: &str, columns: &Columns) -> String {
+pub fn asked(name: &str, count: u16, root: Root, number: i32, x: f64, more: &str, columns: &Columns) -> String {
     format!("{name} {count} {} {} {} {number} {}{more} {}", root.reference, float(root.hz), root.offset, float(x), places(columns))
 }
 
@@ -87,12 +87,12 @@ fn unusable(list: &mut List) {
 }
 
 /// The mapping's fields after those of the question, with all entries of its table, and the number of keys of a run.
-fn mapped(m: Mapping, map: &[i32], keys: usize) -> String {
+pub fn mapped(m: Mapping, map: &[i32], keys: usize) -> String {
     let entries: String = (0..MAPPED).map(|k| format!(" {}", map.get(k).unwrap_or(&0))).collect();
     format!(" {} {} {} {}{entries} {keys}", m.count, m.start, m.end, m.octave)
 }
 
-fn root_of(m: Mapping) -> Root {
+pub fn root_of(m: Mapping) -> Root {
     Root { reference: m.reference, hz: m.pitch(), offset: m.offset }
 }
 
@@ -108,12 +108,17 @@ fn run(list: &mut List, b: &Built, m: Mapping, map: &[i32], kbm: &Kbm, first: i3
             hz[k] = f64::from_bits(bits);
         }
     }
-    listed_run(list, b, m, map, first, keys, Said { who: Who::of_all(whose), code, value: () }, hz, numbers);
+    listed_run(list, ("run", b, m, map), first, keys, Said { who: Who::of_all(whose), code, value: () }, hz, numbers);
 }
 
-fn listed_run(list: &mut List, b: &Built, m: Mapping, map: &[i32], first: i32, keys: usize, said: Said<()>, hz: [f64; MAPPED], numbers: [u32; MAPPED]) {
+/// A run's name, scale, mapping and table.
+type Named<'a> = (&'a str, &'a Built, Mapping, &'a [i32]);
+
+pub fn listed_run(
+    list: &mut List, (name, b, m, map): Named, first: i32, keys: usize, said: Said<()>, hz: [f64; MAPPED], numbers: [u32; MAPPED],
+) {
     let after: String = (0..MAPPED).map(|k| format!("{} {} ", float(hz[k]), numbers[k])).collect();
-    list.push_with(&asked("run", b.count, root_of(m), first, 0.0, &mapped(m, map, keys), &b.columns), said, |()| "done".to_string(), &after);
+    list.push_with(&asked(name, b.count, root_of(m), first, 0.0, &mapped(m, map, keys), &b.columns), said, |()| "done".to_string(), &after);
 }
 
 fn by_key(list: &mut List, b: &Built, m: Mapping, map: &[i32], kbm: &Kbm, key: i32) {
@@ -159,7 +164,7 @@ fn mappings(list: &mut List) {
         for name in ["maybe_key", "maybe_degree"] {
             list.push(&asked(name, b.count, root_of(m), 60, 0.0, &mapped(m, &map, 0), &b.columns), refused(), |()| String::new());
         }
-        listed_run(list, &b, m, &map, 60, 4, refused(), [OLD_HZ; MAPPED], [OLD_NUMBER; MAPPED]);
+        listed_run(list, ("run", &b, m, &map), 60, 4, refused(), [OLD_HZ; MAPPED], [OLD_NUMBER; MAPPED]);
     }
 }
 

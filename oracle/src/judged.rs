@@ -5,6 +5,8 @@ use crate::backwards_wrong;
 use crate::best_wrong;
 use crate::calls;
 use crate::ffi;
+use crate::middle_wrong;
+use crate::middle_wrong_runs;
 use crate::powers;
 use crate::tally::{Code, Report, Said, Tally, Who};
 
@@ -36,7 +38,7 @@ const CASES: [Case; 7] = [
 
 /// Whether each case is found out, those that are not being said; whether a call that is compared on both sides is found to lack
 /// nothing; whether another value, number or detail than the Rust's is a difference; and whether what the tests of E, of the nearest of all
-/// fractions and of backwards ranges must see is seen.
+/// fractions, of backwards ranges and of counting from the middle key must see is seen.
 pub fn judged() -> bool {
     let faults = |name: &str, cases: fn(&mut Tally)| {
         let mut report = Report::silent();
@@ -67,7 +69,8 @@ pub fn judged() -> bool {
         println!("judged: nothing is compared, and too little is lacking");
         held = false;
     }
-    for unseen in [powers::unseen(), best_wrong::unseen(), backwards_wrong::unseen()].concat() {
+    let unseen = [powers::unseen(), best_wrong::unseen(), backwards_wrong::unseen(), middle_wrong::unseen(), middle_wrong_runs::unseen()];
+    for unseen in unseen.concat() {
         println!("judged: not seen: {unseen}");
         held = false;
     }

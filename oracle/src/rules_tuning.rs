@@ -54,7 +54,7 @@ pub fn is_pitch(x: f64) -> bool {
 }
 
 /// "A computed pitch or ratio outside 2^-900..2^900 gives 18 at that step."
-fn reach(x: f64) -> Answer<f64> {
+pub fn reach(x: f64) -> Answer<f64> {
     if is_in_reach(x) { Ok(x) } else { Err(18) }
 }
 

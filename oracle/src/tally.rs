@@ -242,10 +242,14 @@ pub struct Tally {
 }
 
 /// Lines that no call of C or of the probes stands for, and that must be there.
-const BESIDE: [&str; 14] = [
+const BESIDE: [&str; 18] = [
     "backwards ranges, read",
     "backwards ranges, built",
     "backwards ranges, lent",
+    "degree_from_middle, rules",
+    "pitch_from_middle, rules",
+    "run_from_middle, rules",
+    "middle key, fixed",
     "lent tables, 10",
     "lent lists, strange",
     "searches, fixed",
@@ -260,7 +264,7 @@ const BESIDE: [&str; 14] = [
 ];
 
 /// The numbers that no error of the Rust's stands for.
-const OURS: [u64; 5] = [10, 11, 12, 18, 25];
+const OURS: [u64; 6] = [10, 11, 12, 18, 19, 25];
 
 impl Tally {
     /// One input: what the library answered and left behind, and what it should have. The first few differences are shown.

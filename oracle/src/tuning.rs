@@ -39,6 +39,14 @@ impl Built {
         Some(Built { pushes: pushes.to_vec(), scl, columns, count: pushes.len() as u16 })
     }
 
+    /// Its items alone, which need not be those of a scale that is built: the list is as it was lent.
+    pub fn lent(pushes: &[Push]) -> Built {
+        let scl = rust_scl::pushes(pushes).build_with_description("").unwrap();
+        let mut columns = Columns::new([pushes.len() + 1; 7]);
+        columns.put_items(0, &rust_scl::parts(&scl).items);
+        Built { pushes: pushes.to_vec(), scl, columns, count: pushes.len() as u16 }
+    }
+
     fn items(&self) -> Vec<Item> {
         rules::items_in(&self.columns, self.count).unwrap()
     }
@@ -256,10 +264,10 @@ pub fn named() -> Vec<Built> {
     all.iter().filter_map(|pushes| Built::new([pushes.len() + 2; 7], pushes)).collect()
 }
 
-type Lent = (Columns, u16);
+pub type Lent = (Columns, u16);
 
 /// Tables that cannot be used, and the number of the call's tables that are at fault: 0 for the items, 1 for the list alone.
-fn bad_tables() -> Vec<(Lent, usize)> {
+pub fn bad_tables() -> Vec<(Lent, usize)> {
     use Push::{Fraction, Int};
     let good = Built::new([4; 7], &[Fraction(3, 2), Int(2)]).unwrap().columns;
     let with = |change: fn(&mut Columns)| {
@@ -279,7 +287,7 @@ fn bad_tables() -> Vec<(Lent, usize)> {
 }
 
 const USUAL: Root = Root { reference: 69, hz: 440.0, offset: -9 };
-const BAD_HZ: [f64; 6] = [0.0, -1.0, f64::NAN, f64::INFINITY, 0.0009, 1_048_576.1];
+pub const BAD_HZ: [f64; 6] = [0.0, -1.0, f64::NAN, f64::INFINITY, 0.0009, 1_048_576.1];
 
 fn ten<T>(old: T) -> Said<T> {
     Said::refused(Who::Rules, 10, 0, old)
@@ -340,7 +348,7 @@ fn lent_wrong(all: &mut Report) {
     });
 }
 
-fn by_rules<T>(answer: Answer<T>, old: T) -> Said<T> {
+pub fn by_rules<T>(answer: Answer<T>, old: T) -> Said<T> {
     match answer {
         Ok(value) => Said::gives(Who::Rules, value),
         Err(number) => Said::refused(Who::Rules, number, 0, old),

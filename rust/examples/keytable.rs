@@ -2,6 +2,7 @@
 //! `keytable` prints. The program's own limits (65,536 bytes, 8,191 items, 8,192 entries) are not here: `Scale` and `Mapping` own as much as the text needs.
 //!
 //!     cargo run --manifest-path rust/Cargo.toml --example keytable -- examples/just.scl examples/linear.kbm
+//!     cargo run --manifest-path rust/Cargo.toml --example keytable -- examples/just.scl examples/harp.kbm middle
 
 use std::fs::File;
 use std::io::{self, BufWriter, Read, Write};
@@ -38,20 +39,34 @@ fn three(x: f64) -> String {
     }
 }
 
+/// Which key is counted from.
+#[derive(Clone, Copy)]
+enum Counting {
+    Reference,
+    Middle,
+}
+
 /// What stands beside a key: degree, pitch, and cents or why these cannot be said.
-fn line(scale: &Scale, mapping: &Mapping, key: i32) -> Result<String, Refusal> {
-    let hz = mapping.over(scale).pitch_of(key)?;
-    let degree = mapping.view().degree_of(key)?;
+fn line(scale: &Scale, mapping: &Mapping, counting: Counting, key: i32) -> Result<String, Refusal> {
+    let (tuning, view) = (mapping.over(scale), mapping.view());
+    let (hz, degree) = match counting {
+        Counting::Reference => (tuning.pitch_of(key)?, view.degree_of(key)?),
+        Counting::Middle => (tuning.pitch_from_middle(key)?, view.degree_from_middle(key)?),
+    };
     let cents = ratio::between_pitches(mapping.view().numbers.root.hz, hz).and_then(ratio::as_cents);
     Ok(format!("{degree} {} {}", three(hz), cents.map_or_else(|refusal| refusal.reason().to_string(), three)))
 }
 
-fn print(out: &mut impl Write, scale: &Scale, mapping: &Mapping) -> io::Result<()> {
+fn print(out: &mut impl Write, scale: &Scale, mapping: &Mapping, counting: Counting) -> io::Result<()> {
     let numbers = mapping.view().numbers;
     let (first, end) = (i64::from(numbers.start), i64::from(numbers.end));
-    writeln!(out, "key degree Hz cents")?;
+    let from = match counting {
+        Counting::Reference => "reference",
+        Counting::Middle => "middle",
+    };
+    writeln!(out, "key degree Hz cents, counted from the {from} key")?;
     for key in (first..end.min(first + MOST)).map(|key| key as i32) {
-        match line(scale, mapping, key) {
+        match line(scale, mapping, counting, key) {
             Ok(words) => writeln!(out, "{key} {words}")?,
             Err(refusal) if refusal.number() == number::UNMAPPED_KEY => writeln!(out, "{key} unmapped")?,
             Err(refusal) => writeln!(out, "{key} {}", refusal.reason())?,
@@ -65,16 +80,19 @@ fn print(out: &mut impl Write, scale: &Scale, mapping: &Mapping) -> io::Result<(
     out.flush()
 }
 
-fn table(scl: &str, kbm: &str) -> Result<(), String> {
+fn table(scl: &str, kbm: &str, counting: Counting) -> Result<(), String> {
     let (scale, mapping) = (read(scl, &SCALE_LINES, Scale::read)?, read(kbm, &MAPPING_LINES, Mapping::read)?);
-    print(&mut BufWriter::new(io::stdout().lock()), &scale, &mapping).map_err(|_| "keytable: standard output cannot be written".to_string())
+    print(&mut BufWriter::new(io::stdout().lock()), &scale, &mapping, counting)
+        .map_err(|_| "keytable: standard output cannot be written".to_string())
 }
 
 fn main() -> ExitCode {
     let words: Vec<String> = std::env::args().skip(1).collect();
-    let said = match &words[..] {
-        [scl, kbm] => table(scl, kbm),
-        _ => Err("usage: keytable SCL KBM".to_string()),
+    let words: Vec<&str> = words.iter().map(String::as_str).collect();
+    let said = match words[..] {
+        [scl, kbm] | [scl, kbm, "reference"] => table(scl, kbm, Counting::Reference),
+        [scl, kbm, "middle"] => table(scl, kbm, Counting::Middle),
+        _ => Err("usage: keytable SCL KBM [reference | middle]".to_string()),
     };
     said.map_or_else(
         |why| {

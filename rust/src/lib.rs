@@ -13,6 +13,9 @@
 //! # Ok::<(), telbijan::Refusal>(())
 //! ```
 //!
+//! Keys are counted from the reference key, as the Rust crate `tune` does; or, by the calls `.._from_middle`, from the middle key, as
+//! Scala does: take these for files made for Scala. The searches count from the reference key.
+//!
 //! With tables that the caller lends:
 //!
 //! ```

@@ -66,11 +66,32 @@ pub fn read_mapping(text: &[u8], map: &mut [i32]) -> Result<Numbers, Refusal> {
 
 /// Each call but `room_for_export` gives 10 where the table has fewer entries than the count, or others than degrees and `UNMAPPED`.
 impl MappingRef<'_> {
-    /// The degree of a key; 16 outside the range, 17 for a key that is unmapped, 11 where a number passes 32 bits.
+    /// The degree of a key, counted from the reference key as the Rust crate `tune` does; 16 outside the range, 17 for a key that is
+    /// unmapped, 11 where a number passes 32 bits.
     pub fn degree_of(self, key: i32) -> Result<i32, Refusal> {
         let (mut degree, (a, b, c, d, e, f, g, h, i)) = (0, mapping!(self));
         // Safety: the pointer comes with its slice's length.
         Refusal::of(unsafe { raw::telbijan_scale_degree_of(a, b, c, d, e, f, g, h, i, key, &mut degree) }).map(|()| degree)
+    }
+
+    /// The degree of a key, counted from the middle key, the exact sum of reference and offset, as Scala does; refused as `degree_of`.
+    /// Take this one for files made for Scala: there the first entry belongs to the middle key. Where the offset is 0 both answer alike.
+    ///
+    /// ```
+    /// use telbijan::read_mapping;
+    ///
+    /// // a harp with seven strings to the octave: the lowest, degree 0, on key 62; key 69 is tuned to 440 Hz
+    /// let (text, mut map) = (b"12\n0\n127\n62\n69\n440.0\n7\n0\nx\n1\n2\nx\n3\nx\n4\nx\n5\n6\nx\n", [0; 12]);
+    /// let numbers = read_mapping(text, &mut map)?;
+    /// let harp = telbijan::MappingRef { map: &map, numbers };
+    /// assert_eq!((harp.degree_from_middle(62)?, harp.degree_from_middle(69)?), (0, 4));
+    /// assert_eq!((harp.degree_of(62)?, harp.degree_of(69)?), (-4, 0));
+    /// # Ok::<(), telbijan::Refusal>(())
+    /// ```
+    pub fn degree_from_middle(self, key: i32) -> Result<i32, Refusal> {
+        let (mut degree, (a, b, c, d, e, f, g, h, i)) = (0, mapping!(self));
+        // Safety: the pointer comes with its slice's length.
+        Refusal::of(unsafe { raw::telbijan_scale_degree_from_middle(a, b, c, d, e, f, g, h, i, key, &mut degree) }).map(|()| degree)
     }
 
     /// The text of the mapping, written into the first bytes of `out`: how many they are; the others stay. 10 for a pitch outside 2^-10..2^20, 11
@@ -110,8 +131,9 @@ impl Tuning<'_> {
         Items { kind, cents, numer, denom }
     }
 
-    /// The pitch of a key, in Hz; 10 for tables or a root's pitch that cannot be used, 16 outside the range, 17 for a key that is unmapped, 11
-    /// where a number passes 32 bits and for the root offset -2147483648, 18 for a pitch or ratio outside 2^-900..2^900.
+    /// The pitch of a key, in Hz, counted from the reference key as the Rust crate `tune` does; 10 for tables or a root's pitch that
+    /// cannot be used, 16 outside the range, 17 for a key that is unmapped, 11 where a number passes 32 bits and for the root offset
+    /// -2147483648, 18 for a pitch or ratio outside 2^-900..2^900.
     pub fn pitch_of(self, key: i32) -> Result<f64, Refusal> {
         let (mut hz, s, (a, b, c, d, e, f, g, h, i)) = (0.0, self.items(), mapping!(self.mapping));
         ask_mapped(|x| ask_items!(telbijan_maybe_pitch_of, s, self.scale.count(), a, b, c, d, e, f, g, h, i, key, x), &mut hz)
@@ -130,6 +152,50 @@ impl Tuning<'_> {
         let (s, (a, b, c, d, e, f, g, h, i)) = (self.items(), mapping!(self.mapping));
         let Ok(keys) = u32::try_from(hz.len()) else { return Refusal::of(u64::from(number::NO_ROOM)) };
         ask_items!(telbijan_pitches_of, s, self.scale.count(), a, b, c, d, e, f, g, h, i, first, keys, hz.as_mut_ptr(), hz.len(), numbers.as_mut_ptr(), numbers.len())
+    }
+
+    /// The pitch of a key, in Hz, counted from the middle key as Scala does: the reference pitch over the ratio of the reference key's own
+    /// degree, times that of the key's degree. Take this one for files made for Scala: whichever key is the middle one, the reference key
+    /// sounds its frequency, but for rounding. Both countings sound alike where the offset is 0 and the first entry is 0 or there are no
+    /// entries.
+    ///
+    /// 10 for tables or a root's pitch that cannot be used; 16 outside the range, 17 for a key that is unmapped, 11 where a number passes
+    /// 32 bits; then, of the reference key, which the range does not limit, 11 where its distance passes 32 bits, 19 where it is unmapped,
+    /// 11 where its degree passes 32 bits; 18 for a pitch or ratio outside 2^-900..2^900.
+    ///
+    /// ```
+    /// use telbijan::{number, Mapping, Scale};
+    ///
+    /// // a harp with seven strings to the octave, the lowest on key 62, and key 69 tuned to 440 Hz
+    /// let scale = Scale::read(b"From D to D\n7\n9/8\n6/5\n4/3\n3/2\n5/3\n9/5\n2/1\n")?;
+    /// let harp = Mapping::read(b"12\n0\n127\n62\n69\n440.0\n7\n0\nx\n1\n2\nx\n3\nx\n4\nx\n5\n6\nx\n")?;
+    /// let tuning = harp.over(&scale);
+    /// assert_eq!(tuning.pitch_from_middle(69)?, 440.0);
+    /// assert_eq!(tuning.pitch_from_middle(74)?, 2.0 * tuning.pitch_from_middle(62)?);
+    /// assert_eq!(tuning.pitch_of(69)?, 220.0);
+    ///
+    /// // with key 68 for the reference key, which has no string, there is nothing to tune by
+    /// let harp = Mapping::read(b"12\n0\n127\n62\n68\n415.0\n7\n0\nx\n1\n2\nx\n3\nx\n4\nx\n5\n6\nx\n")?;
+    /// assert_eq!(harp.over(&scale).pitch_from_middle(69).unwrap_err().number(), number::REFERENCE_UNMAPPED);
+    /// assert_eq!(harp.view().degree_from_middle(69)?, 4);
+    /// # Ok::<(), telbijan::Refusal>(())
+    /// ```
+    pub fn pitch_from_middle(self, key: i32) -> Result<f64, Refusal> {
+        let (mut hz, s, (a, b, c, d, e, f, g, h, i)) = (0.0, self.items(), mapping!(self.mapping));
+        let count = self.scale.count();
+        ask_mapped(|x| ask_items!(telbijan_maybe_pitch_from_middle, s, count, a, b, c, d, e, f, g, h, i, key, x), &mut hz)
+    }
+
+    /// The same of a run of keys, as many as `hz` has places, and beside each 0 or the number of its refusal, 19 too; in all else as
+    /// `pitches_of`.
+    pub fn pitches_from_middle(self, first: i32, hz: &mut [f64], numbers: &mut [u32]) -> Result<(), Refusal> {
+        let (s, (a, b, c, d, e, f, g, h, i)) = (self.items(), mapping!(self.mapping));
+        let Ok(keys) = u32::try_from(hz.len()) else { return Refusal::of(u64::from(number::NO_ROOM)) };
+        let (pitches, beside) = ((hz.as_mut_ptr(), hz.len()), (numbers.as_mut_ptr(), numbers.len()));
+        let count = self.scale.count();
+        ask_items!(
+            telbijan_pitches_from_middle, s, count, a, b, c, d, e, f, g, h, i, first, keys, pitches.0, pitches.1, beside.0, beside.1
+        )
     }
 }
 

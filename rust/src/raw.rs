@@ -72,6 +72,10 @@ extern "C" {
     pub fn telbijan_scale_degree_of(
         map: *const i32, map_length: usize, count: u16, start: i32, end: i32, reference: i32, hz: f64, offset: i32, octave: i16, number: i32, degree: *mut i32,
     ) -> u64;
+    pub fn telbijan_scale_degree_from_middle(
+        map: *const i32, map_length: usize, count: u16, start: i32, end: i32, reference: i32, hz: f64, offset: i32, octave: i16,
+        number: i32, degree: *mut i32,
+    ) -> u64;
     pub fn telbijan_export_kbm(
         map: *const i32, map_length: usize, count: u16, start: i32, end: i32, reference: i32, hz: f64, offset: i32, octave: i16, out: *mut u8, out_length: usize,
         written: *mut usize,
@@ -96,6 +100,14 @@ extern "C" {
     with_items!(telbijan_pitches_of(
         count: u16, map: *const i32, map_length: usize, size: u16, start: i32, end: i32, reference: i32, hz: f64, offset: i32, octave: i16, first: i32, keys: u32,
         pitches: *mut f64, pitches_length: usize, numbers: *mut u32, numbers_length: usize
+    ));
+    with_items!(telbijan_maybe_pitch_from_middle(
+        count: u16, map: *const i32, map_length: usize, size: u16, start: i32, end: i32, reference: i32, hz: f64, offset: i32,
+        octave: i16, number: i32, pitch: *mut f64
+    ));
+    with_items!(telbijan_pitches_from_middle(
+        count: u16, map: *const i32, map_length: usize, size: u16, start: i32, end: i32, reference: i32, hz: f64, offset: i32,
+        octave: i16, first: i32, keys: u32, pitches: *mut f64, pitches_length: usize, numbers: *mut u32, numbers_length: usize
     ));
     with_scale!(telbijan_sorted_relative_pitch_of(count: u16, degree: i32, relative: *mut f64));
     with_scale!(telbijan_sorted_pitch_of(count: u16, reference: i32, hz: f64, offset: i32, degree: i32, pitch: *mut f64));

@@ -24,7 +24,7 @@ impl Refusal {
         }
     }
 
-    /// The number, from 1 to 18, 25 or 29; the module `number` names them.
+    /// The number, from 1 to 19, 25 or 29; the module `number` names them.
     pub fn number(self) -> u8 {
         self.number
     }
@@ -83,6 +83,8 @@ pub mod number {
     pub const UNMAPPED_KEY: u8 = 17;
     /// Beyond reach: a period of 1.0, 0 divisions, or a computed pitch or ratio outside its range.
     pub const BEYOND_REACH: u8 = 18;
+    /// The reference key is unmapped, counted from the middle key; said of pitches alone.
+    pub const REFERENCE_UNMAPPED: u8 = 19;
     /// The last key is below the first; the detail is the last key's line, or 0.
     pub const BACKWARDS_RANGE: u8 = 25;
     /// No fraction: the odd limit is 0.
@@ -110,6 +112,7 @@ pub fn reason(number: u8) -> &'static str {
         number::KEY_OUT_OF_RANGE => "the key is outside the range",
         number::UNMAPPED_KEY => "the key is unmapped",
         number::BEYOND_REACH => "beyond reach: a period of 1.0, 0 divisions, or a computed pitch or ratio outside its range",
+        number::REFERENCE_UNMAPPED => "the reference key is unmapped, counted from the middle key",
         number::BACKWARDS_RANGE => "the last key is below the first",
         number::NO_FRACTION => "no fraction: the odd limit is 0",
         _ => "no number of this library",

@@ -44,8 +44,11 @@ static double draw_double(void) {
     return 0.5 + (double)draw(3) / (1 << 22);
 }
 
+/* Of usual size, of 16 bits, any of 32 bits, or at one of their ends. */
 static int32_t draw_key(void) {
     uint64_t how = draw(1);
+    if (how >= 248)
+        return how < 252 ? INT32_MIN + (int32_t)(how - 248) : INT32_MAX - (int32_t)(255 - how);
     return how < 200 ? (int32_t)how - 70 : how < 240 ? (int32_t)draw(2) - 32768 : (int32_t)(uint32_t)draw(4);
 }
 

@@ -1,19 +1,21 @@
 /* The stories of fuzz.c without a fuzzer: each file that is named, under every story and in memory of many sizes, then so many inputs from
- * random bytes, from bytes that files are made of and from mappings whose keys are often swapped, always the same ones. It fails where of
- * a thousand or more no read or no build was refused for its range, or no mapping was lent with such a one; where none are asked for it
- * says what of the files was met. tools/example builds and runs it. */
+ * random bytes, from bytes that files are made of, from mappings whose keys are often swapped and from tunings that often sound, always
+ * the same ones. It fails where of a thousand or more no read or no build was refused for its range, or no mapping was lent with such a
+ * one; and where no key counted from the middle key had a pitch, or none was refused since the reference key is unmapped, alone or in a
+ * run. Where none are asked for it says what of the files was met. tools/example builds and runs it. */
 #include <inttypes.h>
+#include <stdbool.h>
 #include <stdint.h>
 #include <stdio.h>
 #include <stdlib.h>
 #include <string.h>
 
 int LLVMFuzzerTestOneInput(const uint8_t *data, size_t size);
-extern uint64_t backwards_met[3], mappings_met, mapping_said, scales_met;
+extern uint64_t backwards_met[3], middles_met[3], mappings_met, mapping_said, scales_met;
 
 /* How many bytes each story of fuzz.c draws before the text, where it has one: the story and the side of its pages; then the places of
  * a table, or of the columns and which of them has others; for a tuning, whether there is a text, and how long. */
-enum { LONGEST = 60000, MAPPING_TEXT = 1, STORIES = 9 };
+enum { LONGEST = 60000, MAPPING_TEXT = 1, TUNING = 5, STORIES = 9 };
 static const size_t HEADS[STORIES] = {4, 3, 4, 4, 4, 6, 6, 4, 4};
 
 static uint8_t bytes[LONGEST + 6];
@@ -98,10 +100,39 @@ static int try_keys(void) {
     return 0;
 }
 
+/* A scale, and a mapping of few entries that can be used, above a root whose offset is often at an end of 32 bits; octave, keys and the
+ * rest are anything. */
+static void try_tuning(void) {
+    static const char TEXT[] = "d\n4\n9/8\n350.5\n3\n2/1\n";
+    size_t size = HEADS[TUNING] + sizeof TEXT - 1, entries = next() % 4;
+    bytes[0] = TUNING, bytes[1] = (uint8_t)next(), bytes[2] = (uint8_t)(next() % 200);
+    bytes[3] = 255, bytes[4] = 1, bytes[5] = sizeof TEXT - 1;
+    memcpy(bytes + HEADS[TUNING], TEXT, sizeof TEXT - 1);
+    /* nothing is poked, and the counts are right */
+    bytes[size++] = 0, bytes[size++] = 0, bytes[size++] = (uint8_t)entries;
+    for (; entries > 0; entries--)
+        bytes[size++] = (uint8_t)(next() % 252);
+    bytes[size++] = 0;
+    /* keys from below 0 to 127, the reference key, a pitch, the offset */
+    bytes[size++] = (uint8_t)(next() % 70), bytes[size++] = 1, bytes[size++] = (uint8_t)(next() % 200);
+    for (int k = 0; k < 4; k++)
+        bytes[size++] = k == 0 ? 3 : (uint8_t)next();
+    bytes[size++] = (uint8_t)(next() % 4 ? next() : 248 + next() % 8);
+    for (int k = 0; k < 60; k++)
+        bytes[size++] = (uint8_t)next();
+    LLVMFuzzerTestOneInput(bytes, size);
+}
+
+static bool all_met(const uint64_t met[3]) {
+    return met[0] > 0 && met[1] > 0 && met[2] > 0;
+}
+
 static void say_met(FILE *out) {
     fprintf(out, "drive: %" PRIu64 " scales read, %" PRIu64 " mappings read, ", scales_met, mappings_met);
     fprintf(out, "%" PRIu64 " mappings backwards, %" PRIu64 " builds backwards, ", backwards_met[0], backwards_met[1]);
-    fprintf(out, "%" PRIu64 " lent backwards\n", backwards_met[2]);
+    fprintf(out, "%" PRIu64 " lent backwards, ", backwards_met[2]);
+    fprintf(out, "%" PRIu64 " pitches from the middle key, %" PRIu64 " refused for the reference key, ", middles_met[0], middles_met[1]);
+    fprintf(out, "%" PRIu64 " so in runs\n", middles_met[2]);
 }
 
 int main(int argc, char **argv) {
@@ -117,8 +148,10 @@ int main(int argc, char **argv) {
         try_random();
         if (i % 4 == 0 && !try_keys())
             return 1;
+        if (i % 4 == 1)
+            try_tuning();
     }
-    if (inputs >= 1000 && (backwards_met[0] == 0 || backwards_met[1] == 0 || backwards_met[2] == 0)) {
+    if (inputs >= 1000 && !(all_met(backwards_met) && all_met(middles_met))) {
         say_met(stderr);
         return 1;
     }

@@ -1,11 +1,13 @@
 /* The C interface under libFuzzer: the bytes choose a call and its arguments. tools/fuzz builds and runs it.
  *
  * Every lent part stands flush against a page that no one may touch (memory.h). After every call: the number is 0 or one of 1 to
- * 18, of a mapping that is read or built 25 too, and of the best fraction 0, 10 or 29; a refusal left every lent byte as it was; an
- * accepted call changed only what it says; what was read, exported and read again is the same; a mapping that was read or built has
- * a key in its range; a build of a mapping says the first of 10, 15, 25 and 13 that is due, and a mapping that is lent with its last key
- * below its first has no key; a call on structs does as the flat one; the best fraction is no further than any other that is tried.
- * Lengths are true, as C's contract asks; all else may be anything. */
+ * 18, of a mapping that is read or built 25 too, of a pitch counted from the middle key 19 too, and of the best fraction 0, 10 or 29; a
+ * refusal left every lent byte as it was; an accepted call changed only what it says; what was read, exported and read again is the
+ * same; a mapping that was read or built has a key in its range; a build of a mapping says the first of 10, 15, 25 and 13 that is due,
+ * and a mapping that is lent with its last key below its first has no key; the degree of a key is what the rule says in both
+ * countings, and its pitch in that from the middle key, where a run of keys says what calls for one key do; a call on structs does as the
+ * flat one; the best fraction is no further than any other that is tried. Lengths are true, as C's contract asks; all else may be
+ * anything. */
 #include "tunings.h"
 
 typedef uint64_t (*of_one)(double, double *);

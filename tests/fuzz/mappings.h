@@ -41,6 +41,27 @@ static bool is_usable(const int32_t *map, size_t places, size_t count) {
     return true;
 }
 
+/* The degree so many steps above the key that is counted from, in a usable table: 11 where a number passes 32 bits, 17 unmapped. */
+static uint64_t degree_at(telbijan_mapping m, int64_t steps, int32_t *degree) {
+    if (steps < INT32_MIN || steps > INT32_MAX)
+        return TELBIJAN_OVERFLOW;
+    int64_t size = m.count, round = size == 0 ? 0 : steps / size - (steps % size < 0);
+    int64_t entry = size == 0 ? steps : m.map[steps - round * size], exact = entry + round * m.octave;
+    if (size > 0 && entry == TELBIJAN_UNMAPPED)
+        return TELBIJAN_UNMAPPED_KEY;
+    if (exact < INT32_MIN || exact > INT32_MAX)
+        return TELBIJAN_OVERFLOW;
+    *degree = (int32_t)exact;
+    return TELBIJAN_ACCEPTED;
+}
+
+/* The degree of a key where another is counted from, which may lie outside 32 bits. */
+static uint64_t degree_from(telbijan_mapping m, int64_t counted_from, int32_t key, int32_t *degree) {
+    if (!is_usable(m.map, m.room, m.count))
+        return TELBIJAN_UNUSABLE;
+    return key < m.start || key >= m.end ? TELBIJAN_KEY_OUT_OF_RANGE : degree_at(m, key - counted_from, degree);
+}
+
 static bool is_pitch(double hz) {
     return hz >= 0x1p-10 && hz <= 0x1p20;
 }
@@ -110,6 +131,21 @@ static uint64_t export_mapping(telbijan_mapping m, size_t room, size_t *took) {
     return result;
 }
 
+/* The exact sum, which may be no key. */
+static int64_t middle_of(telbijan_mapping m) {
+    return (int64_t)m.root.reference + m.root.offset;
+}
+
+/* Keys of a mapping that was read, in both countings: the ends of its range, and some from its reference key on. */
+static void keys_of_text(telbijan_mapping m) {
+    for (int32_t k = -2; k < 30; k++) {
+        int64_t at = (int64_t)m.root.reference + k;
+        int32_t key = k == -2 ? m.start : k == -1 ? m.end - 1 : at > INT32_MAX ? INT32_MAX : (int32_t)at, degree = 7, due = 7;
+        SAME(telbijan_mapping_degree_of(&m, key, &degree), degree_from(m, m.root.reference, key, &due)), MUST(degree == due);
+        SAME(telbijan_mapping_degree_from_middle(&m, key, &degree), degree_from(m, middle_of(m), key, &due)), MUST(degree == due);
+    }
+}
+
 /* What was read is written and read again, as of a scale; the pitch has three decimals now. */
 static void mapping_text(void) {
     telbijan_mapping m, n;
@@ -120,6 +156,7 @@ static void mapping_text(void) {
     if (mapping_said != 0)
         return;
     mappings_met++;
+    keys_of_text(m);
     MUST(export_mapping(m, TELBIJAN_KBM_ROOM(m.count), &took) == 0);
     MUST(export_mapping(m, took, &again) == 0 && again == took);
     memcpy(known.text, memory[0][BYTES].at, took);

@@ -122,7 +122,8 @@ static bool is_usual(uint64_t result) {
     return result == 0 || (number >= 1 && number <= 18);
 }
 
-/* After any call but the best fraction, whose numbers are 10 and 29, and those below: a refusal has one of the numbers 1 to 18 as well. */
+/* After any call but the best fraction, whose numbers are 10 and 29, the pitch from the middle key, which may say 19, and those below: a
+ * refusal has one of the numbers 1 to 18 as well. */
 static void judge(int set, uint64_t result, const char *where) {
     if (!is_usual(result))
         fail("a number from 1 to 18", where);

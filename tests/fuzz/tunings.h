@@ -2,7 +2,7 @@
 #ifndef FUZZ_TUNINGS_H
 #define FUZZ_TUNINGS_H
 
-#include "mappings.h"
+#include "middles.h"
 
 static void poke(columns *c) {
     for (uint64_t times = draw(1) % 4; times > 0; times--) {
@@ -75,10 +75,17 @@ static void searches(const columns *c, telbijan_root r, bool even) {
 }
 
 /* A run of keys, into slices of their own lengths. */
-static void run_of_keys(const columns *c, telbijan_mapping m, int32_t first, bool even) {
-    uint64_t result;
+static run draw_run(int32_t first) {
     size_t places = draw(1), others = draw(1) % 4 ? places : draw(1);
-    uint32_t keys = (uint32_t)draw_count(places);
+    run r = {first, (uint32_t)draw_count(places), places, others};
+    return r;
+}
+
+static void run_of_keys(const columns *c, telbijan_mapping m, run r, bool even) {
+    uint64_t result;
+    size_t places = r.places, others = r.others;
+    uint32_t keys = r.keys;
+    int32_t first = r.first;
     double *hz = (double *)column(0, PITCHES, places), *also = (double *)column(1, PITCHES, keys <= places ? keys : 0);
     uint32_t *numbers = (uint32_t *)column(0, NUMBERS, others), *more = (uint32_t *)column(1, NUMBERS, keys <= others ? keys : 0);
     CALL(telbijan_pitches_of(ITEMS(*c), c->s.count, MAPPING(m), first, keys, hz, places, numbers, others));
@@ -103,19 +110,22 @@ static void lent_range(telbijan_mapping m, uint64_t result) {
 
 static void mapped(const columns *c, telbijan_mapping m, bool even) {
     uint64_t result;
-    int32_t key = draw_key(), *z = OUT(int32_t, 1), degree;
+    int32_t key = draw_key(), *z = OUT(int32_t, 1), degree = *z;
     double *x = OUT(double, 0);
+    uint64_t due = degree_from(m, m.root.reference, key, &degree);
     const telbijan_mapping constant = telbijan_mapping_lent(m.map, m.room, m.count, m.start, m.end, m.root, m.octave);
     CALL(telbijan_scale_degree_of(MAPPING(m), key, z)), ONLY_VALUES();
     MUST(result != 0 || (m.start <= key && key < m.end));
     lent_range(m, result);
-    degree = *z;
+    MUST(result == due && degree == *z);
     SAME(telbijan_mapping_degree_of(&constant, key, &degree), result), MUST(degree == *z);
     SAME(telbijan_mapping_degree_of(&m, key, &degree), result), MUST(degree == *z);
     FLOAT(telbijan_maybe_pitch_of(ITEMS(*c), c->s.count, MAPPING(m), key, x), telbijan_tuning_maybe_pitch_of(&c->s, &m, key, &also));
     MUST(m.end > m.start || result == TELBIJAN_UNUSABLE || result == TELBIJAN_KEY_OUT_OF_RANGE);
     FLOAT(telbijan_maybe_pitch_of_degree(ITEMS(*c), c->s.count, MAPPING(m), key, x), telbijan_tuning_maybe_pitch_of_degree(&c->s, &m, key, &also));
-    run_of_keys(c, m, key, even);
+    run r = draw_run(key);
+    run_of_keys(c, m, r, even);
+    from_middle(c, m, r, even);
 }
 
 static void tuning(void) {

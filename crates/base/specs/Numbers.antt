@@ -68,6 +68,10 @@ unmapped-key = 17
 abbrev pub beyond-reach : ℕ
 beyond-reach = 18
 
+-- "19, reference key unmapped" (document 02, W1)
+abbrev pub reference-unmapped : ℕ
+reference-unmapped = 19
+
 -- "Refuse a mapping whose last key is below its first. [..] 25" (document 02, W8)
 abbrev pub backwards-range : ℕ
 backwards-range = 25

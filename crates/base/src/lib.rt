@@ -1,4 +1,5 @@
-// What every other crate shares: the numbers that answer, and a refusal. Document 01, "Numbers that answer"; 25 and 29 are of document 02.
+// What every other crate shares: the numbers that answer, and a refusal. Document 01, "Numbers that answer"; 19, 25 and 29 are of
+// document 02.
 
 // 1: a line is not UTF-8; the detail is the line.
 pub const NOT_UTF8: u32 = 1;
@@ -36,6 +37,8 @@ pub const KEY_OUT_OF_RANGE: u32 = 16;
 pub const UNMAPPED_KEY: u32 = 17;
 // 18: beyond reach: a period of 1.0, 0 divisions, or a computed pitch or ratio outside its range.
 pub const BEYOND_REACH: u32 = 18;
+// 19: the reference key is unmapped, counted from the middle key; said of pitches alone.
+pub const REFERENCE_UNMAPPED: u32 = 19;
 // 25: the last key is below the first; the detail is the last key's line, or 0.
 pub const BACKWARDS_RANGE: u32 = 25;
 // 29: no fraction: the odd limit is 0.

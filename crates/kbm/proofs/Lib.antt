@@ -5,3 +5,5 @@ pub mod Degrees
 pub mod Language
 pub mod Samples
 pub mod Theorems
+pub mod Middle
+pub mod MiddleSamples

@@ -15,8 +15,10 @@ use Rattle.pitch.specs.declared.Pitch.{Pitch}
 use Rattle.kbm.specs.Answers.{saysRoot, saysDegree, saysKbm}
 use Rattle.kbm.specs.Degree.{degreeOf, scaleDegreeOf}
 use Rattle.kbm.specs.Keys.{inKeys, distance, Has, Lacks, Gap, Passes}
+use Rattle.kbm.specs.Middle.{scaleDegreeFromMiddle, referenceDegree, counted}
 use Rattle.kbm.specs.Root.{rootOf, isRoot}
 use Rattle.kbm.specs.Table.{numberOf, isTable, tableOf}
+use Rattle.kbm.specs.declared.Counting.{Counting}
 use Rattle.kbm.specs.declared.DegreeAnswer.the-variants as OfDegree
 use Rattle.kbm.specs.declared.Entry.{Entry}
 use Rattle.kbm.specs.declared.Kbm.{Kbm}
@@ -87,5 +89,12 @@ number-of-one e = one-result (numberOf e)
 pub scale-degree-of-one : (kbm : Kbm) (map : List ℤ) (key : PianoKey) → One saysDegree (scaleDegreeOf kbm map key)
 scale-degree-of-one kbm map key = degree-one (scaleDegreeOf kbm map key)
 
-pub degree-in-one : (kbm : Kbm) (map : List ℤ) (key : PianoKey) → One saysDegree (degreeOf kbm (tableOf (kbm .count) map) key)
-degree-in-one kbm map key = degree-one (degreeOf kbm (tableOf (kbm .count) map) key)
+pub scale-degree-from-middle-one : (kbm : Kbm) (map : List ℤ) (key : PianoKey) → One saysDegree (scaleDegreeFromMiddle kbm map key)
+scale-degree-from-middle-one kbm map key = degree-one (scaleDegreeFromMiddle kbm map key)
+
+pub degree-in-one : (c : Counting) (kbm : Kbm) (map : List ℤ) (key : PianoKey) →
+    One saysDegree (degreeOf (counted c kbm) (tableOf (kbm .count) map) key)
+degree-in-one c kbm map key = degree-one (degreeOf (counted c kbm) (tableOf (kbm .count) map) key)
+
+pub reference-degree-in-one : (kbm : Kbm) (map : List ℤ) → One saysDegree (referenceDegree kbm (tableOf (kbm .count) map))
+reference-degree-in-one kbm map = degree-one (referenceDegree kbm (tableOf (kbm .count) map))

@@ -1,6 +1,9 @@
 pub mod Table
 pub mod Root
 pub mod Degree
+pub mod Middle
 pub mod Keys
+pub mod ReferenceKey
 pub mod Answers
 pub mod Samples
+pub mod MiddleSamples

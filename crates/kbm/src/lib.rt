@@ -1,4 +1,4 @@
-// Keyboard mappings: which degree of a scale a key has. The Rust's `Kbm`; document 01, "Keys" and "What is taken", 5.
+// Keyboard mappings: which degree of a scale a key has. The Rust's `Kbm`; document 01, "Keys" and "What is taken", 5; document 02, W1.
 //
 // A mapping is a value, `Kbm`, and a lent table of `count` entries: in the table a number from -32768 to 32767 is a degree,
 // `UNMAPPED` is no degree, and any other number is unusable (10).
@@ -9,10 +9,12 @@ use key::PianoKey;
 use pitch::Pitch;
 ghost use mathlib.Core.Path.{_≡_};
 ghost use mathlib.Core.Bool.{true};
-ghost use lib.IntN.{_+ℤ_, _*ℤ_};
+ghost use lib.IntN.{_+ℤ_, _-ℤ_, _*ℤ_};
 ghost use Rattle.base.specs.Integers.{held};
+ghost use Rattle.integer_math.specs.Answers.{saysI32};
 ghost use Rattle.kbm.specs.Answers.{saysRoot, saysDegree};
 ghost use Rattle.kbm.specs.Degree.{inRange, degreeAt, degreeFrom, degreeOf, scaleDegreeOf};
+ghost use Rattle.kbm.specs.Middle.{middleOf, scaleDegreeFromMiddle, ofReference, referenceDegree, origin, counted};
 ghost use Rattle.kbm.specs.Root.{rootOf, isRoot};
 ghost use Rattle.kbm.specs.Table.{numberOf, isEntry, entryOf, isTable, tableOf};
 
@@ -55,6 +57,12 @@ pub enum KbmAnswer {
 pub enum DegreeAnswer {
     Is(Degree),
     Refused(Refusal),
+}
+
+// Which key the first entry is for: the reference key, as in the Rust, or the middle key, as in Scala.
+pub enum Counting {
+    Reference,
+    Middle,
 }
 
 // 10: a lent table, a state or a pitch cannot be used.
@@ -199,18 +207,45 @@ fn degree_at(d: i32, octave: i16, map: &[i32], count: u16) -> DegreeAnswer
     }
 }
 
-// The degree of a key that is counted from another; 11 for the distance, 17, 11 for the degree.
+// How many keys a key lies above the middle key, exactly: the middle key itself may lie outside 32 bits.
+fn steps_from_middle(number: i32, reference: i32, offset: i32) -> i64
+    ensures { λ r. ⌜ r ≡ number -ℤ (reference +ℤ offset) ⌝ }
+{
+    (number as i64) - integer_math::sum(reference, offset)
+}
+
+// The same where 32 bits hold it; else 11.
+fn distance_from_middle(root: KbmRoot, key: PianoKey) -> I32Answer
+    ensures { λ r. ⌜ saysI32 r ≡ held (key .0 -ℤ middleOf root) ⌝ }
+{
+    let reference = root.reference;
+    integer_math::to_i32(steps_from_middle(key.0, reference.0, root.offset))
+}
+
+// How many keys a key lies above the one that is counted from; 11 outside 32 bits.
+fn distance(counting: Counting, root: KbmRoot, key: PianoKey) -> I32Answer
+    ensures { λ r. ⌜ saysI32 r ≡ held (key .0 -ℤ origin counting root .0) ⌝ }
+{
+    let reference = root.reference;
+    match counting {
+        Counting::Reference => reference.num_keys_before(key),
+        Counting::Middle => distance_from_middle(root, key),
+    }
+}
+
+// The degree of a key, in range or not; 11 for the distance, 17, 11 for the degree.
 fn degree_from(
-    reference: PianoKey,
+    counting: Counting,
+    root: KbmRoot,
     key: PianoKey,
     octave: i16,
     map: &[i32],
     count: u16,
 ) -> DegreeAnswer
     requires { ⌜ isTable count (now map) ≡ true ⌝ }
-    ensures { λ r. ⌜ saysDegree r ≡ degreeFrom reference key octave (tableOf count (now (map .entry))) ⌝ }
+    ensures { λ r. ⌜ saysDegree r ≡ degreeFrom (origin counting root) key octave (tableOf count (now (map .entry))) ⌝ }
 {
-    match reference.num_keys_before(key) {
+    match distance(counting, root, key) {
         I32Answer::Is(d) => degree_at(d, octave, map, count),
         I32Answer::Refused(refusal) => DegreeAnswer::Refused(refusal),
     }
@@ -218,15 +253,24 @@ fn degree_from(
 
 // The degree of a key in a table that can be used: 16 outside the range, 11 for the distance, 17 unmapped, 11. For callers that have
 // tested the table.
-pub fn degree_in(kbm: Kbm, map: &[i32], key: PianoKey) -> DegreeAnswer
+pub fn degree_in(counting: Counting, kbm: Kbm, map: &[i32], key: PianoKey) -> DegreeAnswer
     requires { ⌜ isTable (kbm .count) (now map) ≡ true ⌝ }
-    ensures { λ r. ⌜ saysDegree r ≡ degreeOf kbm (tableOf (kbm .count) (now (map .entry))) key ⌝ }
+    ensures { λ r. ⌜ saysDegree r ≡ degreeOf (counted counting kbm) (tableOf (kbm .count) (now (map .entry))) key ⌝ }
 {
-    let root = kbm.root;
     if is_in_range(kbm.start, kbm.end, key) {
-        return degree_from(root.reference, key, kbm.octave, map, kbm.count);
+        return degree_from(counting, kbm.root, key, kbm.octave, map, kbm.count);
     }
     DegreeAnswer::Refused(OUT_OF_RANGE)
+}
+
+// The degree of a key in either counting: 10 for a table that cannot be used, 16, 11 for the distance, 17, 11.
+fn tested_degree(counting: Counting, kbm: Kbm, map: &[i32], key: PianoKey) -> DegreeAnswer
+    ensures { λ r. ⌜ saysDegree r ≡ scaleDegreeOf (counted counting kbm) (now (map .entry)) key ⌝ }
+{
+    if is_table(map, kbm.count as usize) {
+        return degree_in(counting, kbm, map, key);
+    }
+    DegreeAnswer::Refused(NOT_USABLE)
 }
 
 // The degree of a key: 10 for a table that cannot be used, 16 outside the range, 11 for the distance, 17 unmapped, 11.
@@ -234,8 +278,47 @@ pub fn degree_in(kbm: Kbm, map: &[i32], key: PianoKey) -> DegreeAnswer
 pub fn scale_degree_of(kbm: Kbm, map: &[i32], key: PianoKey) -> DegreeAnswer
     ensures { λ r. ⌜ saysDegree r ≡ scaleDegreeOf kbm (now (map .entry)) key ⌝ }
 {
-    if is_table(map, kbm.count as usize) {
-        return degree_in(kbm, map, key);
+    tested_degree(Counting::Reference, kbm, map, key)
+}
+
+// The degree of a key, counted from the middle key, the exact sum of reference and offset: 10, 16, 11 for the distance, 17, 11.
+// The same mapping with middle key 62: key 62 has degree 0, key 61 has -3, key 60 is 17.
+pub fn scale_degree_from_middle(kbm: Kbm, map: &[i32], key: PianoKey) -> DegreeAnswer
+    ensures { λ r. ⌜ saysDegree r ≡ scaleDegreeFromMiddle kbm (now (map .entry)) key ⌝ }
+{
+    tested_degree(Counting::Middle, kbm, map, key)
+}
+
+// 17 becomes 19: it is the reference key that is unmapped.
+fn of_reference(answer: DegreeAnswer) -> DegreeAnswer
+    ensures { λ r. ⌜ saysDegree r ≡ ofReference (saysDegree answer) ⌝ }
+{
+    match answer {
+        DegreeAnswer::Is(degree) => DegreeAnswer::Is(degree),
+        DegreeAnswer::Refused(refusal) => {
+            if refusal.number == base::UNMAPPED_KEY {
+                return DegreeAnswer::Refused(Refusal {
+                    number: base::REFERENCE_UNMAPPED,
+                    detail: refusal.detail,
+                });
+            }
+            DegreeAnswer::Refused(refusal)
+        }
     }
-    DegreeAnswer::Refused(NOT_USABLE)
+}
+
+// The reference key's own degree in a table that can be used, counted from the middle key; no range limits it: 11 for the distance, 19, 11.
+pub fn reference_degree_in(kbm: Kbm, map: &[i32]) -> DegreeAnswer
+    requires { ⌜ isTable (kbm .count) (now map) ≡ true ⌝ }
+    ensures { λ r. ⌜ saysDegree r ≡ referenceDegree kbm (tableOf (kbm .count) (now (map .entry))) ⌝ }
+{
+    let root = kbm.root;
+    of_reference(degree_from(
+        Counting::Middle,
+        root,
+        root.reference,
+        kbm.octave,
+        map,
+        kbm.count,
+    ))
 }

@@ -4,7 +4,7 @@ use mathlib.Core.Path.{_≡_}
 use mathlib.Core.Bool.{true, false, _&&_}
 use mathlib.Core.List.{List, [], _∷_, _++_}
 use Prim.Native.Nat.{ℕ}
-use lib.IntN.{ℤ, pos, _+ℤ_, _-ℤ_}
+use lib.IntN.{ℤ, pos, _-ℤ_}
 use lib.Ieee.{Float}
 use Rattle.base.specs.Integers.{inI32, held}
 use Rattle.base.specs.Numbers.{unusable}
@@ -13,6 +13,7 @@ use Rattle.floats.specs.Ranges.{inPitch}
 use Rattle.printing.specs.PrintText.{textOf, wholeText}
 use Rattle.writing.specs.Fitted.{fitted}
 use Rattle.writing.specs.Lines.{linesText}
+use Rattle.kbm.specs.Middle.{middleOf}
 use Rattle.kbm.specs.Table.{isTable, entriesOf, tableOf}
 use Rattle.kbm.specs.declared.Entry.{Entry}
 use Rattle.kbm.specs.declared.Entry.the-variants.{Mapped, Unmapped}
@@ -32,7 +33,7 @@ lastKeyOf kbm = kbm .end .0 -ℤ pos 1
 
 -- the middle key: so far above the reference key as the root says
 abbrev pub middleKeyOf : Kbm → ℤ
-middleKeyOf kbm = kbm .root .reference .0 +ℤ kbm .root .offset
+middleKeyOf kbm = middleOf (kbm .root)
 
 -- an entry: its degree, or `x` where it is unmapped
 abbrev pub entryText : Entry → List ℕ

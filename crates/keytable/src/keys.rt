@@ -3,6 +3,7 @@ use crate::tables::Mapping;
 use crate::tables::Sounds;
 use floats::FloatAnswer;
 use integer_math::I32Answer;
+use kbm::Counting;
 use kbm::DegreeAnswer;
 use kbm::Kbm;
 use key::KeyAnswer;
@@ -63,15 +64,30 @@ fn print_reason(number: u32) -> bool {
     io::write_all(STDOUT_FILENO, b"\n")
 }
 
+// The degree of a key in either counting.
+fn degree_of(counting: Counting, kbm: Kbm, map: &[i32], key: PianoKey) -> DegreeAnswer {
+    match counting {
+        Counting::Reference => kbm::scale_degree_of(kbm, map, key),
+        Counting::Middle => kbm::scale_degree_from_middle(kbm, map, key),
+    }
+}
+
 // Prints the line of a key.
-fn print_key(kbm: Kbm, map: &[i32], key: PianoKey, hz: f64, number: u32) -> bool {
+fn print_key(
+    counting: Counting,
+    kbm: Kbm,
+    map: &[i32],
+    key: PianoKey,
+    hz: f64,
+    number: u32,
+) -> bool {
     if !print_whole(key.0, b' ') {
         return false;
     }
     if number != 0 {
         return print_reason(number);
     }
-    let DegreeAnswer::Is(degree) = kbm::scale_degree_of(kbm, map, key) else {
+    let DegreeAnswer::Is(degree) = degree_of(counting, kbm, map, key) else {
         return print_reason(base::UNMAPPED_KEY);
     };
     if !print_whole(degree.0, b' ') {
@@ -96,7 +112,7 @@ fn print_left(first: PianoKey, end: PianoKey) -> bool {
 }
 
 // Prints the lines of the first keys of the range, and how many are left out.
-pub fn print_keys(mapping: Mapping, sounds: Sounds) -> bool {
+pub fn print_keys(counting: Counting, mapping: Mapping, sounds: Sounds) -> bool {
     let kbm = mapping.kbm;
     let map = mapping.map;
     let hz = sounds.hz;
@@ -108,7 +124,7 @@ pub fn print_keys(mapping: Mapping, sounds: Sounds) -> bool {
         if end.0 <= key.0 {
             return true;
         }
-        if !print_key(kbm, &map, key, hz[i], numbers[i]) {
+        if !print_key(counting, kbm, &map, key, hz[i], numbers[i]) {
             return false;
         }
         let KeyAnswer::Is(next) = key.plus_steps(1) else {

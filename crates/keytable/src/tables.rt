@@ -2,6 +2,7 @@
 use crate::files::Input;
 use crate::files::ROOM;
 use crate::keys::MOST;
+use kbm::Counting;
 use kbm::Kbm;
 use kbm::KbmAnswer;
 use kbm::KbmRoot;
@@ -179,8 +180,8 @@ pub fn read_mapping(name: &[u8]) -> Mapping {
     }
 }
 
-// The pitches of the first keys of a mapping's range; 10 for each where the tables cannot be used.
-pub fn sounds_of(scale: Scale, mapping: Mapping) -> Sounds {
+// The pitches of the first keys of a mapping's range in either counting; 10 for each where the tables cannot be used.
+pub fn sounds_of(counting: Counting, scale: Scale, mapping: Mapping) -> Sounds {
     let kind = scale.kind;
     let cents = scale.cents;
     let numer = scale.numer;
@@ -189,18 +190,37 @@ pub fn sounds_of(scale: Scale, mapping: Mapping) -> Sounds {
     let map = mapping.map;
     let mut hz = [0.0; MOST];
     let mut numbers = [base::UNUSABLE; MOST];
-    tuning::key_pitches::pitches_of(
-        scale.scl,
-        &kind,
-        &cents,
-        &numer,
-        &denom,
-        kbm,
-        &map,
-        kbm.start,
-        1024,
-        &mut hz,
-        &mut numbers,
-    );
+    match counting {
+        Counting::Reference => {
+            tuning::key_pitches::pitches_of(
+                scale.scl,
+                &kind,
+                &cents,
+                &numer,
+                &denom,
+                kbm,
+                &map,
+                kbm.start,
+                1024,
+                &mut hz,
+                &mut numbers,
+            );
+        }
+        Counting::Middle => {
+            tuning::key_pitches::pitches_from_middle(
+                scale.scl,
+                &kind,
+                &cents,
+                &numer,
+                &denom,
+                kbm,
+                &map,
+                kbm.start,
+                1024,
+                &mut hz,
+                &mut numbers,
+            );
+        }
+    }
     Sounds { hz, numbers }
 }

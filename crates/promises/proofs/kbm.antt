@@ -12,4 +12,5 @@ pub mod Sounding
 pub mod Samples
 pub mod PublishedSamples
 pub mod Range
+pub mod Places
 pub mod KeysOfText

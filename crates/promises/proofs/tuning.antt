@@ -5,3 +5,8 @@ pub mod Samples
 pub mod Far
 pub mod Theorems
 pub mod Read
+pub mod Exact
+pub mod Published
+pub mod DegreeZero
+pub mod ReferencePitch
+pub mod PublishedSamples

@@ -2,3 +2,5 @@
 pub mod Samples
 pub mod Far
 pub mod Roots
+pub mod Published
+pub mod PublishedSamples

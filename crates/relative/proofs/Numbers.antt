@@ -66,9 +66,13 @@ root-pitch-numbered items hz at = numbered-then (relative-numbered items at) (λ
 above-numbered : {root ratio : Said Float} → Numbered root → Numbered ratio → Numbered (above root ratio)
 above-numbered n m = numbered-then n (λ hz. numbered-then m (λ ratio. both-numbered hz ratio (computed-numbered (mul binary64 hz ratio))))
 
+pub from-numbered : (items : List Item) (hz : Float) (at d : ℤ) → Numbered (pitchFrom items hz at d)
+unfolding pitchFrom
+from-numbered items hz at d = above-numbered (root-pitch-numbered items hz at) (relative-numbered items d)
+
 pub pitch-numbered : (items : List Item) (root : KbmRoot) (d : ℤ) → Numbered (pitchOf items root d)
-unfolding pitchOf pitchFrom
-pitch-numbered items root d = numbered-then (root-degree-numbered root) (λ at. above-numbered (root-pitch-numbered items (root .pitch .0) at) (relative-numbered items d))
+unfolding pitchOf
+pitch-numbered items root d = numbered-then (root-degree-numbered root) (λ at. from-numbered items (root .pitch .0) at d)
 
 pub sorted-pitch-numbered : (items : List Item) (es : List Entry) (root : KbmRoot) (d : ℤ) → Numbered (sortedPitchOf items es root d)
 unfolding sortedPitchOf sortedPitchFrom

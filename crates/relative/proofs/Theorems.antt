@@ -177,10 +177,11 @@ module _ (items : List Item) (hz : Float) (h : inReach hz ≡ true) where
   unfolding sortedPitchFrom
   sorted-from-reached es at d k = above-reached k at
 
-module _ (root : KbmRoot) (o : isRoot root ≡ true) (m : mag (root .offset) < 2147483648) where
-  hz-reach : inReach (root .pitch .0) ≡ true
-  hz-reach = within-reach (within-more (lit≤ tt) (lit≤ tt) (pitch-says (root .pitch .0) o))
+-- a usable root's pitch lies in 2^-900..2^900
+pub hz-reach : (root : KbmRoot) → isRoot root ≡ true → inReach (root .pitch .0) ≡ true
+hz-reach root o = within-reach (within-more (lit≤ tt) (lit≤ tt) (pitch-says (root .pitch .0) o))
 
+module _ (root : KbmRoot) (o : isRoot root ≡ true) (m : mag (root .offset) < 2147483648) where
   -- 11 exactly for the lowest offset, then 18
   after-offset : (f : ℤ → Said Float) → ((at : ℤ) → ReachedOrBeyond (f at)) → Pitched root (andThen (rootDegree root) f)
   after-offset f r = elim (lowest (root .offset)) [
@@ -191,11 +192,15 @@ module _ (root : KbmRoot) (o : isRoot root ≡ true) (m : mag (root .offset) < 2
   -- the pitch of a degree above a usable root is never refused by 10
   pub pitch-refusals : (items : List Item) (d : ℤ) → Pitched root (pitchOf items root d)
   unfolding pitchOf
-  pitch-refusals items d = after-offset (λ at. pitchFrom items (root .pitch .0) at d) (λ at. from-reached items (root .pitch .0) hz-reach at d)
+  pitch-refusals items d =
+      let hz = root .pitch .0 in
+      after-offset (λ at. pitchFrom items hz at d) (λ at. from-reached items hz (hz-reach root o) at d)
 
   pub sorted-pitch-refusals : (items : List Item) (es : List Entry) (d : ℤ) → ReachedOrBeyond (sortedRelativePitchOf items es d) → Pitched root (sortedPitchOf items es root d)
   unfolding sortedPitchOf
-  sorted-pitch-refusals items es d k = after-offset (λ at. sortedPitchFrom items es (root .pitch .0) at d) (λ at. sorted-from-reached items (root .pitch .0) hz-reach es at d k)
+  sorted-pitch-refusals items es d k =
+      let hz = root .pitch .0 in
+      after-offset (λ at. sortedPitchFrom items es hz at d) (λ at. sorted-from-reached items hz (hz-reach root o) es at d k)
 
 -- ---- two results of one input are equal: pitches above a root
 pub root-degree-one : (root : KbmRoot) → One saysI32 (rootDegree root)

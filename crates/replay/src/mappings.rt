@@ -1,6 +1,7 @@
 // Mappings. A root is three fields: reference key, pitch, offset. A mapping is seven: count, start, end, those of its root, formal octave. A table is the
 // number of its places, at most 16, and each of them. An answer ends with what every lent place or byte is after the call.
 use frozen::given;
+use kbm::Counting;
 use kbm::DegreeAnswer;
 use kbm::Kbm;
 use kbm::KbmAnswer;
@@ -85,12 +86,19 @@ pub fn say_mapping(answer: KbmAnswer) {
     }
 }
 
-// `degree KEY MAPPING TABLE`: the degree, or a refusal.
-pub fn say_degree(line: &[u8]) {
+fn degree(counting: Counting, kbm: Kbm, map: &[i32], key: PianoKey) -> DegreeAnswer {
+    match counting {
+        Counting::Reference => kbm::scale_degree_of(kbm, map, key),
+        Counting::Middle => kbm::scale_degree_from_middle(kbm, map, key),
+    }
+}
+
+// `degree KEY MAPPING TABLE`, and `middle_degree`, counted from the middle key: the degree, or a refusal.
+pub fn say_degree(counting: Counting, line: &[u8]) {
     let places = given::size(line, 10);
     let map = frozen::columns::ints(PATTERN, places, line, 11, 1);
     let key = PianoKey(given::int(line, 2));
-    match kbm::scale_degree_of(mapping(line), first(&map, places), key) {
+    match degree(counting, mapping(line), first(&map, places), key) {
         DegreeAnswer::Is(degree) => say::int(degree.0),
         DegreeAnswer::Refused(refusal) => say::refusal(refusal),
     }

@@ -46,14 +46,14 @@ fn say_degree(answer: DegreeSearch) {
 fn answer(line: &[u8]) {
     let call = frozen::asked(
         line,
-        b"harmonics yccyc  rank2 fccf  period cifiifn bfuuufi relative cifiifn bfuuufi degree cifiifn bfuuufi key cifiifn bfuuufi sorted_relative cifiifn bfuuufi sorted_pitch cifiifn bfuuufi find cifiifn bfuuufi find_sorted cifiifn bfuuufi find_pitch cifiifn bfuuufi find_pitch_sorted cifiifn bfuuufi find_key cifiifn bfuuufi maybe_key cifiifciisiiiiiiiiun bfuuufi maybe_degree cifiifciisiiiiiiiiun bfuuufi run cifiifciisiiiiiiiiun bfuuufi",
+        b"harmonics yccyc  rank2 fccf  period cifiifn bfuuufi relative cifiifn bfuuufi degree cifiifn bfuuufi key cifiifn bfuuufi sorted_relative cifiifn bfuuufi sorted_pitch cifiifn bfuuufi find cifiifn bfuuufi find_sorted cifiifn bfuuufi find_pitch cifiifn bfuuufi find_pitch_sorted cifiifn bfuuufi find_key cifiifn bfuuufi maybe_key cifiifciisiiiiiiiiun bfuuufi maybe_degree cifiifciisiiiiiiiiun bfuuufi run cifiifciisiiiiiiiiun bfuuufi middle_key cifiifciisiiiiiiiiun bfuuufi middle_run cifiifciisiiiiiiiiun bfuuufi",
     );
     say::name(frozen::name(line, call));
     match call {
         0 => computed::say_segment(line),
         1 => computed::say_temperament(line),
         2..=12 => scaled::say_scaled(call, line),
-        13..=15 => mapped::say_mapped(call, line),
+        13..=17 => mapped::say_mapped(call, line),
         _ => {}
     }
 }

@@ -49,7 +49,7 @@ fn say_sounds(hz: &[f64; 8], numbers: &[u32; 8]) {
     }
 }
 
-fn say_run(k: &[u8], e: &[f64], n: &[u32], d: &[u32], line: &[u8]) {
+fn say_run(k: &[u8], e: &[f64], n: &[u32], d: &[u32], call: usize, line: &[u8]) {
     let scl = Scl {
         count: given::count(line, 2),
     };
@@ -58,23 +58,40 @@ fn say_run(k: &[u8], e: &[f64], n: &[u32], d: &[u32], line: &[u8]) {
     let map = entries(line);
     let mut hz = [0.5; 8];
     let mut numbers = [99u32; 8];
-    say_done(tuning::key_pitches::pitches_of(
-        scl,
-        k,
-        e,
-        n,
-        d,
-        mapping(line),
-        &map,
-        first,
-        keys,
-        &mut hz,
-        &mut numbers,
-    ));
+    let said = if call == 15 {
+        tuning::key_pitches::pitches_of(
+            scl,
+            k,
+            e,
+            n,
+            d,
+            mapping(line),
+            &map,
+            first,
+            keys,
+            &mut hz,
+            &mut numbers,
+        )
+    } else {
+        tuning::key_pitches::pitches_from_middle(
+            scl,
+            k,
+            e,
+            n,
+            d,
+            mapping(line),
+            &map,
+            first,
+            keys,
+            &mut hz,
+            &mut numbers,
+        )
+    };
+    say_done(said);
     say_sounds(&hz, &numbers);
 }
 
-// The pitch of a key, or of a degree of the mapping.
+// The pitch of a key in either counting, or of a degree of the mapping.
 fn say_pitch(k: &[u8], e: &[f64], n: &[u32], d: &[u32], call: usize, line: &[u8]) {
     let scl = Scl {
         count: given::count(line, 2),
@@ -83,21 +100,23 @@ fn say_pitch(k: &[u8], e: &[f64], n: &[u32], d: &[u32], call: usize, line: &[u8]
     let map = entries(line);
     let said = if call == 13 {
         tuning::maybe_pitch_of(scl, k, e, n, d, mapping(line), &map, PianoKey(number))
-    } else {
+    } else if call == 14 {
         tuning::maybe_pitch_of_degree(scl, k, e, n, d, mapping(line), &map, Degree(number))
+    } else {
+        tuning::maybe_pitch_from_middle(scl, k, e, n, d, mapping(line), &map, PianoKey(number))
     };
     crate::say_pitch(said);
 }
 
 fn say_of(k: &[u8], e: &[f64], n: &[u32], d: &[u32], call: usize, line: &[u8]) {
-    if call == 15 {
-        say_run(k, e, n, d, line);
-    } else {
-        say_pitch(k, e, n, d, call, line);
+    match call {
+        15 => say_run(k, e, n, d, call, line),
+        17 => say_run(k, e, n, d, call, line),
+        _ => say_pitch(k, e, n, d, call, line),
     }
 }
 
-// `maybe_key`, `maybe_degree`, `run`.
+// `maybe_key`, `maybe_degree`, `run`, and counted from the middle key `middle_key`, `middle_run`.
 pub fn say_mapped(call: usize, line: &[u8]) {
     let places = given::size(line, 21);
     let kind = columns::bytes(9, places, line, 22, 7);

@@ -1,3 +1,4 @@
 pub mod Items
 pub mod Table
+pub mod Lent
 pub mod Answers

@@ -1,22 +1,16 @@
 -- The lent tables of a scale in a contract: what stands behind the references, before the call and after it. An `ensures` says
 -- `columnsBefore kind cents numer denom` and, of columns that the call may write, `columnsAfter ..`; so for the list. Assumes nothing.
-use mathlib.Core.List.{List}
 use Prim.Native.Nat.{ℕ}
 use lib.IntN.{ℤ}
 use lib.Ieee.{Float}
-use denote.Ref.{RefT, now}
-use denote.Triple.Both.{Both}
+use denote.Ref.{now}
+use Rattle.scl.specs.Lent.{Column, itemsBefore}
 use Rattle.scl.specs.Table.{ItemTable, itemTable}
 use Rattle.sorted.specs.Lent.{ListTable, listTable}
 
--- a parameter that is a column of A
-abbrev pub Column : Type 0 → Type 0
-Column A = Both (RefT (List A)) (RefT (List A))
-
 -- ---- items
 abbrev pub columnsBefore : Column ℕ → Column Float → Column ℕ → Column ℕ → ItemTable
-columnsBefore kind cents numer denom =
-    itemTable (now (kind .entry)) (now (cents .entry)) (now (numer .entry)) (now (denom .entry))
+columnsBefore kind cents numer denom = itemsBefore kind cents numer denom
 
 abbrev pub columnsAfter : Column ℕ → Column Float → Column ℕ → Column ℕ → ItemTable
 columnsAfter kind cents numer denom = itemTable (now (kind .exit)) (now (cents .exit)) (now (numer .exit)) (now (denom .exit))

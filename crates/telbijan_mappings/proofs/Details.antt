@@ -5,6 +5,7 @@ use lib.IntN.{ℤ, _+ℤ_, _*ℤ_}
 use Rattle.key.specs.declared.PianoKey.{PianoKey}
 use Rattle.pitch.specs.declared.Pitch.{Pitch}
 use Rattle.kbm.specs.Degree.{degreeOfEntry, degreeAt, scaleDegreeOf}
+use Rattle.kbm.specs.Middle.{atMiddle, scaleDegreeFromMiddle}
 use Rattle.kbm.specs.Root.{rootOf}
 use Rattle.kbm.specs.declared.Entry.{Entry}
 use Rattle.kbm.specs.declared.Entry.the-variants.{Mapped, Unmapped}
@@ -31,6 +32,9 @@ at-undetailed d octave (e ∷ es) = search entry-undetailed
 pub scale-degree-of-undetailed : (kbm : Kbm) (map : List ℤ) (key : PianoKey) → Undetailed (scaleDegreeOf kbm map key)
 unfolding scaleDegreeOf
 scale-degree-of-undetailed kbm map key = search (steps, held-undetailed, at-undetailed)
+
+pub scale-degree-from-middle-undetailed : (kbm : Kbm) (map : List ℤ) (key : PianoKey) → Undetailed (scaleDegreeFromMiddle kbm map key)
+scale-degree-from-middle-undetailed kbm map key = scale-degree-of-undetailed (atMiddle kbm) map key
 
 pub export-kbm-undetailed : (kbm : Kbm) (map : List ℤ) (room : ℕ) → Undetailed (textLength (exportOf kbm map room))
 unfolding exportOf fitted

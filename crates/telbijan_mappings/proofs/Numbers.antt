@@ -17,6 +17,7 @@ use Rattle.floats.specs.Ranges.{inPitch}
 use Rattle.key.specs.declared.PianoKey.{PianoKey}
 use Rattle.pitch.specs.declared.Pitch.{Pitch}
 use Rattle.kbm.specs.Degree.{degreeOfEntry, degreeAt, inRange, scaleDegreeOf}
+use Rattle.kbm.specs.Middle.{atMiddle, scaleDegreeFromMiddle}
 use Rattle.kbm.specs.Root.{rootOf}
 use Rattle.kbm.specs.Table.{isTable, tableOf}
 use Rattle.kbm.specs.declared.Entry.{Entry}
@@ -55,6 +56,9 @@ scale-degree-of-numbered kbm map key =
     (numbered-then (held-numbered (key .0 -ℤ kbm .root .reference .0)) (λ d. at-numbered d (kbm .octave) (tableOf (kbm .count) map)))
     (Numbered.number (omega arith) (omega arith)))
     (Numbered.number (omega arith) (omega arith))
+
+pub scale-degree-from-middle-numbered : (kbm : Kbm) (map : List ℤ) (key : PianoKey) → Numbered (scaleDegreeFromMiddle kbm map key)
+scale-degree-from-middle-numbered kbm map key = scale-degree-of-numbered (atMiddle kbm) map key
 
 -- ---- the export
 pub export-kbm-numbered : (kbm : Kbm) (map : List ℤ) (room : ℕ) → Numbered (textLength (exportOf kbm map room))

@@ -11,6 +11,7 @@ use Rattle.base.proofs.Said.{one-result}
 use Rattle.base.specs.Tables.{after}
 use Rattle.key.specs.Keys.{key}
 use Rattle.kbm.specs.Degree.{scaleDegreeOf}
+use Rattle.kbm.specs.Middle.{scaleDegreeFromMiddle}
 use Rattle.kbm.specs.Root.{rootOf}
 use Rattle.kbm.specs.declared.Entry.the-variants.{Mapped, Unmapped}
 use Rattle.kbm.specs.declared.Kbm.{Kbm}
@@ -29,6 +30,14 @@ mapping-with-one count start end reference hz offset octave = one-result (mappin
 
 pub scale-degree-of-one : (map : List ℤ) (count : ℕ) (start : ℤ) (end : ℤ) (reference : ℤ) (hz : Float) (offset : ℤ) (octave : ℤ) (number : ℤ) (degree : ℤ) → One (λ r. r) (result (scaleDegreeOf (mappingWith count start end reference hz offset octave) map (key number))) × One (λ r. r) (kept (scaleDegreeOf (mappingWith count start end reference hz offset octave) map (key number)) degree)
 scale-degree-of-one map count start end reference hz offset octave number degree = (one-result (result (scaleDegreeOf (mappingWith count start end reference hz offset octave) map (key number))), one-result (kept (scaleDegreeOf (mappingWith count start end reference hz offset octave) map (key number)) degree))
+
+pub scale-degree-from-middle-one : (map : List ℤ) (count : ℕ) (start : ℤ) (end : ℤ) (reference : ℤ) (hz : Float) (offset : ℤ) (octave : ℤ)
+    (number : ℤ) (degree : ℤ) →
+    One (λ r. r) (result (scaleDegreeFromMiddle (mappingWith count start end reference hz offset octave) map (key number)))
+    × One (λ r. r) (kept (scaleDegreeFromMiddle (mappingWith count start end reference hz offset octave) map (key number)) degree)
+scale-degree-from-middle-one map count start end reference hz offset octave number degree =
+    let said = scaleDegreeFromMiddle (mappingWith count start end reference hz offset octave) map (key number) in
+    (one-result (result said), one-result (kept said degree))
 
 pub export-kbm-one : (map : List ℤ) (count : ℕ) (start : ℤ) (end : ℤ) (reference : ℤ) (hz : Float) (offset : ℤ) (octave : ℤ) (out : List ℕ) (written : ℕ) → One (λ r. r) (result (textLength (exportOf (mappingWith count start end reference hz offset octave) map (length out)))) × (One (λ r. r) (after (exportOf (mappingWith count start end reference hz offset octave) map (length out)) (λ t. t) out) × One (λ r. r) (kept (textLength (exportOf (mappingWith count start end reference hz offset octave) map (length out))) written))
 export-kbm-one map count start end reference hz offset octave out written = (one-result (result (textLength (exportOf (mappingWith count start end reference hz offset octave) map (length out)))), (one-result (after (exportOf (mappingWith count start end reference hz offset octave) map (length out)) (λ t. t) out), one-result (kept (textLength (exportOf (mappingWith count start end reference hz offset octave) map (length out))) written)))

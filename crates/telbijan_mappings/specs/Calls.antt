@@ -6,6 +6,7 @@ use lib.IntN.{ℤ}
 use lib.ListN.{length}
 use Rattle.key.specs.Keys.{key}
 use Rattle.kbm.specs.Degree.{scaleDegreeOf}
+use Rattle.kbm.specs.Middle.{scaleDegreeFromMiddle}
 use Rattle.kbm.specs.declared.Entry.{Entry}
 use Rattle.kbm.specs.declared.Kbm.{Kbm}
 use Rattle.kbm_build.specs.Builder.{pushed, afterPush, built}
@@ -19,6 +20,10 @@ use Rattle.telbijan_mappings.specs.Mappings.{pushingWith}
 -- the degree of the key of this number, by a mapping over a lent table, is stored
 abbrev pub ScaleDegreeOf : List ℤ → Kbm → ℤ → ℤ → ℕ → ℤ → Type 0
 ScaleDegreeOf map kbm number old r degree = Stored (scaleDegreeOf kbm map (key number)) old r degree
+
+-- the same counted from the middle key
+abbrev pub ScaleDegreeFromMiddle : List ℤ → Kbm → ℤ → ℤ → ℕ → ℤ → Type 0
+ScaleDegreeFromMiddle map kbm number old r degree = Stored (scaleDegreeFromMiddle kbm map (key number)) old r degree
 
 -- the text of a mapping is written into the lent bytes, and its length is stored
 abbrev pub ExportKbm : List ℤ → Kbm → List ℕ → ℕ → ℕ → List ℕ → ℕ → Type 0

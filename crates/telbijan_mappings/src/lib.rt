@@ -13,7 +13,7 @@ ghost use Rattle.key.specs.Keys.{key};
 ghost use Rattle.kbm.specs.Root.{rootOf};
 ghost use Rattle.kbm.specs.declared.Entry.the-variants.{Mapped, Unmapped};
 ghost use Rattle.telbijan_answers.specs.Calls.{Answered};
-ghost use Rattle.telbijan_mappings.specs.Calls.{ScaleDegreeOf, ExportKbm, PushKey, BuildKbm, ReadKbm};
+ghost use Rattle.telbijan_mappings.specs.Calls.{ScaleDegreeOf, ScaleDegreeFromMiddle, ExportKbm, PushKey, BuildKbm, ReadKbm};
 ghost use Rattle.telbijan_mappings.specs.Mappings.{rootWith, mappingWith, octaveWith, builderWith, pushingWith};
 
 // The root of its numbers.
@@ -73,6 +73,32 @@ pub extern "C" fn telbijan_scale_degree_of(
 {
     let kbm = mapping_with(count, start, end, reference, hz, offset, octave);
     telbijan_answers::store_degree(kbm::scale_degree_of(kbm, map, PianoKey(number)), degree)
+}
+
+// The degree of a key counted from the middle key, as in Scala, stored. The middle key is the exact sum of reference and offset, which may
+// lie outside 32 bits. 10 for a table that cannot be used, 16 outside start..end, 11 where the distance from the middle key passes 32 bits,
+// 17 unmapped, 11 where the degree does. The pitch plays no part: any `hz` will do.
+#[no_mangle]
+pub extern "C" fn telbijan_scale_degree_from_middle(
+    map: &[i32],
+    count: u16,
+    start: i32,
+    end: i32,
+    reference: i32,
+    hz: f64,
+    offset: i32,
+    octave: i16,
+    number: i32,
+    degree: &mut i32,
+) -> u64
+    ensures { λ r. ⌜ ScaleDegreeFromMiddle (now (map .entry)) (mappingWith count start end reference hz offset octave) number
+        (now (degree .entry)) r (now (degree .exit)) ⌝ }
+{
+    let kbm = mapping_with(count, start, end, reference, hz, offset, octave);
+    telbijan_answers::store_degree(
+        kbm::scale_degree_from_middle(kbm, map, PianoKey(number)),
+        degree,
+    )
 }
 
 // The text of a mapping, written into the lent bytes; the number of bytes is stored, and bytes behind it keep their values. 10 for

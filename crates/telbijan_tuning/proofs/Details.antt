@@ -1,5 +1,5 @@
 -- The calls of this crate refuse with detail 0: a line for each. Assumes nothing.
-use mathlib.Core.Path.{sym, subst}
+use mathlib.Core.Path.{refl, sym, subst}
 use mathlib.Core.List.{List}
 use Prim.Native.Nat.{ℕ}
 use lib.IntN.{ℤ}
@@ -13,10 +13,13 @@ use Rattle.scl.specs.Table.{ItemTable}
 use Rattle.scl.specs.declared.Item.{Item}
 use Rattle.kbm.specs.Degree.{degreeOf}
 use Rattle.kbm.specs.Keys.{Has}
+use Rattle.kbm.specs.Middle.{referenceDegree}
+use Rattle.kbm.specs.ReferenceKey.{ReferenceHas}
 use Rattle.kbm.specs.declared.Entry as mapped
 use Rattle.kbm.specs.declared.Kbm.{Kbm}
 use Rattle.kbm.specs.declared.KbmRoot.{KbmRoot}
 use Rattle.kbm.proofs.Language.{has}
+use Rattle.kbm.proofs.Middle.{reference-has}
 use Rattle.relative.specs.Relative.{relativePitchOf, sortedRelativePitchOf}
 use Rattle.relative.specs.Pitches.{rootPitch, pitchFrom, sortedPitchFrom, pitchOf, sortedPitchOf}
 use Rattle.searching.specs.Refusals.{OrBeyond}
@@ -25,6 +28,7 @@ use Rattle.searching.proofs.Refusals.{reduced-or}
 use Rattle.finding.specs.Find.{pitchSearchFrom, pitchSearchOf}
 use Rattle.tuning.specs.Run.{runOf}
 use Rattle.telbijan_tuning.specs.Tunings.{periodSaid, relativeSaid, sortedRelativeSaid, pitchSaid, keyPitchSaid, sortedPitchSaid, maybePitchSaid, maybeDegreePitchSaid}
+use Rattle.telbijan_tuning.specs.Tunings.{maybePitchFromMiddleSaid}
 use Rattle.telbijan_tuning.specs.Searches.{findSaid, findSortedSaid, findPitchSaid, findPitchSortedSaid, findKeySaid}
 use Rattle.telbijan_answers.specs.Details.{Undetailed}
 use Rattle.telbijan_answers.proofs.Details.{steps, held-undetailed, exp-undetailed, log-undetailed, as-ratio-undetailed}
@@ -44,9 +48,13 @@ root-pitch-undetailed : (items : List Item) (hz : Float) (at : ℤ) → Undetail
 unfolding rootPitch
 root-pitch-undetailed items hz at = search (floats, relative-undetailed) depth 12
 
+from-undetailed : (items : List Item) (hz : Float) (at d : ℤ) → Undetailed (pitchFrom items hz at d)
+unfolding pitchFrom
+from-undetailed items hz at d = search (floats, relative-undetailed, root-pitch-undetailed) depth 12
+
 pitch-undetailed : (items : List Item) (root : KbmRoot) (d : ℤ) → Undetailed (pitchOf items root d)
-unfolding pitchOf pitchFrom
-pitch-undetailed items root d = search (floats, relative-undetailed, root-pitch-undetailed) depth 12
+unfolding pitchOf
+pitch-undetailed items root d = search (floats, from-undetailed) depth 12
 
 sorted-pitch-undetailed : (items : List Item) (es : List Entry) (root : KbmRoot) (d : ℤ) → Undetailed (sortedPitchOf items es root d)
 unfolding sortedPitchOf sortedPitchFrom
@@ -62,6 +70,17 @@ has-undetailed (Has.degree a b q z r c e) = subst Undetailed (sym e) (Undetailed
 
 degree-undetailed : (kbm : Kbm) (es : List mapped.Entry) (k : PianoKey) → Undetailed (degreeOf kbm es k)
 degree-undetailed kbm es k = has-undetailed (has kbm es k)
+
+-- the reference key's, counted from the middle key
+reference-undetailed : (kbm : Kbm) (es : List mapped.Entry) → Undetailed (referenceDegree kbm es)
+reference-undetailed kbm es = go (reference-has kbm es (referenceDegree kbm es) .0 refl)
+  where
+    go : {s : Said ℤ} → ReferenceHas kbm es s → Undetailed s
+    go (ReferenceHas.far n e) = subst Undetailed (sym e) Undetailed.number
+    go (ReferenceHas.plain n l e) = subst Undetailed (sym e) (Undetailed.value _)
+    go (ReferenceHas.none n q r e) = subst Undetailed (sym e) Undetailed.number
+    go (ReferenceHas.passed n q z r c e) = subst Undetailed (sym e) Undetailed.number
+    go (ReferenceHas.degree n q z r c e) = subst Undetailed (sym e) (Undetailed.value _)
 
 -- ---- pitches
 module _ (count : ℕ) (t : ItemTable) where
@@ -90,8 +109,15 @@ module _ (count : ℕ) (t : ItemTable) where
     pub maybe-pitch-of-degree-undetailed : (degree : ℤ) → Undetailed (maybeDegreePitchSaid count t kbm map degree)
     maybe-pitch-of-degree-undetailed degree = search (steps, held-undetailed, degree-undetailed, pitch-undetailed) depth 12
 
+    pub maybe-pitch-from-middle-undetailed : (key : PianoKey) → Undetailed (maybePitchFromMiddleSaid count t kbm map key)
+    maybe-pitch-from-middle-undetailed key = search (steps, degree-undetailed, reference-undetailed, from-undetailed) depth 12
+
     pub pitches-of-undetailed : (keys : ℕ) (pitches : List Float) (numbers : List ℕ) → Undetailed (runOf count t kbm map keys (length pitches) (length numbers))
     pitches-of-undetailed keys pitches numbers = search steps
+
+    pub pitches-from-middle-undetailed : (keys : ℕ) (pitches : List Float) (numbers : List ℕ) →
+        Undetailed (runOf count t kbm map keys (length pitches) (length numbers))
+    pitches-from-middle-undetailed keys pitches numbers = pitches-of-undetailed keys pitches numbers
 
 -- ---- searches
 or-undetailed : {A : Type 0} {s : Said A} → OrBeyond s → Undetailed s

@@ -3,3 +3,4 @@ pub mod Numbers
 pub mod Handed
 pub mod Details
 pub mod Samples
+pub mod MiddleSamples

@@ -1,12 +1,15 @@
--- What the functions of this crate say is a value or one of document 01's numbers, so a result is 0 exactly where a value is stored
--- (`zero-accepted` of telbijan_answers). A line for each; of the numbers that a run of keys stores, `stored-number` of tuning.
+-- What the functions of this crate say is a value or one of document 01's numbers, and of a pitch counted from the middle key also 19, so a
+-- result is 0 exactly where a value is stored (`zero-accepted` of telbijan_answers). A line for each; of the numbers that a run of keys
+-- stores, `stored-number` and `stored-from-middle` of tuning.
 -- Assumes nothing.
 use mathlib.Core.List.{List}
 use Prim.Native.Nat.{ℕ}
+use lib.Dec.{lit≤}
 use lib.IntN.{ℤ}
 use lib.ListN.{length}
 use lib.Ieee.{Float}
-use Rattle.base.specs.Said.{Numbered}
+use Rattle.base.specs.Numbers.{reference-unmapped}
+use Rattle.base.specs.Said.{Numbered, NumberedOr}
 use Rattle.key.specs.declared.PianoKey.{PianoKey}
 use Rattle.sorted.specs.Lent.{ListTable}
 use Rattle.scl.specs.Table.{ItemTable}
@@ -14,8 +17,12 @@ use Rattle.kbm.specs.declared.Kbm.{Kbm}
 use Rattle.kbm.specs.declared.KbmRoot.{KbmRoot}
 use Rattle.relative.proofs.Numbers as relative
 use Rattle.tuning.proofs.Numbers as tuning
+use Rattle.tuning.proofs.MiddleNumbers as middle
 use Rattle.tuning.specs.Run.{runOf}
 use Rattle.finding.proofs.Numbers as finding
+use Rattle.telbijan_answers.specs.Interface.{Coded}
+use Rattle.telbijan_answers.proofs.Interface.{coded-or}
+use Rattle.telbijan_tuning.specs.Tunings.{maybePitchFromMiddleSaid}
 use Rattle.telbijan_tuning.specs.Tunings.{periodSaid, relativeSaid, sortedRelativeSaid, pitchSaid, keyPitchSaid, sortedPitchSaid, maybePitchSaid, maybeDegreePitchSaid}
 use Rattle.telbijan_tuning.specs.Searches.{findSaid, findSortedSaid, findPitchSaid, findPitchSortedSaid, findKeySaid}
 
@@ -46,6 +53,19 @@ maybe-pitch-of-degree-numbered count t kbm map degree = tuning.maybe-pitch-of-de
 
 pub pitches-of-numbered : (count : ℕ) (t : ItemTable) (kbm : Kbm) (map : List ℤ) (keys : ℕ) (pitches : List Float) (numbers : List ℕ) → Numbered (runOf count t kbm map keys (length pitches) (length numbers))
 pitches-of-numbered count t kbm map keys pitches numbers = tuning.run-numbered count t kbm map keys (length pitches) (length numbers)
+
+-- counted from the middle key: 19 too
+pub maybe-pitch-from-middle-numbered : (count : ℕ) (t : ItemTable) (kbm : Kbm) (map : List ℤ) (key : PianoKey) →
+    NumberedOr reference-unmapped (maybePitchFromMiddleSaid count t kbm map key)
+maybe-pitch-from-middle-numbered count t kbm map key = middle.maybe-pitch-from-middle-numbered count t kbm map key
+
+pub maybe-pitch-from-middle-coded : (count : ℕ) (t : ItemTable) (kbm : Kbm) (map : List ℤ) (key : PianoKey) →
+    Coded (maybePitchFromMiddleSaid count t kbm map key)
+maybe-pitch-from-middle-coded count t kbm map key = coded-or (lit≤ tt) (lit≤ tt) (maybe-pitch-from-middle-numbered count t kbm map key)
+
+pub pitches-from-middle-numbered : (count : ℕ) (t : ItemTable) (kbm : Kbm) (map : List ℤ) (keys : ℕ) (pitches : List Float)
+    (numbers : List ℕ) → Numbered (runOf count t kbm map keys (length pitches) (length numbers))
+pitches-from-middle-numbered count t kbm map keys pitches numbers = pitches-of-numbered count t kbm map keys pitches numbers
 
 -- ---- searches
 pub find-by-relative-pitch-numbered : (count : ℕ) (t : ItemTable) (l : ListTable) (target : Float) → Numbered (findSaid count t l target)

@@ -11,11 +11,12 @@ use Rattle.sorted.specs.Lent.{ListTable}
 use Rattle.scl.specs.Table.{ItemTable, itemsIn}
 use Rattle.kbm.specs.declared.Kbm.{Kbm}
 use Rattle.kbm.specs.declared.KbmRoot.{KbmRoot}
-use Rattle.tuning.specs.Run.{keyPitches, runOf, afterHz, afterNumbers}
+use Rattle.tuning.specs.Run.{keyPitches, keyPitchesFromMiddle, runOf, afterHz, afterNumbers}
 use Rattle.telbijan_answers.specs.Interface.{result, kept, fieldOf}
 use Rattle.base.specs.Said.{Said, One}
 use Rattle.searching.specs.declared.approximation.Approximation.{Approximation}
 use Rattle.telbijan_tuning.specs.Tunings.{periodSaid, relativeSaid, sortedRelativeSaid, pitchSaid, keyPitchSaid, sortedPitchSaid, maybePitchSaid, maybeDegreePitchSaid}
+use Rattle.telbijan_tuning.specs.Tunings.{maybePitchFromMiddleSaid}
 use Rattle.telbijan_tuning.specs.Searches.{findSaid, findSortedSaid, findPitchSaid, findPitchSortedSaid, findKeySaid}
 
 -- ---- pitches
@@ -45,6 +46,26 @@ maybe-pitch-of-degree-one count t kbm map degree old = (one-result (result (mayb
 
 pub pitches-of-one : (count : ℕ) (t : ItemTable) (kbm : Kbm) (map : List ℤ) (first : PianoKey) (keys : ℕ) (pitches : List Float) (numbers : List ℕ) → One (λ r. r) (result (runOf count t kbm map keys (length pitches) (length numbers))) × (One (λ r. r) (afterHz (runOf count t kbm map keys (length pitches) (length numbers)) (keyPitches (itemsIn count t) kbm map first) keys pitches) × One (λ r. r) (afterNumbers (runOf count t kbm map keys (length pitches) (length numbers)) (keyPitches (itemsIn count t) kbm map first) keys numbers))
 pitches-of-one count t kbm map first keys pitches numbers = (one-result (result (runOf count t kbm map keys (length pitches) (length numbers))), (one-result (afterHz (runOf count t kbm map keys (length pitches) (length numbers)) (keyPitches (itemsIn count t) kbm map first) keys pitches), one-result (afterNumbers (runOf count t kbm map keys (length pitches) (length numbers)) (keyPitches (itemsIn count t) kbm map first) keys numbers)))
+
+-- ---- counted from the middle key
+pub maybe-pitch-from-middle-one : (count : ℕ) (t : ItemTable) (kbm : Kbm) (map : List ℤ) (key : PianoKey) (old : Float) →
+    One (λ r. r) (result (maybePitchFromMiddleSaid count t kbm map key))
+    × One (λ r. r) (kept (maybePitchFromMiddleSaid count t kbm map key) old)
+maybe-pitch-from-middle-one count t kbm map key old =
+    let said = maybePitchFromMiddleSaid count t kbm map key in
+    (one-result (result said), one-result (kept said old))
+
+pub pitches-from-middle-one : (count : ℕ) (t : ItemTable) (kbm : Kbm) (map : List ℤ) (first : PianoKey) (keys : ℕ) (pitches : List Float)
+    (numbers : List ℕ) →
+    One (λ r. r) (result (runOf count t kbm map keys (length pitches) (length numbers)))
+    × (One (λ r. r) (afterHz (runOf count t kbm map keys (length pitches) (length numbers))
+    (keyPitchesFromMiddle (itemsIn count t) kbm map first) keys pitches)
+    × One (λ r. r) (afterNumbers (runOf count t kbm map keys (length pitches) (length numbers))
+    (keyPitchesFromMiddle (itemsIn count t) kbm map first) keys numbers))
+pitches-from-middle-one count t kbm map first keys pitches numbers =
+    let said = runOf count t kbm map keys (length pitches) (length numbers) in
+    let each = keyPitchesFromMiddle (itemsIn count t) kbm map first in
+    (one-result (result said), (one-result (afterHz said each keys pitches), one-result (afterNumbers said each keys numbers)))
 
 -- ---- searches
 -- of any search: the result, the number and the deviation that it stores

@@ -10,7 +10,7 @@ use Rattle.base.specs.Said.{Said}
 use Rattle.key.specs.Keys.{key}
 use Rattle.scl.specs.Table.{ItemTable, itemsIn}
 use Rattle.kbm.specs.declared.Kbm.{Kbm}
-use Rattle.tuning.specs.Run.{keyPitches, runOf, afterHz, afterNumbers}
+use Rattle.tuning.specs.Run.{keyPitches, keyPitchesFromMiddle, runOf, afterHz, afterNumbers}
 use Rattle.searching.specs.declared.approximation.Approximation.{Approximation}
 use Rattle.telbijan_answers.specs.Interface.{result}
 use Rattle.telbijan_answers.specs.Calls.{StoredTwo}
@@ -19,11 +19,19 @@ use Rattle.telbijan_answers.specs.Calls.{StoredTwo}
 abbrev pub SearchStored : Said Approximation → ℤ → Float → ℕ → ℤ → Float → Type 0
 SearchStored s old apart r found deviation = StoredTwo (λ a. a .«approx_value») (λ a. a .deviation) s old apart r found deviation
 
--- of a scale of so many items and a mapping over its table, the pitches of a run of keys and their numbers are written
-abbrev pub PitchesOf : ℕ → ItemTable → Kbm → List ℤ → ℤ → ℕ → List Float → List ℕ → ℕ → List Float → List ℕ → Type 0
-PitchesOf count t kbm map first keys hz ns r pitches numbers =
+-- of a scale of so many items and a mapping over its table, what each key of a run says is written: its pitch and its number
+abbrev pub RunWritten : ℕ → ItemTable → Kbm → List ℤ → (ℕ → Said Float) → ℕ → List Float → List ℕ → ℕ → List Float → List ℕ → Type 0
+RunWritten count t kbm map says keys hz ns r pitches numbers =
     (r ≡ result (runOf count t kbm map keys (length hz) (length ns)))
-    × (pitches ≡ afterHz (runOf count t kbm map keys (length hz) (length ns))
-    (keyPitches (itemsIn count t) kbm map (key first)) keys hz)
-    × (numbers ≡ afterNumbers (runOf count t kbm map keys (length hz) (length ns))
-    (keyPitches (itemsIn count t) kbm map (key first)) keys ns)
+    × (pitches ≡ afterHz (runOf count t kbm map keys (length hz) (length ns)) says keys hz)
+    × (numbers ≡ afterNumbers (runOf count t kbm map keys (length hz) (length ns)) says keys ns)
+
+-- counted from the reference key
+abbrev pub PitchesOf : ℕ → ItemTable → Kbm → List ℤ → ℤ → ℕ → List Float → List ℕ → ℕ → List Float → List ℕ → Type 0
+PitchesOf count t kbm map first keys hz ns r pitches numbers = RunWritten count t kbm map
+    (keyPitches (itemsIn count t) kbm map (key first)) keys hz ns r pitches numbers
+
+-- counted from the middle key
+abbrev pub PitchesFromMiddle : ℕ → ItemTable → Kbm → List ℤ → ℤ → ℕ → List Float → List ℕ → ℕ → List Float → List ℕ → Type 0
+PitchesFromMiddle count t kbm map first keys hz ns r pitches numbers = RunWritten count t kbm map
+    (keyPitchesFromMiddle (itemsIn count t) kbm map (key first)) keys hz ns r pitches numbers

@@ -19,6 +19,7 @@ use Rattle.relative.specs.Relative.{relativePitchOf, sortedRelativePitchOf}
 use Rattle.relative.specs.Scales.{tested, isScale}
 use Rattle.relative.specs.Pitches.{pitchOf, sortedPitchOf}
 use Rattle.tuning.specs.Keys.{keyPitchOf, maybePitchOf, maybeDegreePitchOf}
+use Rattle.tuning.specs.Middle.{maybePitchFromMiddle}
 
 -- ---- relative pitches
 abbrev pub periodSaid : ℕ → ItemTable → Said Float
@@ -46,3 +47,8 @@ maybePitchSaid count t kbm map key = tested (isItems count t && isRoot (kbm .roo
 
 abbrev pub maybeDegreePitchSaid : ℕ → ItemTable → Kbm → List ℤ → ℤ → Said Float
 maybeDegreePitchSaid count t kbm map degree = tested (isItems count t && isRoot (kbm .root)) (tested (isTable (kbm .count) map) (maybeDegreePitchOf (itemsIn count t) kbm map degree))
+
+-- counted from the middle key
+abbrev pub maybePitchFromMiddleSaid : ℕ → ItemTable → Kbm → List ℤ → PianoKey → Said Float
+maybePitchFromMiddleSaid count t kbm map key =
+    tested (isItems count t && isRoot (kbm .root)) (tested (isTable (kbm .count) map) (maybePitchFromMiddle (itemsIn count t) kbm map key))

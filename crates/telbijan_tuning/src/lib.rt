@@ -1,4 +1,5 @@
 // Pitches for C: of degrees and keys, over a scale's lent columns, and a root or a mapping beside them.
+mod middle;
 mod searches;
 
 use key::Degree;

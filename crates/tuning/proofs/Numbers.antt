@@ -5,7 +5,7 @@ use mathlib.Core.List.{List}
 use Prim.Native.Nat.{ℕ, _≤_, _<_}
 use native.Mathlib.Omega.{arith}
 use lib.IntN.{ℤ, _+ℤ_, _-ℤ_, pos}
-use lib.Dec.{leb, lit≤}
+use lib.Dec.{leb}
 use lib.ListN.{length, getD}
 use lib.Ieee.{Float}
 use borrow.Author.Tests.{leb-true}
@@ -29,16 +29,13 @@ use Rattle.relative.proofs.Numbers.{tested-numbered, held-numbered, pitch-numbe
 use Rattle.relative.specs.Pitches.{pitchOf, sortedPitchOf, pitchFrom}
 use Rattle.base.specs.Integers.{inI32, held}
 use Rattle.base.specs.Numbers.{no-room, unusable, overflow}
-use Rattle.floats.specs.Ranges.{inReach}
-use Rattle.floats.proofs.Between.{within-more, within-reach}
-use Rattle.floats.proofs.Ranges.{pitch-says}
 use Rattle.scl.proofs.Table.{both}
 use Rattle.relative.specs.Refusals.{ReachedOrBeyond}
 use Rattle.relative.proofs.Back.{pick-given}
-use Rattle.relative.proofs.Theorems.{from-reached}
+use Rattle.relative.proofs.Theorems.{hz-reach, from-reached}
 use Rattle.tuning.specs.Keys.{keyPitchOf, maybePitchOf, maybeDegreePitchOf}
 use Rattle.tuning.specs.Beside.{Beside}
-use Rattle.tuning.specs.Run.{keyPitches, numberBeside, isTuning, runOf, afterNumbers}
+use Rattle.tuning.specs.Run.{keyAt, keyPitches, numberBeside, isTuning, runOf, afterNumbers}
 use Rattle.tuning.proofs.Theorems.{number-at}
 
 -- ---- the degree of a key
@@ -86,32 +83,21 @@ pub key-numbered : (items : List Item) (kbm : Kbm) (map : List ℤ) (first : Pia
 key-numbered items kbm map first k = numbered-then (numbered-then (held-numbered (first .0 +ℤ pos k)) (λ z. Numbered.value (key z))) (maybe-numbered items kbm map)
 
 -- ---- beside each key of it
--- s says what t says
-shift : {s t : Said Float} {n : ℕ} → t ≡ s → Beside s n → Beside t n
-shift e (Beside.sounds x h) = Beside.sounds x (e ∙ h)
-shift e (Beside.passed h) = Beside.passed (e ∙ h)
-shift e (Beside.outside h) = Beside.outside (e ∙ h)
-shift e (Beside.unmapped h) = Beside.unmapped (e ∙ h)
-shift e (Beside.beyond h) = Beside.beyond (e ∙ h)
+-- where t says what s says, what stands beside s stands beside t
+pub along : (B : Said Float → ℕ → Type 0) {s t : Said Float} → t ≡ s → B s (numberBeside s) → B t (numberBeside t)
+along B e h = subst (λ (x : Said Float). B x (numberBeside x)) (sym e) h
 
--- its number
-along : {s t : Said Float} → t ≡ s → Beside s (numberBeside s) → Beside t (numberBeside t)
-along {s} {t} e h = subst (Beside t) (sym (ap numberBeside e)) (shift e h)
-
-reached-beside : {s : Said Float} → ReachedOrBeyond s → Beside s (numberBeside s)
-reached-beside (ReachedOrBeyond.reached x r e) = along e (Beside.sounds x refl)
-reached-beside (ReachedOrBeyond.beyond e) = along e (Beside.beyond refl)
+pub reached-beside : {s : Said Float} → ReachedOrBeyond s → Beside s (numberBeside s)
+reached-beside (ReachedOrBeyond.reached x r e) = along Beside e (Beside.sounds x refl)
+reached-beside (ReachedOrBeyond.beyond e) = along Beside e (Beside.beyond refl)
 
 module _ (items : List Item) (root : KbmRoot) (o : isRoot root ≡ true) where
-  hz-reach : inReach (root .pitch .0) ≡ true
-  hz-reach = within-reach (within-more (lit≤ tt) (lit≤ tt) (pitch-says (root .pitch .0) o))
-
   pitch-beside : (d : ℤ) → Beside (pitchOf items root d) (numberBeside (pitchOf items root d))
   unfolding pitchOf held
   pitch-beside d = go (inI32 (pos 0 -ℤ root .offset))
     where
       go : (b : Bool) → Beside (andThen (pick b (gives (pos 0 -ℤ root .offset)) (refuses overflow 0)) (λ at. pitchFrom items (root .pitch .0) at d)) (numberBeside (andThen (pick b (gives (pos 0 -ℤ root .offset)) (refuses overflow 0)) (λ at. pitchFrom items (root .pitch .0) at d)))
-      go true = reached-beside (from-reached items (root .pitch .0) hz-reach (pos 0 -ℤ root .offset) d)
+      go true = reached-beside (from-reached items (root .pitch .0) (hz-reach root o) (pos 0 -ℤ root .offset) d)
       go false = Beside.passed refl
 
 module _ (items : List Item) (kbm : Kbm) (map : List ℤ) (o : isRoot (kbm .root) ≡ true) where
@@ -122,20 +108,52 @@ module _ (items : List Item) (kbm : Kbm) (map : List ℤ) (o : isRoot (kbm .root
       by e = ap (λ (s : Said ℤ). andThen s (pitchOf items (kbm .root))) e
 
       go : Has kbm (tableOf (kbm .count) map) k (degreeOf kbm (tableOf (kbm .count) map) k) → Beside (maybePitchOf items kbm map k) (numberBeside (maybePitchOf items kbm map k))
-      go (Has.outside a e) = along (by e) (Beside.outside refl)
-      go (Has.far a b e) = along (by e) (Beside.passed refl)
-      go (Has.plain a b c e) = along (by e) (pitch-beside items (kbm .root) o _)
-      go (Has.none a b q r e) = along (by e) (Beside.unmapped refl)
-      go (Has.passed a b q z r c e) = along (by e) (Beside.passed refl)
-      go (Has.degree a b q z r c e) = along (by e) (pitch-beside items (kbm .root) o _)
+      go (Has.outside a e) = along Beside (by e) (Beside.outside refl)
+      go (Has.far a b e) = along Beside (by e) (Beside.passed refl)
+      go (Has.plain a b c e) = along Beside (by e) (pitch-beside items (kbm .root) o _)
+      go (Has.none a b q r e) = along Beside (by e) (Beside.unmapped refl)
+      go (Has.passed a b q z r c e) = along Beside (by e) (Beside.passed refl)
+      go (Has.degree a b q z r c e) = along Beside (by e) (pitch-beside items (kbm .root) o _)
 
-  key-beside : (first : PianoKey) (k : ℕ) → Beside (keyPitches items kbm map first k) (numberBeside (keyPitches items kbm map first k))
-  unfolding held
-  key-beside first k = go (inI32 (first .0 +ℤ pos k))
-    where
-      go : (b : Bool) → Beside (andThen (andThen (pick b (gives (first .0 +ℤ pos k)) (refuses overflow 0)) (λ z. gives (key z))) (maybePitchOf items kbm map)) (numberBeside (andThen (andThen (pick b (gives (first .0 +ℤ pos k)) (refuses overflow 0)) (λ z. gives (key z))) (maybePitchOf items kbm map)))
-      go true = maybe-beside (key (first .0 +ℤ pos k))
-      go false = Beside.passed refl
+-- each key of a run, by what is stored beside a key: 11 where there is none
+pub key-beside : (B : Said Float → ℕ → Type 0) → B (refuses overflow 0) overflow → (f : PianoKey → Said Float) →
+    ((k : PianoKey) → B (f k) (numberBeside (f k))) → (first : PianoKey) (k : ℕ) →
+    B (andThen (keyAt first k) f) (numberBeside (andThen (keyAt first k) f))
+unfolding held
+key-beside B past f each first k = go (inI32 (first .0 +ℤ pos k))
+  where
+    step : Bool → Said Float
+    step b = andThen (andThen (pick b (gives (first .0 +ℤ pos k)) (refuses overflow 0)) (λ z. gives (key z))) f
+
+    go : (b : Bool) → B (step b) (numberBeside (step b))
+    go true = each (key (first .0 +ℤ pos k))
+    go false = past
+
+-- ---- an accepted run, of whatever its keys say
+module _ (count : ℕ) (t : ItemTable) (kbm : Kbm) (map : List ℤ) (keys hz : ℕ) (numbers : List ℕ)
+    (e : runOf count t kbm map keys hz (length numbers) ≡ gives tt) where
+  abbrev room : Bool
+  room = leb keys hz && leb keys (length numbers)
+
+  abbrev fitting : Said (Unit {0})
+  fitting = pick room (gives tt) (refuses no-room 0)
+
+  usable : (isTuning count t kbm map ≡ true) × (fitting ≡ gives tt)
+  usable = pick-given (isTuning count t kbm map) fitting unusable e
+
+  -- its root can be used
+  pub run-root : isRoot (kbm .root) ≡ true
+  run-root =
+      let rest = both (isItems count t) (isRoot (kbm .root) && isTable (kbm .count) map) (usable .0) .1 in
+      both (isRoot (kbm .root)) (isTable (kbm .count) map) rest .0
+
+  -- and the number of each key stands beside it
+  pub run-number : (f : ℕ → Said Float) (k : ℕ) → k < keys →
+      getD (afterNumbers (runOf count t kbm map keys hz (length numbers)) f keys numbers) k 0 ≡ numberBeside (f k)
+  run-number f k h =
+      let fits = pick-given room (gives tt) no-room (usable .1) .0 in
+      let least : keys ≤ length numbers = leb-true keys (length numbers) (both (leb keys hz) (leb keys (length numbers)) fits .1) in
+      ap (λ (s : Said (Unit {0})). getD (afterNumbers s f keys numbers) k 0) e ∙ number-at f keys numbers k h least
 
 -- A RUN THAT IS ACCEPTED stores beside each of its keys 0 where it sounds, else 11, 16, 17 or 18, as the single call says
 pub stored-number :
@@ -143,9 +161,6 @@ pub stored-number :
     → (k : ℕ) → k < keys → Beside (keyPitches (itemsIn count t) kbm map first k) (getD (afterNumbers (runOf count t kbm map keys hz (length numbers)) (keyPitches (itemsIn count t) kbm map first) keys numbers) k 0)
 stored-number count t kbm map first keys hz numbers e k h =
     let f = keyPitches (itemsIn count t) kbm map first in
-    let p = pick-given (isTuning count t kbm map) (pick (leb keys hz && leb keys (length numbers)) (gives tt) (refuses no-room 0)) unusable e in
-    let q = pick-given (leb keys hz && leb keys (length numbers)) (gives tt) no-room (p .1) in
-    let root = both (isRoot (kbm .root)) (isTable (kbm .count) map) (both (isItems count t) (isRoot (kbm .root) && isTable (kbm .count) map) (p .0) .1) .0 in
-    let room : keys ≤ length numbers = leb-true keys (length numbers) (both (leb keys hz) (leb keys (length numbers)) (q .0) .1) in
-    let is : getD (afterNumbers (runOf count t kbm map keys hz (length numbers)) f keys numbers) k 0 ≡ numberBeside (f k) = ap (λ (s : Said (Unit {0})). getD (afterNumbers s f keys numbers) k 0) e ∙ number-at f keys numbers k h room in
-    subst (Beside (f k)) (sym is) (key-beside (itemsIn count t) kbm map root first k)
+    subst (Beside (f k)) (sym (run-number count t kbm map keys hz numbers e f k h))
+    (key-beside Beside (Beside.passed refl) (maybePitchOf (itemsIn count t) kbm map)
+    (maybe-beside (itemsIn count t) kbm map (run-root count t kbm map keys hz numbers e)) first k)

@@ -1,6 +1,6 @@
 -- The laws of a run of keys: the exact number of a key, and the root's pitch computed before the keys. Assumes nothing.
-use mathlib.Core.Path.{_≡_, refl, sym, _∙_, ap}
-use mathlib.Core.Bool.{Bool, true, false}
+use mathlib.Core.Path.{_≡_, refl, _∙_, ap}
+use mathlib.Core.Bool.{true, false}
 use mathlib.Core.List.{List}
 use Prim.Native.Nat.{ℕ, zero, suc, _+_, _≤_, _<_}
 use native.Mathlib.Omega.{arith}
@@ -17,14 +17,17 @@ use Rattle.base.specs.Numbers.{no-room, unusable}
 use Rattle.base.specs.Said.{Said, gives, refuses, andThen}
 use Rattle.key.specs.declared.PianoKey.{PianoKey}
 use Rattle.kbm.specs.Degree.{degreeOf}
+use Rattle.kbm.specs.Middle.{counted}
 use Rattle.kbm.specs.Table.{tableOf}
+use Rattle.kbm.specs.declared.Counting.{Counting}
 use Rattle.kbm.specs.declared.Kbm.{Kbm}
 use Rattle.scl.specs.Table.{ItemTable}
 use Rattle.scl.specs.declared.Item.{Item}
 use Rattle.relative.specs.Relative.{relativePitchOf}
-use Rattle.relative.specs.Pitches.{rootDegree, rootPitch, above, pitchFrom, pitchOf}
-use Rattle.tuning.specs.Keys.{maybePitchOf}
-use Rattle.tuning.specs.Run.{keyAt, keyPitches, rootSaid, keySaid, stepSaid, sounded, numberBeside, soundedTo, numbersTo, isTuning, runOf}
+use Rattle.relative.specs.Pitches.{rootPitch, above, pitchFrom}
+use Rattle.tuning.specs.Middle.{soundingDegree}
+use Rattle.tuning.specs.Run.{keyAt, countedPitches, rootSaid, stepSaid, sounded, numberBeside, soundedTo, numbersTo}
+use Rattle.tuning.specs.Run.{isTuning, runOf}
 
 -- ---- 64 bits hold a key and a number of 32 bits above it
 module _ {z : ℤ} (f : SFits w32 z) (k : ℕ) (h : k < 4294967296) where
@@ -49,15 +52,18 @@ same-step : {A B : Type 0} (s : Said A) {f g : A → Said B} → ((x : A) → f 
 same-step (gives x) e = e x
 same-step (refuses n d) e = refl
 
-pub root-before : (items : List Item) (kbm : Kbm) (map : List ℤ) (first : PianoKey) (k : ℕ) → stepSaid items kbm map (rootSaid items (kbm .root)) first k ≡ keyPitches items kbm map first k
-unfolding pitchOf pitchFrom
-root-before items kbm map first k =
+pub root-before : (c : Counting) (items : List Item) (kbm : Kbm) (map : List ℤ) (first : PianoKey) (k : ℕ) →
+    stepSaid items (counted c kbm) map (rootSaid c items kbm map) first k ≡ countedPitches c items kbm map first k
+unfolding pitchFrom
+root-before c items kbm map first k =
     same-step (keyAt first k) (λ key.
-    same-step (degreeOf kbm (tableOf (kbm .count) map) key) (λ degree.
-    steps-join (rootDegree (kbm .root)) (rootPitch items (kbm .root .pitch .0)) (λ hz. above (gives hz) (relativePitchOf items degree))))
+    same-step (degreeOf (counted c kbm) (tableOf (kbm .count) map) key) (λ degree.
+    steps-join (soundingDegree c kbm (tableOf (kbm .count) map)) (rootPitch items (kbm .root .pitch .0))
+    (λ hz. above (gives hz) (relativePitchOf items degree))))
 
-pub keys-same : (items : List Item) (kbm : Kbm) (map : List ℤ) (first : PianoKey) {root : Said Float} → root ≡ rootSaid items (kbm .root) → (k : ℕ) → stepSaid items kbm map root first k ≡ keyPitches items kbm map first k
-keys-same items kbm map first e k = ap (λ root. stepSaid items kbm map root first k) e ∙ root-before items kbm map first k
+pub keys-same : (c : Counting) (items : List Item) (kbm : Kbm) (map : List ℤ) (first : PianoKey) {root : Said Float} →
+    root ≡ rootSaid c items kbm map → (k : ℕ) → stepSaid items (counted c kbm) map root first k ≡ countedPitches c items kbm map first k
+keys-same c items kbm map first e k = ap (λ root. stepSaid items (counted c kbm) map root first k) e ∙ root-before c items kbm map first k
 
 -- ---- the whole run: 10, 12
 module _ (count : ℕ) (t : ItemTable) (kbm : Kbm) (map : List ℤ) (keys hz numbers : ℕ) where

@@ -35,6 +35,7 @@ use Rattle.relative.proofs.Theorems.{sorted-refusals, pitch-refusals, sorted-pi
 use Rattle.relative.specs.Pitches.{pitchOf, sortedPitchOf}
 use Rattle.relative.specs.RootedRefusals.{Pitched}
 use Rattle.tuning.specs.Keys.{keyPitchOf, maybePitchOf, maybeDegreePitchOf}
+use Rattle.tuning.specs.Middle.{maybePitchFromMiddle}
 use Rattle.tuning.specs.Refusals.{KeySounds}
 use Rattle.tuning.specs.Run.{saysRun, sounded, soundedTo, numberBeside, numbersTo, runOf, afterHz, afterNumbers}
 use Rattle.tuning.specs.declared.key_pitches.RunAnswer.the-variants as run
@@ -112,6 +113,12 @@ maybe-pitch-of-one count t kbm map k = pitch-one (tested (isItems count t && isR
 pub maybe-pitch-of-degree-one : (count : ℕ) (t : ItemTable) (kbm : Kbm) (map : List ℤ) (d : ℤ) → One saysPitch (tested (isItems count t && isRoot (kbm .root)) (tested (isTable (kbm .count) map) (maybeDegreePitchOf (itemsIn count t) kbm map d)))
 maybe-pitch-of-degree-one count t kbm map d = pitch-one (tested (isItems count t && isRoot (kbm .root)) (tested (isTable (kbm .count) map) (maybeDegreePitchOf (itemsIn count t) kbm map d)))
 
+pub maybe-pitch-from-middle-one : (count : ℕ) (t : ItemTable) (kbm : Kbm) (map : List ℤ) (k : PianoKey) → One saysPitch
+    (tested (isItems count t && isRoot (kbm .root)) (tested (isTable (kbm .count) map) (maybePitchFromMiddle (itemsIn count t) kbm map k)))
+maybe-pitch-from-middle-one count t kbm map k =
+    pitch-one (tested (isItems count t && isRoot (kbm .root))
+    (tested (isTable (kbm .count) map) (maybePitchFromMiddle (itemsIn count t) kbm map k)))
+
 -- ---- and a run of keys: its answer, and what it leaves
 run-split : Split (λ (u : Unit {0}). run.Done) run.Refused
 run-split run.Done = inl (tt, refl)
@@ -126,6 +133,19 @@ module _ (count : ℕ) (t : ItemTable) (kbm : Kbm) (map : List ℤ) (keys hz num
 
   pub pitches-of-numbers : (f : ℕ → Said Float) (l : List ℕ) → One (λ r. r) (afterNumbers (runOf count t kbm map keys hz numbers) f keys l)
   pitches-of-numbers f l = one-result (afterNumbers (runOf count t kbm map keys hz numbers) f keys l)
+
+-- counted from the middle key: the same lines, whatever the keys say
+module _ (count : ℕ) (t : ItemTable) (kbm : Kbm) (map : List ℤ) (keys hz numbers : ℕ) where
+  pub pitches-from-middle-one : One saysRun (runOf count t kbm map keys hz numbers)
+  pitches-from-middle-one = pitches-of-one count t kbm map keys hz numbers
+
+  pub pitches-from-middle-hz : (f : ℕ → Said Float) (l : List Float) →
+      One (λ r. r) (afterHz (runOf count t kbm map keys hz numbers) f keys l)
+  pitches-from-middle-hz f l = pitches-of-hz count t kbm map keys hz numbers f l
+
+  pub pitches-from-middle-numbers : (f : ℕ → Said Float) (l : List ℕ) →
+      One (λ r. r) (afterNumbers (runOf count t kbm map keys hz numbers) f keys l)
+  pitches-from-middle-numbers f l = pitches-of-numbers count t kbm map keys hz numbers f l
 
 -- ---- each key of the run, with f k what the single call says of it (`keyPitches`)
 at-most : {k n : ℕ} → k < suc n → k ≤ n

@@ -1,5 +1,5 @@
 -- The pitches of a run of keys: an addition to document 01's calls. "Each key answers as the single call does": `keyPitches` is the single
--- call's `maybePitchOf`, key for key. Assumes nothing.
+-- call's `maybePitchOf`, key for key, and `keyPitchesFromMiddle` is `maybePitchFromMiddle` (document 02, W1). Assumes nothing.
 use mathlib.Core.Bool.{Bool, _&&_}
 use mathlib.Core.List.{List}
 use Prim.Native.Nat.{ℕ, zero, suc}
@@ -14,13 +14,14 @@ use Rattle.key.specs.declared.PianoKey.{PianoKey}
 use Rattle.kbm.specs.Degree.{degreeOf}
 use Rattle.kbm.specs.Root.{isRoot}
 use Rattle.kbm.specs.Table.{tableOf, isTable}
+use Rattle.kbm.specs.declared.Counting.{Counting}
 use Rattle.kbm.specs.declared.Kbm.{Kbm}
-use Rattle.kbm.specs.declared.KbmRoot.{KbmRoot}
 use Rattle.scl.specs.Table.{ItemTable, isItems}
 use Rattle.scl.specs.declared.Item.{Item}
 use Rattle.relative.specs.Relative.{relativePitchOf}
-use Rattle.relative.specs.Pitches.{rootDegree, rootPitch, above}
+use Rattle.relative.specs.Pitches.{rootPitch, above}
 use Rattle.tuning.specs.Keys.{maybePitchOf}
+use Rattle.tuning.specs.Middle.{maybePitchFromMiddle, soundingDegree, countedPitch}
 use Rattle.tuning.specs.declared.key_pitches.RunAnswer.{RunAnswer}
 use Rattle.tuning.specs.declared.key_pitches.RunAnswer.the-variants as run
 
@@ -37,9 +38,17 @@ keyAt first k = keyAfter first (pos k)
 abbrev pub keyPitches : List Item → Kbm → List ℤ → PianoKey → ℕ → Said Float
 keyPitches items kbm map first k = andThen (keyAt first k) (maybePitchOf items kbm map)
 
+-- the same counted from the middle key: "The asked key's refusals come first" for each key of the run
+abbrev pub keyPitchesFromMiddle : List Item → Kbm → List ℤ → PianoKey → ℕ → Said Float
+keyPitchesFromMiddle items kbm map first k = andThen (keyAt first k) (maybePitchFromMiddle items kbm map)
+
+-- and in either counting
+abbrev pub countedPitches : Counting → List Item → Kbm → List ℤ → PianoKey → ℕ → Said Float
+countedPitches counting items kbm map first k = andThen (keyAt first k) (countedPitch counting items kbm map)
+
 -- ---- the same with the root's pitch computed before
-abbrev pub rootSaid : List Item → KbmRoot → Said Float
-rootSaid items root = andThen (rootDegree root) (rootPitch items (root .pitch .0))
+abbrev pub rootSaid : Counting → List Item → Kbm → List ℤ → Said Float
+rootSaid counting items kbm map = andThen (soundingDegree counting kbm (tableOf (kbm .count) map)) (rootPitch items (kbm .root .pitch .0))
 
 abbrev pub keySaid : List Item → Kbm → List ℤ → Said Float → PianoKey → Said Float
 keySaid items kbm map root key = andThen (degreeOf kbm (tableOf (kbm .count) map) key) (λ degree. above root (relativePitchOf items degree))

@@ -1,10 +1,11 @@
 // The pitches of a run of keys, what an engine asks for when it loads a tuning: an addition to document 01's calls. The tables are tested
-// once and the root's pitch is computed once; each key answers as `maybe_pitch_of` does.
+// once and the root's pitch is computed once; each key answers as `maybe_pitch_of` does, or as `maybe_pitch_from_middle`.
 use base::Refusal;
 use integer_math::I32Answer;
+use kbm::Counting;
 use kbm::DegreeAnswer;
 use kbm::Kbm;
-use kbm::KbmRoot;
+use key::Degree;
 use key::KeyAnswer;
 use key::PianoKey;
 use pitch::PitchAnswer;
@@ -16,11 +17,16 @@ ghost use Prim.Native.Nat.{_≤_, _<_};
 ghost use lib.IntN.{pos, _+ℤ_};
 ghost use lib.ListN.{length, set};
 ghost use Rattle.key.specs.Answers.{saysKey};
-ghost use Rattle.kbm.specs.Table.{isTable};
+ghost use Rattle.kbm.specs.Middle.{counted};
+ghost use Rattle.kbm.specs.Answers.{saysDegree};
+ghost use Rattle.kbm.specs.Table.{isTable, tableOf};
 ghost use Rattle.pitch.specs.Answers.{saysPitch, saysRatio};
+ghost use Rattle.scl.specs.Lent.{itemsLent, itemsBefore};
 ghost use Rattle.scl.specs.Table.{itemTable, itemsIn, isItems};
 ghost use Rattle.relative.specs.Pitches.{above};
-ghost use Rattle.tuning.specs.Run.{saysRun, keyAt, rootSaid, keySaid, stepSaid, keyPitches, sounded, numberBeside, soundedTo, numbersTo, isTuning, runOf, afterHz, afterNumbers};
+ghost use Rattle.tuning.specs.Middle.{soundingDegree};
+ghost use Rattle.tuning.specs.Run.{saysRun, keyAt, rootSaid, keySaid, stepSaid, keyPitches, keyPitchesFromMiddle, countedPitches};
+ghost use Rattle.tuning.specs.Run.{sounded, numberBeside, soundedTo, numbersTo, isTuning, runOf, afterHz, afterNumbers};
 
 // A run of keys was answered, or refused as a whole.
 pub enum RunAnswer {
@@ -51,29 +57,46 @@ fn key_at(first: PianoKey, k: u32) -> KeyAnswer
     }
 }
 
-// The pitch of the scale's place 0; 11 for the root offset, 18.
+// The degree that sounds the root's pitch: the offset turned over (11), or the reference key's own (11 for the distance, 19, 11).
+fn sounding_degree(counting: Counting, kbm: Kbm, map: &[i32]) -> DegreeAnswer
+    requires { ⌜ isTable (kbm .count) (now map) ≡ true ⌝ }
+    ensures { λ r. ⌜ saysDegree r ≡ soundingDegree counting kbm (tableOf (kbm .count) (now (map .entry))) ⌝ }
+{
+    match counting {
+        Counting::Reference => match relative::rooted::root_degree(kbm.root) {
+            I32Answer::Is(at) => DegreeAnswer::Is(Degree(at)),
+            I32Answer::Refused(refusal) => DegreeAnswer::Refused(refusal),
+        },
+        Counting::Middle => kbm::reference_degree_in(kbm, map),
+    }
+}
+
+// The pitch of the scale's place 0; what refuses the degree that sounds the root's pitch, 18.
 fn root_of(
+    counting: Counting,
     kind: &[u8],
     cents: &[f64],
     numer: &[u32],
     denom: &[u32],
     count: u16,
-    root: KbmRoot,
+    kbm: Kbm,
+    map: &[i32],
 ) -> PitchAnswer
-    requires { ⌜ isItems count (itemTable (now kind) (now cents) (now numer) (now denom)) ≡ true ⌝ }
-    ensures { λ r. ⌜ saysPitch r ≡ rootSaid (itemsIn count (itemTable (now (kind .entry)) (now (cents .entry)) (now (numer .entry)) (now (denom .entry)))) root ⌝ }
+    requires { ⌜ (isItems count (itemsLent kind cents numer denom) ≡ true) × (isTable (kbm .count) (now map) ≡ true) ⌝ }
+    ensures { λ r. ⌜ saysPitch r ≡ rootSaid counting (itemsIn count (itemsBefore kind cents numer denom)) kbm (now (map .entry)) ⌝ }
 {
-    match relative::rooted::root_degree(root) {
-        I32Answer::Is(at) => relative::rooted::root_pitch(
+    let root = kbm.root;
+    match sounding_degree(counting, kbm, map) {
+        DegreeAnswer::Is(at) => relative::rooted::root_pitch(
             kind,
             cents,
             numer,
             denom,
             count,
             root.pitch,
-            at,
+            at.0,
         ),
-        I32Answer::Refused(refusal) => PitchAnswer::Refused(refusal),
+        DegreeAnswer::Refused(refusal) => PitchAnswer::Refused(refusal),
     }
 }
 
@@ -89,6 +112,7 @@ fn above_root(first: PitchAnswer, ratio: RatioAnswer) -> PitchAnswer
 
 // The pitch of a key of a mapping above an answered root: 16, 11 for the distance, 17, 11 for the degree, the root's refusals, 18.
 fn pitch_above(
+    counting: Counting,
     kind: &[u8],
     cents: &[f64],
     numer: &[u32],
@@ -99,10 +123,11 @@ fn pitch_above(
     first: PitchAnswer,
     key: PianoKey,
 ) -> PitchAnswer
-    requires { ⌜ (isItems count (itemTable (now kind) (now cents) (now numer) (now denom)) ≡ true) × (isTable (kbm .count) (now map) ≡ true) ⌝ }
-    ensures { λ r. ⌜ saysPitch r ≡ keySaid (itemsIn count (itemTable (now (kind .entry)) (now (cents .entry)) (now (numer .entry)) (now (denom .entry)))) kbm (now (map .entry)) (saysPitch first) key ⌝ }
+    requires { ⌜ (isItems count (itemsLent kind cents numer denom) ≡ true) × (isTable (kbm .count) (now map) ≡ true) ⌝ }
+    ensures { λ r. ⌜ saysPitch r ≡ keySaid (itemsIn count (itemsBefore kind cents numer denom)) (counted counting kbm) (now (map .entry))
+        (saysPitch first) key ⌝ }
 {
-    match kbm::degree_in(kbm, map, key) {
+    match kbm::degree_in(counting, kbm, map, key) {
         DegreeAnswer::Is(degree) => above_root(
             first,
             relative::relative_at(kind, cents, numer, denom, count, degree.0),
@@ -113,6 +138,7 @@ fn pitch_above(
 
 // The pitch of the key so many steps above the first of the run: 11 for the key, then as by key.
 fn run_pitch(
+    counting: Counting,
     kind: &[u8],
     cents: &[f64],
     numer: &[u32],
@@ -124,11 +150,23 @@ fn run_pitch(
     first: PianoKey,
     k: u32,
 ) -> PitchAnswer
-    requires { ⌜ (isItems count (itemTable (now kind) (now cents) (now numer) (now denom)) ≡ true) × (isTable (kbm .count) (now map) ≡ true) ⌝ }
-    ensures { λ r. ⌜ saysPitch r ≡ stepSaid (itemsIn count (itemTable (now (kind .entry)) (now (cents .entry)) (now (numer .entry)) (now (denom .entry)))) kbm (now (map .entry)) (saysPitch root) first k ⌝ }
+    requires { ⌜ (isItems count (itemsLent kind cents numer denom) ≡ true) × (isTable (kbm .count) (now map) ≡ true) ⌝ }
+    ensures { λ r. ⌜ saysPitch r ≡ stepSaid (itemsIn count (itemsBefore kind cents numer denom)) (counted counting kbm) (now (map .entry))
+        (saysPitch root) first k ⌝ }
 {
     match key_at(first, k) {
-        KeyAnswer::Is(key) => pitch_above(kind, cents, numer, denom, count, kbm, map, root, key),
+        KeyAnswer::Is(key) => pitch_above(
+            counting,
+            kind,
+            cents,
+            numer,
+            denom,
+            count,
+            kbm,
+            map,
+            root,
+            key,
+        ),
         KeyAnswer::Refused(refusal) => PitchAnswer::Refused(refusal),
     }
 }
@@ -153,6 +191,7 @@ fn store(answer: PitchAnswer, hz: &mut [f64], numbers: &mut [u32], k: usize)
 
 // The run, where all tables can be used and both slices have a place for each key.
 fn fill(
+    counting: Counting,
     kind: &[u8],
     cents: &[f64],
     numer: &[u32],
@@ -166,14 +205,28 @@ fn fill(
     hz: &mut [f64],
     numbers: &mut [u32],
 )
-    requires { ⌜ (isItems count (itemTable (now kind) (now cents) (now numer) (now denom)) ≡ true) × (isTable (kbm .count) (now map) ≡ true)
+    requires { ⌜ (isItems count (itemsLent kind cents numer denom) ≡ true) × (isTable (kbm .count) (now map) ≡ true)
         × (keys ≤ length (now hz)) × (keys ≤ length (now numbers)) ⌝ }
-    ensures { λ _. ⌜ (now (hz .exit) ≡ soundedTo (stepSaid (itemsIn count (itemTable (now (kind .entry)) (now (cents .entry)) (now (numer .entry)) (now (denom .entry)))) kbm (now (map .entry)) (saysPitch root) first) keys (now (hz .entry)))
-        × (now (numbers .exit) ≡ numbersTo (stepSaid (itemsIn count (itemTable (now (kind .entry)) (now (cents .entry)) (now (numer .entry)) (now (denom .entry)))) kbm (now (map .entry)) (saysPitch root) first) keys (now (numbers .entry))) ⌝ }
+    ensures { λ _. ⌜ (now (hz .exit) ≡ soundedTo (stepSaid (itemsIn count (itemsBefore kind cents numer denom)) (counted counting kbm)
+        (now (map .entry)) (saysPitch root) first) keys (now (hz .entry)))
+        × (now (numbers .exit) ≡ numbersTo (stepSaid (itemsIn count (itemsBefore kind cents numer denom)) (counted counting kbm)
+        (now (map .entry)) (saysPitch root) first) keys (now (numbers .entry))) ⌝ }
 {
     let mut k: u32 = 0;
     while k < keys {
-        let answer = run_pitch(kind, cents, numer, denom, count, kbm, map, root, first, k);
+        let answer = run_pitch(
+            counting,
+            kind,
+            cents,
+            numer,
+            denom,
+            count,
+            kbm,
+            map,
+            root,
+            first,
+            k,
+        );
         store(answer, hz, numbers, k as usize);
         k += 1;
     }
@@ -199,6 +252,60 @@ fn is_tuning(
     false
 }
 
+// A run in either counting: 10 for tables or a root that cannot be used, 12 where a slice is shorter than the run; else each key for
+// itself.
+fn tested_run(
+    counting: Counting,
+    kind: &[u8],
+    cents: &[f64],
+    numer: &[u32],
+    denom: &[u32],
+    count: u16,
+    kbm: Kbm,
+    map: &[i32],
+    first: PianoKey,
+    keys: u32,
+    hz: &mut [f64],
+    numbers: &mut [u32],
+) -> RunAnswer
+    ensures { λ r. ⌜ saysRun r ≡ runOf count (itemsBefore kind cents numer denom) kbm (now (map .entry)) keys
+        (length (now (hz .entry))) (length (now (numbers .entry))) ⌝ }
+    ensures { λ _. ⌜ now (hz .exit) ≡ afterHz (runOf count (itemsBefore kind cents numer denom) kbm (now (map .entry)) keys
+        (length (now (hz .entry))) (length (now (numbers .entry))))
+        (countedPitches counting (itemsIn count (itemsBefore kind cents numer denom)) kbm (now (map .entry)) first) keys
+        (now (hz .entry)) ⌝ }
+    ensures { λ _. ⌜ now (numbers .exit) ≡ afterNumbers (runOf count (itemsBefore kind cents numer denom) kbm (now (map .entry)) keys
+        (length (now (hz .entry))) (length (now (numbers .entry))))
+        (countedPitches counting (itemsIn count (itemsBefore kind cents numer denom)) kbm (now (map .entry)) first) keys
+        (now (numbers .entry)) ⌝ }
+{
+    if is_tuning(kind, cents, numer, denom, count, kbm, map) {
+        if (keys as usize) <= hz.len() {
+            if (keys as usize) <= numbers.len() {
+                let root = root_of(counting, kind, cents, numer, denom, count, kbm, map);
+                fill(
+                    counting,
+                    kind,
+                    cents,
+                    numer,
+                    denom,
+                    count,
+                    kbm,
+                    map,
+                    root,
+                    first,
+                    keys,
+                    hz,
+                    numbers,
+                );
+                return RunAnswer::Done;
+            }
+        }
+        return RunAnswer::Refused(NO_PLACE);
+    }
+    RunAnswer::Refused(scl::NOT_USABLE)
+}
+
 // The pitches of `keys` keys from `first` on, and beside each its refusal's number, 0 for a pitch. 10 for tables or a root that cannot be
 // used, 12 where a slice is shorter than the run; else each key answers as `maybe_pitch_of`, and 11 where there is no such key. A
 // refused key's pitch stays as it was, and so do the places behind the run.
@@ -219,29 +326,59 @@ pub fn pitches_of(
     ensures { λ _. ⌜ now (hz .exit) ≡ afterHz (runOf (scl .count) (itemTable (now (kind .entry)) (now (cents .entry)) (now (numer .entry)) (now (denom .entry))) kbm (now (map .entry)) keys (length (now (hz .entry))) (length (now (numbers .entry)))) (keyPitches (itemsIn (scl .count) (itemTable (now (kind .entry)) (now (cents .entry)) (now (numer .entry)) (now (denom .entry)))) kbm (now (map .entry)) first) keys (now (hz .entry)) ⌝ }
     ensures { λ _. ⌜ now (numbers .exit) ≡ afterNumbers (runOf (scl .count) (itemTable (now (kind .entry)) (now (cents .entry)) (now (numer .entry)) (now (denom .entry))) kbm (now (map .entry)) keys (length (now (hz .entry))) (length (now (numbers .entry)))) (keyPitches (itemsIn (scl .count) (itemTable (now (kind .entry)) (now (cents .entry)) (now (numer .entry)) (now (denom .entry)))) kbm (now (map .entry)) first) keys (now (numbers .entry)) ⌝ }
 {
-    let count = scl.count;
-    if is_tuning(kind, cents, numer, denom, count, kbm, map) {
-        if (keys as usize) <= hz.len() {
-            if (keys as usize) <= numbers.len() {
-                let root = root_of(kind, cents, numer, denom, count, kbm.root);
-                fill(
-                    kind,
-                    cents,
-                    numer,
-                    denom,
-                    count,
-                    kbm,
-                    map,
-                    root,
-                    first,
-                    keys,
-                    hz,
-                    numbers,
-                );
-                return RunAnswer::Done;
-            }
-        }
-        return RunAnswer::Refused(NO_PLACE);
-    }
-    RunAnswer::Refused(scl::NOT_USABLE)
+    tested_run(
+        Counting::Reference,
+        kind,
+        cents,
+        numer,
+        denom,
+        scl.count,
+        kbm,
+        map,
+        first,
+        keys,
+        hz,
+        numbers,
+    )
+}
+
+// The same counted from the middle key: 10, 12; else each key answers as `maybe_pitch_from_middle`, and 11 where there is no such key.
+pub fn pitches_from_middle(
+    scl: Scl,
+    kind: &[u8],
+    cents: &[f64],
+    numer: &[u32],
+    denom: &[u32],
+    kbm: Kbm,
+    map: &[i32],
+    first: PianoKey,
+    keys: u32,
+    hz: &mut [f64],
+    numbers: &mut [u32],
+) -> RunAnswer
+    ensures { λ r. ⌜ saysRun r ≡ runOf (scl .count) (itemsBefore kind cents numer denom) kbm (now (map .entry)) keys
+        (length (now (hz .entry))) (length (now (numbers .entry))) ⌝ }
+    ensures { λ _. ⌜ now (hz .exit) ≡ afterHz (runOf (scl .count) (itemsBefore kind cents numer denom) kbm (now (map .entry)) keys
+        (length (now (hz .entry))) (length (now (numbers .entry))))
+        (keyPitchesFromMiddle (itemsIn (scl .count) (itemsBefore kind cents numer denom)) kbm (now (map .entry)) first) keys
+        (now (hz .entry)) ⌝ }
+    ensures { λ _. ⌜ now (numbers .exit) ≡ afterNumbers (runOf (scl .count) (itemsBefore kind cents numer denom) kbm (now (map .entry)) keys
+        (length (now (hz .entry))) (length (now (numbers .entry))))
+        (keyPitchesFromMiddle (itemsIn (scl .count) (itemsBefore kind cents numer denom)) kbm (now (map .entry)) first) keys
+        (now (numbers .entry)) ⌝ }
+{
+    tested_run(
+        Counting::Middle,
+        kind,
+        cents,
+        numer,
+        denom,
+        scl.count,
+        kbm,
+        map,
+        first,
+        keys,
+        hz,
+        numbers,
+    )
 }

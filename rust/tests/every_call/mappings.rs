@@ -5,6 +5,7 @@ use crate::scales::ROOTS;
 use crate::tally::Tally;
 use std::ops::Range;
 use telbijan::number::{BACKWARDS_RANGE, FORMAL_OCTAVE_MISSING, INT_VALUE, KEY_OUT_OF_RANGE, NOT_UTF8, OVERFLOW, TOO_LARGE};
+use telbijan::number::{UNMAPPED_KEY, UNUSABLE};
 use telbijan::{MappingBuilder, MappingRef, Numbers, Root, UNMAPPED};
 
 /// No two of its numbers are the same; the last entry is lacking.
@@ -105,6 +106,7 @@ fn backwards_numbers() {
     let (swapped, mut text) = (MappingRef { map: &map, numbers: Numbers { start: n.end, end: n.start, ..n } }, [0; 64]);
     for key in [n.start - 1, n.start, 58, n.end - 1, n.end] {
         assert_eq!(swapped.degree_of(key).unwrap_err().number(), KEY_OUT_OF_RANGE);
+        assert_eq!(swapped.degree_from_middle(key).unwrap_err().number(), KEY_OUT_OF_RANGE);
     }
     let written = swapped.export(&mut text).unwrap();
     assert_eq!(&text[..written], b"5\n91\n2\n61\n58\n431.500\n7\n0\nx\n-2\n6\nx\n");
@@ -125,6 +127,90 @@ fn degrees() {
         }
     }
     seen.done(1);
+}
+
+/// Roots whose middle key is near, far, at the ends of 32 bits and outside them.
+const MIDDLES: [Root; 8] = [
+    Root { reference: 69, hz: 440.0, offset: -7 },
+    Root { reference: 58, hz: 431.5, offset: -1 },
+    Root { reference: 60, hz: 256.5, offset: 0 },
+    Root { reference: 61, hz: 255.5, offset: i32::MIN },
+    Root { reference: -61, hz: 254.5, offset: i32::MAX },
+    Root { reference: i32::MAX, hz: 253.5, offset: 5 },
+    Root { reference: i32::MAX - 2, hz: 252.5, offset: 2 },
+    Root { reference: i32::MIN, hz: 251.5, offset: -10 },
+];
+
+/// Mappings above these roots: with gaps, with all keys there are, with no entries.
+pub fn middles() -> Vec<(Vec<i32>, Numbers)> {
+    let ((map, n), (none, linear)) = (mapping(GAPS), mapping(LINEAR));
+    let above = |root| {
+        let widest = Numbers { start: i32::MIN, end: i32::MAX, root, ..n };
+        [(map.clone(), Numbers { root, ..n }), (map.clone(), widest), (none.clone(), Numbers { root, ..linear })]
+    };
+    MIDDLES.into_iter().flat_map(above).collect()
+}
+
+/// The degree so many steps above the key that is counted from, by document 01's rule; or why there is none.
+pub fn degree_at(map: &[i32], n: Numbers, steps: i64) -> Result<i32, u8> {
+    let (size, steps) = (i64::from(n.count), i32::try_from(steps).map_err(|_| OVERFLOW)?);
+    if size == 0 {
+        return Ok(steps);
+    }
+    let entry = map[i64::from(steps).rem_euclid(size) as usize];
+    let degree = i64::from(entry) + i64::from(steps).div_euclid(size) * i64::from(n.octave);
+    if entry == UNMAPPED { Err(UNMAPPED_KEY) } else { i32::try_from(degree).map_err(|_| OVERFLOW) }
+}
+
+/// The degree counted from the middle key, the exact sum of reference and offset, in the same way.
+pub fn degree_from_middle(map: &[i32], n: Numbers, key: i32) -> Result<i32, u8> {
+    let is_entry = |&x: &i32| x == UNMAPPED || i16::try_from(x).is_ok();
+    if !map.get(..n.count.into()).is_some_and(|entries| entries.iter().all(is_entry)) {
+        return Err(UNUSABLE);
+    }
+    let steps = i64::from(key) - i64::from(n.root.reference) - i64::from(n.root.offset);
+    if n.start <= key && key < n.end { degree_at(map, n, steps) } else { Err(KEY_OUT_OF_RANGE) }
+}
+
+/// From the middle key: beside the flat call, and by the rule; where the middle key is a key, as if it were the reference key.
+#[test]
+fn degrees_from_middle() {
+    let mut seen = Tally::default();
+    let keys = [-1, 2, 3, 57, 58, 59, 60, 61, 62, 69, 90, 91, i32::MIN, i32::MIN + 1, i32::MAX - 1, i32::MAX];
+    for (map, n) in mappings().into_iter().chain(middles()) {
+        for (places, key) in (0..PLACES).flat_map(|places| keys.map(|key| (places, key))) {
+            let (mut degree, mapping) = (7, MappingRef { map: &map[..places], numbers: n });
+            // Safety: the table has as many places.
+            let result = unsafe {
+                raw::telbijan_scale_degree_from_middle(
+                    map.as_ptr(), places, n.count, n.start, n.end, n.root.reference, n.root.hz, n.root.offset, n.octave, key, &mut degree,
+                )
+            };
+            let said = mapping.degree_from_middle(key);
+            assert!(seen.agree("MappingRef::degree_from_middle", said, result, degree) || degree == 7);
+            assert_eq!(said.map_err(|x| x.number()), degree_from_middle(&map[..places], n, key));
+            if let Some(reference) = n.root.reference.checked_add(n.root.offset) {
+                let moved = Numbers { root: Root { reference, ..n.root }, ..n };
+                assert_eq!(said, MappingRef { numbers: moved, ..mapping }.degree_of(key));
+            }
+        }
+    }
+    seen.done(1);
+}
+
+/// Some by themselves, and an exact middle key far outside 32 bits.
+#[test]
+fn some_degrees_from_middle() {
+    let (map, n) = mapping(GAPS);
+    let mapping = MappingRef { map: &map, numbers: n };
+    let said = [3, 60, 61, 62, 63, 64, 65, 66, 91].map(|key| mapping.degree_from_middle(key).map_err(|x| x.number()));
+    let (outside, none) = (Err(KEY_OUT_OF_RANGE), Err(UNMAPPED_KEY));
+    assert_eq!(said, [Ok(-86), none, Ok(0), none, Ok(-2), Ok(6), none, Ok(7), outside]);
+    let root = Root { reference: 60, hz: 440.0, offset: i32::MIN };
+    let linear = MappingRef { map: &[], numbers: Numbers { count: 0, start: -1000, end: 1000, root, octave: 0 } };
+    let said = [59, -100, 60].map(|key| linear.degree_from_middle(key).map_err(|x| x.number()));
+    assert_eq!(said, [Ok(i32::MAX), Ok(2_147_483_488), Err(OVERFLOW)]);
+    assert_eq!(linear.degree_of(59), Ok(-1));
 }
 
 #[test]

@@ -3,7 +3,7 @@
 use crate::mappings::{mapping, GAPS};
 use crate::memory::Memory;
 use std::error::Error;
-use telbijan::{ratio, read_mapping, reason, MappingBuilder, MappingRef, Refusal, Root};
+use telbijan::{ratio, read_mapping, reason, MappingBuilder, MappingRef, Numbers, Refusal, Root, Tuning};
 
 fn scl(text: &[u8]) -> Refusal {
     Memory::new().lend([2; 7]).read(text).unwrap_err()
@@ -18,6 +18,14 @@ fn key(key: i32) -> Refusal {
     MappingRef { map: &map, numbers }.degree_of(key).unwrap_err()
 }
 
+/// The middle key is the one below the reference key: this has the second entry, which is unmapped.
+fn reference_unmapped() -> Refusal {
+    let ((mut memory, count), (map, n)) = (Memory::with(b"d\n1\n2/1\n"), mapping(GAPS));
+    let numbers = Numbers { root: Root { offset: -1, ..n.root }, ..n };
+    let lent = memory.lend([2; 7]);
+    Tuning { scale: lent.scale(count), mapping: MappingRef { map: &map, numbers } }.pitch_from_middle(57).unwrap_err()
+}
+
 fn no_octave() -> Refusal {
     let mut map = [0; 1];
     let mut builder = MappingBuilder::new(&mut map, Root { reference: 60, hz: 440.0, offset: 0 }, 0..128).unwrap();
@@ -26,7 +34,7 @@ fn no_octave() -> Refusal {
 }
 
 /// All that there are; those between are no numbers of this library.
-const NUMBERS: [u8; 20] = [1, 2, 3, 4, 5, 6, 7, 8, 9, 10, 11, 12, 13, 14, 15, 16, 17, 18, 25, 29];
+const NUMBERS: [u8; 21] = [1, 2, 3, 4, 5, 6, 7, 8, 9, 10, 11, 12, 13, 14, 15, 16, 17, 18, 19, 25, 29];
 
 #[test]
 fn each_number() {
@@ -50,6 +58,7 @@ fn each_number() {
         (key(91), 0, "the key is outside the range"),
         (key(59), 0, "the key is unmapped"),
         (ratio::exp2(901.0).unwrap_err(), 0, "beyond reach: a period of 1.0, 0 divisions, or a computed pitch or ratio outside its range"),
+        (reference_unmapped(), 0, "the reference key is unmapped, counted from the middle key"),
         (kbm(b"0\n! keys\n61\n60\n"), 4, "line 4: the last key is below the first"),
         (ratio::best_fraction(1.5, 0).unwrap_err(), 0, "no fraction: the odd limit is 0"),
     ];
@@ -68,7 +77,7 @@ fn names() {
     let names = [
         NOT_UTF8, LINE_MISSING, INT_VALUE, CENTS_VALUE, NUMER, DENOM, FLOAT_VALUE, KEYBOARD_MAPPING, UNSUPPORTED_NUMERAL,
         UNUSABLE, OVERFLOW, NO_ROOM, TOO_LARGE, INCONSISTENT_COUNT, FORMAL_OCTAVE_MISSING, KEY_OUT_OF_RANGE, UNMAPPED_KEY, BEYOND_REACH,
-        BACKWARDS_RANGE, NO_FRACTION,
+        REFERENCE_UNMAPPED, BACKWARDS_RANGE, NO_FRACTION,
     ];
     assert_eq!(names, NUMBERS);
     for number in (0..=255).filter(|number| !NUMBERS.contains(number)) {

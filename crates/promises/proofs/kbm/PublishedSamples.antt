@@ -1,6 +1,6 @@
--- The example with small `x`, with middle key 62 and with 60, is a text of the published format and within document 01's limits; with 60 it
--- is read, and keys answered as published. Assumes nothing.
-use mathlib.Core.Path.{_≡_, refl, sym}
+-- The example with small `x`, with middle key 62 and with 60, is a text of the published format and within document 01's limits; it is
+-- read, and its keys answered as published: with 62 counted from the middle key, with 60 by 01. Assumes nothing.
+use mathlib.Core.Path.{_≡_, refl, sym, _∙_}
 use mathlib.Core.Bool.{Bool, true, _&&_}
 use mathlib.Core.List.{List, [], _∷_, append-nil}
 use mathlib.Core.Logic.{inl}
@@ -8,9 +8,10 @@ use Prim.Native.Nat.{ℕ, _≤_, _<_}
 use native.Mathlib.Omega.{arith}
 use lib.Dec.{lit<, lit≤}
 use lib.Ieee.{ofBits, round, le}
-use lib.IntN.{ℤ, pos}
+use lib.IntN.{ℤ, pos, negsuc, _-ℤ_}
 use lib.ListN.{length}
 use lib.Signed.{leZ-yes, ltZ-yes, clashℤ}
+use Rattle.base.specs.Integers.{Divides, inI32}
 use Rattle.base.proofs.Division.{divides-one}
 use Rattle.integers.specs.Digits.{isDigit, AllDigits, decimal}
 use Rattle.integers.proofs.Digits.{digit-is}
@@ -27,7 +28,8 @@ use Rattle.utf8.specs.Utf8Machine as utf8
 use Rattle.text.proofs.LinesLanguage.{the-lines}
 use Rattle.utf8.proofs.Utf8Language.{accepts}
 use Rattle.promises.specs.kbm.Limits.{WithinLimits}
-use Rattle.promises.specs.kbm.Samples.{exampleLines, exampleText, middleText, exampleMapping, MiddleKeys}
+use Rattle.promises.specs.kbm.Samples.{exampleLines, exampleText, middleText, exampleMapping, MiddleKeys, ExampleKeys}
+use Rattle.promises.specs.kbm.Sounding.{SoundsWithin}
 use Rattle.promises.proofs.kbm.SameKeys.{not-mapped}
 use Rattle.promises.proofs.kbm.Sounding.{read-sounds}
 
@@ -176,7 +178,52 @@ pub middle-limits : WithinLimits middle-published
 unfolding linesText lines middle-published leadOf utf8Step utf8.utf8From
 middle-limits = middle-within (54 ∷ 48 ∷ []) 60 refl (λ e. omega arith) (number (54 ∷ 48 ∷ []) 60 (lit< tt) refl refl) (accepts (54 ∷ 48 ∷ []) .0 refl) refl
 
--- read, and its keys answered as published: by `read-sounds`
+-- ---- read, and keys answered as published: by `read-sounds`
+-- 128 is not retuned
+high : (n : ℤ) → P.Retuned (exampleMapping n) (pos 128) → ⊥
+high n t = clashℤ (ltZ-yes tt) (t .1)
+
+-- a key of the example that sounds d
+within : (n z d : ℤ) → P.Retuned (exampleMapping n) z → inI32 (z -ℤ n) ≡ true → inI32 d ≡ true → P.Sounds (exampleMapping n) z d →
+    SoundsWithin (exampleMapping n) z d
+within n z d r near held sounds = record { retuned = r; near = near; held = held; sounds = sounds }
+
+-- where counting reaches the second entry, which is unmapped, none sounds
+silent : (n z q : ℤ) → Divides (z -ℤ n) 3 q 1 → (d : ℤ) → P.Sounds (exampleMapping n) z d → ⊥
+silent n z q c d (P.Sounds.linear l e) = omega arith
+silent n z q c d (P.Sounds.pattern x r y k f e) = not-mapped (exampleMapping n) (divides-one k .1 ∙ sym (divides-one c .1)) refl f
+
+-- with middle key 62, counted from it
+pub example-keys : (old : List ℤ) → 3 ≤ length old → (k : Kbm) × ExampleKeys k old
+example-keys old room =
+    let r = read-sounds example-published example-within old room in
+    let key-is = r .2 in (
+      r .0,
+      record {
+        read = r .1;
+        here62 = key-is (key (pos 62)) .degree (pos 0) .1 (within _ _ _ (leZ-yes tt, leZ-yes tt) refl refl first);
+        there62 = first;
+        here65 = key-is (key (pos 65)) .degree (pos 5) .1 (within _ _ _ (leZ-yes tt, leZ-yes tt) refl refl five);
+        there65 = five;
+        here60 = key-is (key (pos 60)) .silent .1 (record { retuned = (leZ-yes tt, leZ-yes tt); within = refl; silent = none });
+        there60 = none;
+        here128 = key-is (key (pos 128)) .outside .1 (high (pos 62));
+        there128 = high (pos 62);
+      },
+    )
+  where
+    first : P.Sounds (exampleMapping (pos 62)) (pos 62) (pos 0)
+    first = P.Sounds.pattern (pos 0) 0 (pos 0) (record { whole = refl; rest = lit< tt }) refl refl
+
+    -- 3 is once 3 and 0 more: the first entry, an octave up
+    five : P.Sounds (exampleMapping (pos 62)) (pos 65) (pos 5)
+    five = P.Sounds.pattern (pos 1) 0 (pos 0) (record { whole = refl; rest = lit< tt }) refl refl
+
+    -- -2 is -1 times 3 and 1 more
+    none : (d : ℤ) → P.Sounds (exampleMapping (pos 62)) (pos 60) d → ⊥
+    none = silent (pos 62) (pos 60) (negsuc 0) (record { whole = refl; rest = lit< tt })
+
+-- with middle key 60, the reference key, by 01
 pub middle-keys : (old : List ℤ) → 3 ≤ length old → (k : Kbm) × MiddleKeys k old
 middle-keys old room =
     let r = read-sounds middle-published middle-limits old room in
@@ -184,12 +231,12 @@ middle-keys old room =
       r .0,
       record {
         read = r .1;
-        here63 = key-is (key (pos 63)) .degree (pos 5) .1 (record { retuned = (leZ-yes tt, leZ-yes tt); near = refl; held = refl; sounds = five });
+        here63 = key-is (key (pos 63)) .degree (pos 5) .1 (within _ _ _ (leZ-yes tt, leZ-yes tt) refl refl five);
         there63 = five;
         here61 = key-is (key (pos 61)) .silent .1 (record { retuned = (leZ-yes tt, leZ-yes tt); within = refl; silent = none });
         there61 = none;
-        here128 = key-is (key (pos 128)) .outside .1 high;
-        there128 = high;
+        here128 = key-is (key (pos 128)) .outside .1 (high (pos 60));
+        there128 = high (pos 60);
       },
     )
   where
@@ -197,10 +244,6 @@ middle-keys old room =
     five : P.Sounds (exampleMapping (pos 60)) (pos 63) (pos 5)
     five = P.Sounds.pattern (pos 1) 0 (pos 0) (record { whole = refl; rest = lit< tt }) refl refl
 
-    -- 1 is 0 times 3 and 1 more: the second entry, which is unmapped
+    -- 1 is 0 times 3 and 1 more
     none : (d : ℤ) → P.Sounds (exampleMapping (pos 60)) (pos 61) d → ⊥
-    none d (P.Sounds.linear n e) = omega arith
-    none d (P.Sounds.pattern q r z c f e) = not-mapped (exampleMapping (pos 60)) (divides-one c .1) refl f
-
-    high : P.Retuned (exampleMapping (pos 60)) (pos 128) → ⊥
-    high t = clashℤ (ltZ-yes tt) (t .1)
+    none = silent (pos 60) (pos 61) (pos 0) (record { whole = refl; rest = lit< tt })

@@ -44,11 +44,11 @@ pub record SameKeys (m : P.Mapping) (kbm : Kbm) (es : List Entry) : Type 0 where
   pub size : length es ≡ m .size
   pub given : (r : ℕ) → getD es r Unmapped ≡ getD (m .given) r Unmapped
 
-not-both : {A : Type 0} {t : Bool} → t ≡ true → t ≡ false → A
+pub not-both : {A : Type 0} {t : Bool} → t ≡ true → t ≡ false → A
 not-both p q = let n : _≡_ {A = ℕ} 0 1 = cc in absurd (omega arith)
 
 module _ {m : P.Mapping} {kbm : Kbm} {es : List Entry} (a : SameKeys m kbm es) (key : PianoKey) where
-  from-middle : key .0 -ℤ m .middle ≡ distance kbm key
+  pub from-middle : key .0 -ℤ m .middle ≡ distance kbm key
   from-middle = ap (λ (z : ℤ). key .0 -ℤ z) (a .middle)
 
   retuned : inKeys kbm key ≡ true → P.Retuned m (key .0)
@@ -64,10 +64,10 @@ module _ {m : P.Mapping} {kbm : Kbm} {es : List Entry} (a : SameKeys m kbm es) (
   near-back n = rw from-middle at n
 
   -- ---- degrees
-  linear : length es ≡ 0 → P.Sounds m (key .0) (distance kbm key)
+  pub linear : length es ≡ 0 → P.Sounds m (key .0) (distance kbm key)
   linear l = P.Sounds.linear (sym (a .size) ∙ l) (sym from-middle)
 
-  mapped : {q : ℤ} (z : ℤ) → Reaches es (distance kbm key) q (Mapped z) → P.Sounds m (key .0) (z +ℤ q *ℤ kbm .octave)
+  pub mapped : {q : ℤ} (z : ℤ) → Reaches es (distance kbm key) q (Mapped z) → P.Sounds m (key .0) (z +ℤ q *ℤ kbm .octave)
   mapped {q} z at =
       let c : Divides (distance kbm key) (m .size) q (at .place) = rw (a .size) at (at .counted) in
       P.Sounds.pattern q (at .place) z (rw from-middle c) (sym (a .given (at .place)) ∙ at .found) (rw (a .octave))
@@ -76,7 +76,7 @@ module _ {m : P.Mapping} {kbm : Kbm} {es : List Entry} (a : SameKeys m kbm es) (
   counted c = rw (a .size) (rw from-middle at c)
 
   -- an unmapped place sounds none
-  unmapped : {q : ℤ} → Reaches es (distance kbm key) q Unmapped → (d : ℤ) → P.Sounds m (key .0) d → ⊥
+  pub unmapped : {q : ℤ} → Reaches es (distance kbm key) q Unmapped → (d : ℤ) → P.Sounds m (key .0) d → ⊥
   unmapped at d (P.Sounds.linear l g) = omega (arith, at .counted .rest, a .size)
   unmapped at d (P.Sounds.pattern y r z c f g) =
       let i : r ≡ at .place = divides-one (counted c) .1 ∙ sym (divides-one (at .counted) .1) in

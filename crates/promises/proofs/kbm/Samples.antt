@@ -1,5 +1,5 @@
--- Samples by document 01: its own input for `kbmcopy`, and the text at the ends of 32 bits, are read, and their keys answered; a mapping that
--- comes back, and one that does not. Assumes nothing.
+-- Samples by document 01: its own input for `kbmcopy`, and the text at the ends of 32 bits, are read, and their keys answered; so is a text
+-- whose countings differ (document 02, W1); a mapping that comes back, and one that does not. Assumes nothing.
 use mathlib.Core.Path.{_≡_, refl, ap}
 use mathlib.Core.Bool.{true, false}
 use mathlib.Core.List.{List, [], _∷_, _++_}
@@ -12,7 +12,7 @@ use lib.IntN.{ℤ, pos, negsuc}
 use lib.ListN.{length}
 use lib.Signed.{leZ-yes, ltZ-yes}
 use Rattle.base.specs.Integers.{held}
-use Rattle.base.specs.Said.{gives}
+use Rattle.base.specs.Said.{Said, gives}
 use Rattle.numerals.specs.Scan.{spelled, scanOf}
 use Rattle.numerals.specs.Scan as numerals
 use Rattle.decimals.specs.DecimalScan.{readDecimal}
@@ -21,6 +21,7 @@ use Rattle.integers.proofs.Language.{sound}
 use Rattle.floats.specs.Units.{negative}
 use Rattle.kbm.specs.Degree.{degreeAt, scaleDegreeOf}
 use Rattle.kbm.specs.Keys.{Lacks}
+use Rattle.kbm.specs.Middle.{scaleDegreeFromMiddle}
 use Rattle.kbm.specs.Table.{entriesOf}
 use Rattle.kbm.specs.declared.Entry.{Entry}
 use Rattle.kbm.specs.declared.Entry.the-variants.{Mapped, Unmapped}
@@ -38,7 +39,9 @@ use Rattle.utf8.specs.Utf8Machine as utf8
 use Rattle.text.proofs.LineLanguage.{strict-text}
 use Rattle.promises.specs.kbm.KeysOfText.{Silent}
 use Rattle.promises.specs.kbm.Samples.{inputText, exampleKbm, exampleEntries, CopyKeys, farText, farKbm, FarKey, Back}
-use Rattle.promises.proofs.kbm.KeysOfText.{other, read-answers, text-lacks}
+use Rattle.promises.specs.kbm.Samples.{countedText, countedEntries, BothCountings}
+use Rattle.promises.proofs.kbm.KeysOfText.{other, no-degree, read-answers, text-says, text-lacks}
+use Rattle.promises.proofs.kbm.KeysOfText.{read-answers-from-middle, text-says-from-middle, text-lacks-from-middle}
 
 -- ---- A TEXT OF THE LANGUAGE, by computation
 -- the values that the required lines are read as
@@ -100,6 +103,59 @@ copy-keys old room =
       cross = Silent.gap refl (pos 0) 1 (record { whole = refl; rest = lit< tt }) (inl (inr refl));
       left-out = Silent.gap refl (pos 0) 2 (record { whole = refl; rest = lit< tt }) (inr (lit≤ tt));
     }
+
+-- ---- BOTH COUNTINGS
+counted-text : MappingText countedText (exampleKbm (pos 62)) countedEntries
+unfolding linesText lines meaningBy meanings tokenLength widthBy run leadOf utf8Step utf8.utf8From scan magnitudeOf readSigned
+    numerals.digitRunOf spelled scanOf readDecimal blanks round ofBits le
+counted-text =
+    by-lines countedText
+    ((51 ∷ []) ∷ (48 ∷ []) ∷ (49 ∷ 50 ∷ 55 ∷ []) ∷ (54 ∷ 50 ∷ []) ∷ (54 ∷ 48 ∷ []) ∷
+    (50 ∷ 54 ∷ 49 ∷ 46 ∷ 54 ∷ 50 ∷ 53 ∷ 54 ∷ []) ∷ (53 ∷ []) ∷ [])
+    ((48 ∷ []) ∷ (120 ∷ []) ∷ (50 ∷ []) ∷ [])
+    (3, (pos 0, (pos 127, (pos 62, (pos 60, (exampleKbm (pos 62) .root .pitch .0, (pos 5, tt))))))) countedEntries
+    (refl, (refl, (refl, (refl, (refl, (refl, (refl, (refl, (refl, (refl, tt))))))))))
+    (refl, (refl, (refl, (refl, (refl, (refl, (refl, tt))))))) (
+      EntryText.degree (pos 0) (sound true (2 ^ 15) (lit< tt) (pos 0) (48 ∷ []) refl),
+      (EntryText.small refl, (EntryText.degree (pos 2) (sound true (2 ^ 15) (lit< tt) (pos 2) (50 ∷ []) refl), tt)),
+    ) (lit≤ tt) (lit≤ tt)
+
+pub both-countings : (old : List ℤ) → 3 ≤ length old → BothCountings old
+unfolding by-lines counted-text degreeAt held
+both-countings old room =
+    record {
+      text = counted-text;
+      read = in-language (length old) countedText counted-text room;
+      at60 = here60;
+      middle60 = read-answers-from-middle counted-text old room (key (pos 60));
+      at61 = read-answers counted-text old room (key (pos 61));
+      middle61 = there61;
+      at62 = here62;
+      middle62 = there62;
+      said62 = text-says counted-text old room (key (pos 62)) (gives (pos 2)) .0 here62;
+      said-from-middle62 = text-says-from-middle counted-text old room (key (pos 62)) (gives (pos 0)) .0 there62;
+      silent61 = Silent.gap refl (pos 0) 1 (record { whole = refl; rest = lit< tt }) (inl (inl refl));
+      sounds-from-middle61 = λ x. not-lacking there61 (text-lacks-from-middle counted-text old room (key (pos 61)) .1 x);
+      sounds60 = λ x. not-lacking here60 (text-lacks counted-text old room (key (pos 60)) .1 x);
+      silent-from-middle60 = Silent.gap refl (negsuc 0) 1 (record { whole = refl; rest = lit< tt }) (inl (inl refl));
+    }
+  where
+    here60 : scaleDegreeOf (exampleKbm (pos 62)) (afterRead countedText old) (key (pos 60)) ≡ gives (pos 0)
+    here60 = read-answers counted-text old room (key (pos 60))
+
+    there61 : scaleDegreeFromMiddle (exampleKbm (pos 62)) (afterRead countedText old) (key (pos 61)) ≡ gives (negsuc 2)
+    there61 = read-answers-from-middle counted-text old room (key (pos 61))
+
+    here62 : scaleDegreeOf (exampleKbm (pos 62)) (afterRead countedText old) (key (pos 62)) ≡ gives (pos 2)
+    here62 = read-answers counted-text old room (key (pos 62))
+
+    there62 : scaleDegreeFromMiddle (exampleKbm (pos 62)) (afterRead countedText old) (key (pos 62)) ≡ gives (pos 0)
+    there62 = read-answers-from-middle counted-text old room (key (pos 62))
+
+    -- a degree is neither 16 nor 17
+    not-lacking : {d : ℤ} {x : Said ℤ} → x ≡ gives d → Lacks x → ⊥
+    not-lacking p (inl e) = no-degree p e
+    not-lacking p (inr e) = no-degree p e
 
 -- ---- THE ENDS OF 32 BITS
 far-text : MappingText farText farKbm (Unmapped ∷ [])

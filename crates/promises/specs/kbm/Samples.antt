@@ -1,8 +1,9 @@
--- SAMPLES: texts, and what the calls answer for their keys (document 01's example for `kbmcopy`; the same with `x` written small, as Scala's
--- pages have it; that one with middle and reference key one; a text at the ends of 32 bits), and the round trip. Assumes nothing.
+-- SAMPLES: texts, and what the calls answer for their keys (document 01's example for `kbmcopy`; the same with `x` written small, as
+-- Scala's pages have it; that one with middle and reference key one, and with an entry more; a text at the ends of 32 bits), and the round
+-- trip. Keys are counted from the reference key (01) and from the middle key (document 02, W1). Assumes nothing.
 use mathlib.Core.Path.{_≡_}
 use mathlib.Core.Bool.{false}
-use mathlib.Core.List.{List, [], _∷_}
+use mathlib.Core.List.{List, [], _∷_, _++_}
 use Prim.Native.Nat.{ℕ, _^_}
 use lib.Ieee.{round, binary64}
 use lib.IntN.{ℤ, pos, negsuc, _-ℤ_}
@@ -10,6 +11,7 @@ use lib.ListN.{length, getD}
 use Rattle.base.specs.Numbers.{overflow, key-out-of-range, unmapped-key}
 use Rattle.base.specs.Said.{gives, refuses}
 use Rattle.kbm.specs.Degree.{scaleDegreeOf}
+use Rattle.kbm.specs.Middle.{scaleDegreeFromMiddle}
 use Rattle.kbm.specs.Samples.{sample, sampleTable}
 use Rattle.kbm.specs.Table.{tableOf}
 use Rattle.kbm.specs.declared.Entry.{Entry}
@@ -23,7 +25,7 @@ use Rattle.kbm_write.specs.Published as P
 use Rattle.kbm_write.specs.Typed.{TypedKbm}
 use Rattle.key.specs.Keys.{key}
 use Rattle.pitch.specs.declared.Pitch.{Pitch}
-use Rattle.promises.specs.kbm.KeysOfText.{entryTokens, Inside, Counts, Silent}
+use Rattle.promises.specs.kbm.KeysOfText.{entryTokens, middleKey, referenceKey, Inside, Counts, Silent, SaidOf}
 
 -- `3`, `0`, `127`, the middle key, `60`, `261.6256`, `5`, `0`, and the last entry
 abbrev pub exampleLines : List ℕ → List ℕ → List (List ℕ)
@@ -84,8 +86,8 @@ pub record CopyKeys (old : List ℤ) : Type 0 where
   pub at63 : scaleDegreeOf (exampleKbm (pos 62)) (afterRead inputText old) (key (pos 63)) ≡ gives (pos 5)
   pub high : scaleDegreeOf (exampleKbm (pos 62)) (afterRead inputText old) (key (pos 128)) ≡ refuses key-out-of-range 0
   -- which is what the text's own lines say of 61 and 62
-  pub cross : Silent (text .values) (entryTokens text) (pos 61)
-  pub left-out : Silent (text .values) (entryTokens text) (pos 62)
+  pub cross : Silent referenceKey (text .values) (entryTokens text) (pos 61)
+  pub left-out : Silent referenceKey (text .values) (entryTokens text) (pos 62)
 
 -- KEYS THAT SOUND AND DO NOT, of the published text with middle and reference key one, read as k into a table `old`
 pub record MiddleKeys (k : Kbm) (old : List ℤ) : Type 0 where
@@ -99,6 +101,50 @@ pub record MiddleKeys (k : Kbm) (old : List ℤ) : Type 0 where
   -- 128 is not retuned
   pub here128 : scaleDegreeOf k (afterRead middleText old) (key (pos 128)) ≡ refuses key-out-of-range 0
   pub there128 : P.Retuned (exampleMapping (pos 60)) (pos 128) → ⊥
+
+-- KEYS THAT SOUND AND DO NOT, of the published text with middle key 62, read as k into a table `old`: counted from the middle key
+pub record ExampleKeys (k : Kbm) (old : List ℤ) : Type 0 where
+  pub read : readOf (length old) exampleText ≡ gives k
+  -- 62 sounds degree 0, here and as published, and 65 degree 5
+  pub here62 : scaleDegreeFromMiddle k (afterRead exampleText old) (key (pos 62)) ≡ gives (pos 0)
+  pub there62 : P.Sounds (exampleMapping (pos 62)) (pos 62) (pos 0)
+  pub here65 : scaleDegreeFromMiddle k (afterRead exampleText old) (key (pos 65)) ≡ gives (pos 5)
+  pub there65 : P.Sounds (exampleMapping (pos 62)) (pos 65) (pos 5)
+  -- 60 sounds none
+  pub here60 : scaleDegreeFromMiddle k (afterRead exampleText old) (key (pos 60)) ≡ refuses unmapped-key 0
+  pub there60 : (d : ℤ) → P.Sounds (exampleMapping (pos 62)) (pos 60) d → ⊥
+  -- 128 is not retuned
+  pub here128 : scaleDegreeFromMiddle k (afterRead exampleText old) (key (pos 128)) ≡ refuses key-out-of-range 0
+  pub there128 : P.Retuned (exampleMapping (pos 62)) (pos 128) → ⊥
+
+-- the example with `x` and an entry `2` more: entries 0, x, 2, middle key 62, reference key 60
+abbrev pub countedText : List ℕ
+countedText = linesText (exampleLines (54 ∷ 50 ∷ []) (120 ∷ []) ++ (50 ∷ []) ∷ [])
+
+abbrev pub countedEntries : List Entry
+countedEntries = Mapped (pos 0) ∷ Unmapped ∷ Mapped (pos 2) ∷ []
+
+-- ITS KEYS IN BOTH COUNTINGS, read into a table `old`: what the calls answer, and what the text's own lines say
+pub record BothCountings (old : List ℤ) : Type 0 where
+  pub text : MappingText countedText (exampleKbm (pos 62)) countedEntries
+  pub read : readOf (length old) countedText ≡ gives (exampleKbm (pos 62))
+  -- 60 has the first entry from the reference key, and `x` from the middle key
+  pub at60 : scaleDegreeOf (exampleKbm (pos 62)) (afterRead countedText old) (key (pos 60)) ≡ gives (pos 0)
+  pub middle60 : scaleDegreeFromMiddle (exampleKbm (pos 62)) (afterRead countedText old) (key (pos 60)) ≡ refuses unmapped-key 0
+  -- 61 has `x`, and the third entry an octave down
+  pub at61 : scaleDegreeOf (exampleKbm (pos 62)) (afterRead countedText old) (key (pos 61)) ≡ refuses unmapped-key 0
+  pub middle61 : scaleDegreeFromMiddle (exampleKbm (pos 62)) (afterRead countedText old) (key (pos 61)) ≡ gives (negsuc 2)
+  -- 62 has the third entry, and the first
+  pub at62 : scaleDegreeOf (exampleKbm (pos 62)) (afterRead countedText old) (key (pos 62)) ≡ gives (pos 2)
+  pub middle62 : scaleDegreeFromMiddle (exampleKbm (pos 62)) (afterRead countedText old) (key (pos 62)) ≡ gives (pos 0)
+  -- which is what the lines say
+  pub said62 : SaidOf referenceKey (text .values) (entryTokens text) (pos 62) (gives (pos 2))
+  pub said-from-middle62 : SaidOf middleKey (text .values) (entryTokens text) (pos 62) (gives (pos 0))
+  -- so that each counting has a key without a degree that has one in the other
+  pub silent61 : Silent referenceKey (text .values) (entryTokens text) (pos 61)
+  pub sounds-from-middle61 : Silent middleKey (text .values) (entryTokens text) (pos 61) → ⊥
+  pub sounds60 : Silent referenceKey (text .values) (entryTokens text) (pos 60) → ⊥
+  pub silent-from-middle60 : Silent middleKey (text .values) (entryTokens text) (pos 60)
 
 -- `1`, `-2147483648`, `2147483646`, `-2`, `-2`, `440.0`, `0`, `x`
 abbrev pub farText : List ℕ
@@ -123,9 +169,9 @@ pub record FarKey (old : List ℤ) : Type 0 where
   pub text : MappingText farText farKbm (Unmapped ∷ [])
   pub read : readOf (length old) farText ≡ gives farKbm
   pub inside : Inside (text .values) (pos 2147483646)
-  pub counted : Counts (text .values) (pos 2147483646) (pos 2147483648) 0
+  pub counted : Counts referenceKey (text .values) (pos 2147483646) (pos 2147483648) 0
   pub cross : getD (entryTokens text) 0 [] ≡ 120 ∷ []
-  pub not-silent : Silent (text .values) (entryTokens text) (pos 2147483646) → ⊥
+  pub not-silent : Silent referenceKey (text .values) (entryTokens text) (pos 2147483646) → ⊥
   pub answer : scaleDegreeOf farKbm (afterRead farText old) (key (pos 2147483646)) ≡ refuses overflow 0
 
 -- 440 Hz

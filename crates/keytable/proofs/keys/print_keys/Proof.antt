@@ -5,10 +5,10 @@ use Rattle.keytable.proofs.keys.print_keys.Statement.{statement}
 use Rattle.keytable.proofs.keys.print_keys.Tie as tie
 
 abbrev Inv-loop : tie.InvT-loop
-Inv-loop kbm map hz numbers end key₀ i₀ key i = Unit {0}
+Inv-loop counting kbm map hz numbers end key₀ i₀ key i = Unit {0}
 
 abbrev μ-loop : tie.MeasureT-loop
-μ-loop kbm map hz numbers end key₀ i₀ key i = 1024 - i
+μ-loop counting kbm map hz numbers end key₀ i₀ key i = 1024 - i
 
 loop-holds : tie.Need-loop-holds Inv-loop μ-loop
 loop-holds c = tt

@@ -8,6 +8,7 @@ use denote.Ref.{now}
 use lib.Ieee.{Float}
 use lib.ListN.{length}
 use Rattle.base.specs.Said.{Said}
+use Rattle.kbm.specs.Middle.{counted}
 use Rattle.scl.specs.Table.{itemTable, itemsIn}
 use Rattle.pitch.specs.Answers.{saysPitch}
 use Rattle.tuning.specs.Run.{stepSaid, soundedTo, numbersTo}
@@ -17,16 +18,19 @@ use Rattle.tuning.proofs.key_pitches.fill.Statement.{statement}
 use Rattle.tuning.proofs.key_pitches.fill.Tie as tie
 
 abbrev Inv-loop : tie.InvT-loop
-Inv-loop kind cents numer denom count kbm map root first keys hz₀ numbers₀ k₀ hz numbers k =
-    (k ≤ keys) × (hz ≡ soundedTo (stepSaid (itemsIn count (itemTable kind cents numer denom)) kbm map (saysPitch root) first) k hz₀)
-    × (numbers ≡ numbersTo (stepSaid (itemsIn count (itemTable kind cents numer denom)) kbm map (saysPitch root) first) k numbers₀)
+Inv-loop counting kind cents numer denom count kbm map root first keys hz₀ numbers₀ k₀ hz numbers k =
+    let says = stepSaid (itemsIn count (itemTable kind cents numer denom)) (counted counting kbm) map (saysPitch root) first in
+    (k ≤ keys) × (hz ≡ soundedTo says k hz₀) × (numbers ≡ numbersTo says k numbers₀)
 
 abbrev μ-loop : tie.MeasureT-loop
-μ-loop kind cents numer denom count kbm map root first keys hz₀ numbers₀ k₀ hz numbers k = keys - k
+μ-loop counting kind cents numer denom count kbm map root first keys hz₀ numbers₀ k₀ hz numbers k = keys - k
 
 -- what each key says
 abbrev says : tie.Start Inv-loop μ-loop → ℕ → Said Float
-says s = stepSaid (itemsIn (s .args .count) (itemTable (s .args .kind .now) (s .args .cents .now) (s .args .numer .now) (s .args .denom .now))) (s .args .kbm) (s .args .map .now) (saysPitch (s .args .root)) (s .args .first)
+says s =
+    let table = itemTable (s .args .kind .now) (s .args .cents .now) (s .args .numer .now) (s .args .denom .now) in
+    let items = itemsIn (s .args .count) table in
+    stepSaid items (counted (s .args .counting) (s .args .kbm)) (s .args .map .now) (saysPitch (s .args .root)) (s .args .first)
 
 loop-holds : tie.Need-loop-holds Inv-loop μ-loop
 unfolding soundedTo numbersTo

@@ -6,6 +6,7 @@ use Rattle.base.specs.Said.{Said}
 use Rattle.base.proofs.Said.{and-then}
 use Rattle.key.specs.Answers.{saysKey}
 use Rattle.key.specs.declared.PianoKey.{PianoKey}
+use Rattle.kbm.specs.Middle.{counted}
 use Rattle.scl.specs.Table.{ItemTable, itemTable, itemsIn}
 use Rattle.pitch.specs.Answers.{saysPitch}
 use Rattle.tuning.specs.Run.{keySaid}
@@ -18,7 +19,9 @@ table s = itemTable (s .args .kind .now) (s .args .cents .now) (s .args .numer .
 
 -- from the key on
 abbrev on : tie.Start → PianoKey → Said Float
-on s = keySaid (itemsIn (s .args .count) (table s)) (s .args .kbm) (s .args .map .now) (saysPitch (s .args .root))
+on s =
+    let items = itemsIn (s .args .count) (table s) in
+    keySaid items (counted (s .args .counting) (s .args .kbm)) (s .args .map .now) (saysPitch (s .args .root))
 
 key-at-requires : tie.Need-key-at-requires
 key-at-requires c κs = search needs
