@@ -45,7 +45,7 @@ pub const BACKWARDS_RANGE: u32 = 25;
 pub const NO_FRACTION: u32 = 29;
 
 // Why a call refused: the number, and the place that it is about.
-#[derive(Drop)]
+#[derive(Clone, Copy)]
 pub struct Refusal {
     pub number: u32,
     pub detail: usize,

@@ -14,28 +14,28 @@ use base::Refusal;
 use pitch::Ratio;
 
 // A fraction and the ratio's deviation from it.
-#[derive(Drop)]
+#[derive(Clone, Copy)]
 pub struct BestFraction {
     pub numer: u16,
     pub denom: u16,
     pub deviation: Ratio,
 }
 
-#[derive(Drop)]
+#[derive(Clone, Copy)]
 pub enum BestAnswer {
     Is(BestFraction),
     Refused(Refusal),
 }
 
 // A fraction on the walk; 0/1 and 1/0 stand for none.
-#[derive(Drop)]
+#[derive(Clone, Copy)]
 pub struct Candidate {
     pub numer: u64,
     pub denom: u64,
 }
 
 // The walk: the fraction at hand, the best one so far at most the ratio, and the best one above it.
-#[derive(Drop)]
+#[derive(Clone, Copy)]
 pub struct Walk {
     pub here: Candidate,
     pub low: Candidate,

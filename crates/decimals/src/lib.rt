@@ -16,7 +16,7 @@ const MOST_PLACES: usize = 18;
 const MOST_EXACT: u64 = 0x20_0000_0000_0000;
 
 // What a text says as a decimal. A caller gives Unsupported the number 9, and Bad the number of what it reads.
-#[derive(Drop)]
+#[derive(Clone, Copy)]
 pub enum DecimalAnswer {
     Is(f64),
     Unsupported,

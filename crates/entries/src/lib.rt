@@ -21,7 +21,7 @@ use scl::SclAnswer;
 use scl_build::SclBuilder;
 use scl_read::SclReadAnswer;
 
-#[derive(Drop)]
+#[derive(Clone, Copy)]
 pub struct SortedEntry {
     pub place: u32,
     pub ratio: f64,

@@ -20,7 +20,7 @@ use searching::approximation::DegreeSearch;
 use searching::{ChoiceAnswer, Found, FoundAnswer};
 
 // What a search looks for: the ratio without its periods, how many these are, and whether there is nothing to find (18).
-#[derive(Drop)]
+#[derive(Clone, Copy)]
 pub struct Aim {
     pub beyond: bool,
     pub periods: i32,
@@ -29,7 +29,7 @@ pub struct Aim {
 
 // How far the pass has come: whether all so far can be used, the last ratio, and the two neighbours of the target so far, the upper one
 // at the place `at`.
-#[derive(Drop)]
+#[derive(Clone, Copy)]
 pub struct Scan {
     pub usable: bool,
     pub count: u16,

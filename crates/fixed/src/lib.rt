@@ -5,7 +5,7 @@ ghost use Rattle.std.specs.Float.Ieee.Nearest.{closest};
 ghost use Rattle.fixed.specs.Cuts.{cut_at};
 
 // A number of 10^d: its whole part, and what is left.
-#[derive(Drop)]
+#[derive(Clone, Copy)]
 pub struct Cut {
     pub whole: u64,
     pub part: u64,

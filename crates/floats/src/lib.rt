@@ -8,7 +8,7 @@ ghost use Rattle.integer_math.specs.Answers.{says_i32};
 ghost use Rattle.floats.specs.Units.{Unpacked};
 
 // A float, or why there is none.
-#[derive(Drop)]
+#[derive(Clone, Copy)]
 pub enum FloatAnswer {
     Is(f64),
     Refused(base::Refusal),
@@ -160,7 +160,7 @@ pub fn is_negligible(x: f64) -> bool
 }
 
 // A finite f64 taken apart: digits * 2^(exponent - 1074), with the sign.
-#[derive(Drop)]
+#[derive(Clone, Copy)]
 pub struct Parts {
     pub negative: bool,
     pub digits: u64,

@@ -8,14 +8,14 @@ use floats::FloatAnswer;
 use integer_math::I32Answer;
 use pitch::{Ratio, RatioAnswer};
 
-#[derive(Drop)]
+#[derive(Clone, Copy)]
 pub struct Fraction {
     pub numer: u16,
     pub denom: u16,
 }
 
 // A fraction near a ratio that is less than an octave: how far the ratio is from it, and the octaves that were taken off.
-#[derive(Drop)]
+#[derive(Clone, Copy)]
 pub struct NearestFraction {
     pub numer: u16,
     pub denom: u16,
@@ -23,14 +23,14 @@ pub struct NearestFraction {
     pub num_octaves: i32,
 }
 
-#[derive(Drop)]
+#[derive(Clone, Copy)]
 pub enum NearestAnswer {
     Is(NearestFraction),
     Refused(Refusal),
 }
 
 // Where the walk is: between a fraction below and one above, with the best so far and the ratio's deviation from it.
-#[derive(Drop)]
+#[derive(Clone, Copy)]
 pub struct Walk {
     pub low: Fraction,
     pub high: Fraction,
@@ -38,7 +38,7 @@ pub struct Walk {
     pub deviation: f64,
 }
 
-#[derive(Drop)]
+#[derive(Clone, Copy)]
 pub enum Step {
     On(Walk),
     Done(Walk),

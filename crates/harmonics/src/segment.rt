@@ -12,39 +12,39 @@ use floats::FloatAnswer;
 use pitch::{Ratio, RatioAnswer};
 
 // Which segment: `n:n+1:n+2:..`, or `n/(n:n-1:n-2:..)`.
-#[derive(Drop)]
+#[derive(Clone, Copy)]
 pub enum SegmentType {
     Otonal,
     Utonal,
 }
 
 // Into how many equal divisions a segment is cut, where it is.
-#[derive(Drop)]
+#[derive(Clone, Copy)]
 pub enum Divisions {
     Into(u16),
     Lacking,
 }
 
 // What a segment's items are: each of its harmonics, or the harmonics near equal steps of this ratio.
-#[derive(Drop)]
+#[derive(Clone, Copy)]
 pub enum Steps {
     Whole,
     Equal(f64),
 }
 
-#[derive(Drop)]
+#[derive(Clone, Copy)]
 pub struct Fraction {
     pub numer: u32,
     pub denom: u32,
 }
 
-#[derive(Drop)]
+#[derive(Clone, Copy)]
 pub enum FractionAnswer {
     Is(Fraction),
     Refused(Refusal),
 }
 
-#[derive(Drop)]
+#[derive(Clone, Copy)]
 pub enum StepsAnswer {
     Is(Steps),
     Refused(Refusal),

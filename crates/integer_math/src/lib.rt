@@ -8,7 +8,7 @@ ghost use Rattle.integer_math.specs.Answers.{says_i32};
 use base::Refusal;
 
 // An i32, or why there is none.
-#[derive(Drop)]
+#[derive(Clone, Copy)]
 pub enum I32Answer {
     Is(i32),
     Refused(Refusal),

@@ -4,14 +4,14 @@ ghost use Rattle.std.specs.Prelude.{◌≡◌, ◌+◌, ◌-◌, ◌*◌, ◌^�
 ghost use Rattle.integers.specs.Integer.{magnitude_of, plus, minus, read_int, read_signed, whole_of, u16_of, u32_of, i16_of, i32_of};
 
 // A row of digits within a limit, or none.
-#[derive(Drop)]
+#[derive(Clone, Copy)]
 pub enum Magnitude {
     Is(u64),
     IsNot,
 }
 
 // The sign and the size of an integer, or none: -0 is kept apart from 0.
-#[derive(Drop)]
+#[derive(Clone, Copy)]
 pub enum Signed {
     Plus(u64),
     Minus(u64),
@@ -19,35 +19,35 @@ pub enum Signed {
 }
 
 // An integer of any of the four types, or none.
-#[derive(Drop)]
+#[derive(Clone, Copy)]
 enum Whole {
     Is(i64),
     IsNot,
 }
 
 // A u16 of a text, or none.
-#[derive(Drop)]
+#[derive(Clone, Copy)]
 pub enum U16 {
     Is(u16),
     IsNot,
 }
 
 // A u32 of a text, or none.
-#[derive(Drop)]
+#[derive(Clone, Copy)]
 pub enum U32 {
     Is(u32),
     IsNot,
 }
 
 // An i16 of a text, or none.
-#[derive(Drop)]
+#[derive(Clone, Copy)]
 pub enum I16 {
     Is(i16),
     IsNot,
 }
 
 // An i32 of a text, or none.
-#[derive(Drop)]
+#[derive(Clone, Copy)]
 pub enum I32 {
     Is(i32),
     IsNot,

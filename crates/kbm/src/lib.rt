@@ -20,21 +20,21 @@ use pitch::Pitch;
 pub const UNMAPPED: i32 = -2147483648;
 
 // An entry of a mapping: the degree of its key, or none.
-#[derive(Drop)]
+#[derive(Clone, Copy)]
 pub enum Entry {
     Mapped(i16),
     Unmapped,
 }
 
 // Where a tuning is anchored: the reference key, its pitch, and how far the middle key lies above it.
-#[derive(Drop)]
+#[derive(Clone, Copy)]
 pub struct KbmRoot {
     pub reference: PianoKey,
     pub pitch: Pitch,
     pub offset: i32,
 }
 
-#[derive(Drop)]
+#[derive(Clone, Copy)]
 pub enum RootAnswer {
     Is(KbmRoot),
     Refused(Refusal),
@@ -42,7 +42,7 @@ pub enum RootAnswer {
 
 // A mapping, beside its table of `count` entries: keys from `start` up to, not including, `end`; `octave` degrees make a
 // formal octave.
-#[derive(Drop)]
+#[derive(Clone, Copy)]
 pub struct Kbm {
     pub root: KbmRoot,
     pub start: PianoKey,
@@ -51,20 +51,20 @@ pub struct Kbm {
     pub count: u16,
 }
 
-#[derive(Drop)]
+#[derive(Clone, Copy)]
 pub enum KbmAnswer {
     Is(Kbm),
     Refused(Refusal),
 }
 
-#[derive(Drop)]
+#[derive(Clone, Copy)]
 pub enum DegreeAnswer {
     Is(Degree),
     Refused(Refusal),
 }
 
 // Which key the first entry is for: the reference key, as in the Rust, or the middle key, as in Scala.
-#[derive(Drop)]
+#[derive(Clone, Copy)]
 pub enum Counting {
     Reference,
     Middle,

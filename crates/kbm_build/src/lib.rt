@@ -14,13 +14,13 @@ use kbm::{Entry, Kbm, KbmAnswer, KbmRoot};
 use key::PianoKey;
 
 // A formal octave, where one was given.
-#[derive(Drop)]
+#[derive(Clone, Copy)]
 pub enum Octave {
     Given(i16),
     Missing,
 }
 
-#[derive(Drop)]
+#[derive(Clone, Copy)]
 pub struct KbmBuilder {
     pub root: KbmRoot,
     pub start: PianoKey,
@@ -30,7 +30,7 @@ pub struct KbmBuilder {
     pub count: usize,
 }
 
-#[derive(Drop)]
+#[derive(Clone, Copy)]
 pub enum BuilderAnswer {
     Is(KbmBuilder),
     Refused(Refusal),

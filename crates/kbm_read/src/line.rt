@@ -12,7 +12,7 @@ use kbm::Entry;
 use text::line::LineSays;
 
 // What the next line with content is: one of the seven required ones, or an entry.
-#[derive(Drop)]
+#[derive(Clone, Copy)]
 pub enum Due {
     Size,
     FirstKey,
@@ -25,7 +25,7 @@ pub enum Due {
 }
 
 // What the required lines say; `end` is the key after the last.
-#[derive(Drop)]
+#[derive(Clone, Copy)]
 pub struct Head {
     pub size: u16,
     pub first: i32,
@@ -37,7 +37,7 @@ pub struct Head {
 }
 
 // What the lines so far say: `count` entries were given.
-#[derive(Drop)]
+#[derive(Clone, Copy)]
 pub struct State {
     pub due: Due,
     pub head: Head,
@@ -45,21 +45,21 @@ pub struct State {
 }
 
 // What the lines say with one line more, or why it is refused.
-#[derive(Drop)]
+#[derive(Clone, Copy)]
 pub enum Step {
     Is(State),
     Refused(Refusal),
 }
 
 // The entry that a token is, or none.
-#[derive(Drop)]
+#[derive(Clone, Copy)]
 pub enum EntryRead {
     Is(Entry),
     IsNot,
 }
 
 // What a line gives the table: an entry, nothing, or nothing since it is a required line.
-#[derive(Drop)]
+#[derive(Clone, Copy)]
 pub enum Found {
     Is(Entry),
     Required,

@@ -4,7 +4,7 @@
 use libc::{STDERR_FILENO, STDIN_FILENO, STDOUT_FILENO};
 
 // How many bytes standard input had, or that a read of it failed.
-#[derive(Drop)]
+#[derive(Clone, Copy)]
 enum Input {
     Has(usize),
     Failed,

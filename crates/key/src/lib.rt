@@ -8,20 +8,20 @@ use base::Refusal;
 use integer_math::I32Answer;
 
 // A key of a real or virtual instrument, by its MIDI number, without any notion of a pitch.
-#[derive(Drop)]
+#[derive(Clone, Copy)]
 pub struct PianoKey(pub i32);
 
 // A degree of a scale: 0 is the root, and it goes on in both directions.
-#[derive(Drop)]
+#[derive(Clone, Copy)]
 pub struct Degree(pub i32);
 
-#[derive(Drop)]
+#[derive(Clone, Copy)]
 pub enum KeyAnswer {
     Is(PianoKey),
     Refused(Refusal),
 }
 
-#[derive(Drop)]
+#[derive(Clone, Copy)]
 pub enum MidiAnswer {
     Is(u8),
     Refused(Refusal),

@@ -2,7 +2,7 @@
 use kbm::Counting;
 
 // The counting that the arguments name; none for another word, or another number of arguments.
-#[derive(Drop)]
+#[derive(Clone, Copy)]
 pub enum Named {
     Is(Counting),
     Unknown,

@@ -5,7 +5,7 @@ use libc::STDERR_FILENO;
 pub const ROOM: usize = 65537;
 
 // How many bytes a file has, or that it cannot be read.
-#[derive(Drop)]
+#[derive(Clone, Copy)]
 pub enum Input {
     Has(usize),
     Failed,

@@ -11,7 +11,7 @@ use scl_read::SclReadAnswer;
 const PLACES: usize = 8192;
 
 // A scale that was read: its items.
-#[derive(Drop)]
+#[derive(Clone, Copy)]
 pub struct Scale {
     pub is_read: bool,
     pub scl: Scl,
@@ -22,7 +22,7 @@ pub struct Scale {
 }
 
 // A mapping that was read, and its table.
-#[derive(Drop)]
+#[derive(Clone, Copy)]
 pub struct Mapping {
     pub is_read: bool,
     pub kbm: Kbm,
@@ -30,7 +30,7 @@ pub struct Mapping {
 }
 
 // The pitches of keys, and beside each its refusal's number, 0 for a pitch.
-#[derive(Drop)]
+#[derive(Clone, Copy)]
 pub struct Sounds {
     pub hz: [f64; 1024],
     pub numbers: [u32; 1024],
@@ -50,7 +50,7 @@ const NONE: Kbm = Kbm {
 };
 
 // Whether a scale was read, and its count.
-#[derive(Drop)]
+#[derive(Clone, Copy)]
 struct Told {
     is_read: bool,
     scl: Scl,

@@ -8,20 +8,20 @@ ghost use Rattle.math.specs.OddPart.{odd_part};
 use base::Refusal;
 use integer_math::I32Answer;
 
-#[derive(Drop)]
+#[derive(Clone, Copy)]
 pub enum U32Answer {
     Is(u32),
     Refused(Refusal),
 }
 
 // What a division gives, both parts of it.
-#[derive(Drop)]
+#[derive(Clone, Copy)]
 pub struct Division {
     pub quotient: i32,
     pub remainder: u32,
 }
 
-#[derive(Drop)]
+#[derive(Clone, Copy)]
 pub enum DivisionAnswer {
     Is(Division),
     Refused(Refusal),

@@ -7,7 +7,7 @@ ghost use Rattle.numerals.specs.Scan.{grown_by, counted_by, run_at, lowered, spe
 const LEAST_OF_18_DIGITS: u64 = 100_000_000_000_000_000;
 
 // Digits one after another: their number, how many there are from the first nonzero one on, and where they end.
-#[derive(Drop)]
+#[derive(Clone, Copy)]
 struct Run {
     n: u64,
     significant: usize,
@@ -15,7 +15,7 @@ struct Run {
 }
 
 // What a numeral writes: n / 10^places with its sign, where `significant` is at most 18. Not plain: an exponent or a word.
-#[derive(Drop)]
+#[derive(Clone, Copy)]
 pub struct Numeral {
     pub negative: bool,
     pub n: u64,
@@ -25,7 +25,7 @@ pub struct Numeral {
 }
 
 // A numeral of Rust's f64, or none.
-#[derive(Drop)]
+#[derive(Clone, Copy)]
 pub enum Scanned {
     Is(Numeral),
     Bad,

@@ -13,40 +13,40 @@ ghost use Rattle.pitch.specs.Given.{computed};
 ghost use Rattle.pitch.specs.Ratios.{upward};
 
 // How far two frequencies are apart, as their quotient.
-#[derive(Drop)]
+#[derive(Clone, Copy)]
 pub struct Ratio(pub f64);
 
 // A frequency in Hz.
-#[derive(Drop)]
+#[derive(Clone, Copy)]
 pub struct Pitch(pub f64);
 
-#[derive(Drop)]
+#[derive(Clone, Copy)]
 pub enum RatioAnswer {
     Is(Ratio),
     Refused(Refusal),
 }
 
-#[derive(Drop)]
+#[derive(Clone, Copy)]
 pub enum PitchAnswer {
     Is(Pitch),
     Refused(Refusal),
 }
 
-#[derive(Drop)]
+#[derive(Clone, Copy)]
 pub enum BoolAnswer {
     Is(bool),
     Refused(Refusal),
 }
 
 // Which of two is the higher.
-#[derive(Drop)]
+#[derive(Clone, Copy)]
 pub enum Order {
     Lower,
     Same,
     Higher,
 }
 
-#[derive(Drop)]
+#[derive(Clone, Copy)]
 pub enum OrderAnswer {
     Is(Order),
     Refused(Refusal),

@@ -6,7 +6,7 @@ ghost use Rattle.powers.specs.Inner.{Power};
 pub const STEPS: u64 = 10;
 
 // What stands at a place of the table's first quarter, and at that place of each of the others.
-#[derive(Drop)]
+#[derive(Clone, Copy)]
 struct Quarters(u64, u64, u64, u64);
 
 // The table of `first_steps`, by the number of its bits but the two highest.

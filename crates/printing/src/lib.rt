@@ -5,7 +5,7 @@ ghost use Rattle.std.proofs.lemmas.List.Edits.{sets};
 ghost use Rattle.printing.specs.PrintText.{limited, digits_of, width_of, sign_text, point_text, parts_text, text_of, integer_text, whole_text, placed, written};
 
 // Where the next byte goes; or no room, and nothing was written.
-#[derive(Drop)]
+#[derive(Clone, Copy)]
 pub enum Placed {
     At(usize),
     Full,

@@ -5,7 +5,7 @@ use pitch::Ratio;
 use scl_build::{SclBuilder, SclBuilderAnswer};
 
 // The columns of the items.
-#[derive(Drop)]
+#[derive(Clone, Copy)]
 struct Items {
     kind: [u8; 16],
     cents: [f64; 16],
@@ -14,14 +14,14 @@ struct Items {
 }
 
 // The items after a step, and its answer.
-#[derive(Drop)]
+#[derive(Clone, Copy)]
 struct Stepped {
     items: Items,
     said: SclBuilderAnswer,
 }
 
 // A step of four fields.
-#[derive(Drop)]
+#[derive(Clone, Copy)]
 struct Step {
     sort: u32,
     x: f64,
@@ -160,7 +160,7 @@ fn kept(answer: SclBuilderAnswer, old: SclBuilder) -> SclBuilder {
 }
 
 // The items after a step and the builder, or the one before.
-#[derive(Drop)]
+#[derive(Clone, Copy)]
 struct Done {
     items: Items,
     builder: SclBuilder,

@@ -6,13 +6,13 @@ use scl_build::SclBuilder;
 use scl_read::SclReadAnswer;
 use searching::approximation::DegreeSearch;
 
-#[derive(Drop)]
+#[derive(Clone, Copy)]
 pub struct Reading {
     pub answer: SclReadAnswer,
     pub list: [SortedEntry; 8],
 }
 
-#[derive(Drop)]
+#[derive(Clone, Copy)]
 pub struct Building {
     pub answer: SclAnswer,
     pub list: [SortedEntry; 8],

@@ -34,7 +34,7 @@ pub fn pow10(k: u64) -> u64
 }
 
 // A long division: the quotient, what is left, and how often the dividend was doubled.
-#[derive(Drop)]
+#[derive(Clone, Copy)]
 pub struct Quotient {
     pub q: u64,
     pub rest: u64,

@@ -13,26 +13,26 @@ use base::Refusal;
 use pitch::{Ratio, RatioAnswer};
 
 // A scale, beside its tables: `count` items after place 0.
-#[derive(Drop)]
+#[derive(Clone, Copy)]
 pub struct Scl {
     pub count: u16,
 }
 
-#[derive(Drop)]
+#[derive(Clone, Copy)]
 pub enum SclAnswer {
     Is(Scl),
     Refused(Refusal),
 }
 
 // A fraction's denominator, where it was given.
-#[derive(Drop)]
+#[derive(Clone, Copy)]
 pub enum Denom {
     Given(u32),
     Lacking,
 }
 
 // An item of a scale.
-#[derive(Drop)]
+#[derive(Clone, Copy)]
 pub enum Item {
     Cents(f64),
     Fraction(u32, Denom),

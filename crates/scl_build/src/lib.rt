@@ -18,13 +18,13 @@ use floats::FloatAnswer;
 use pitch::Ratio;
 use scl::{Denom, Item, Scl, SclAnswer};
 
-#[derive(Drop)]
+#[derive(Clone, Copy)]
 pub struct SclBuilder {
     pub room: usize,
     pub count: usize,
 }
 
-#[derive(Drop)]
+#[derive(Clone, Copy)]
 pub enum SclBuilderAnswer {
     Is(SclBuilder),
     Refused(Refusal),

@@ -10,7 +10,7 @@ use integers::{U32, read_u32};
 use scl::{Denom, Item};
 
 // The item that a token is, or the number that it draws.
-#[derive(Drop)]
+#[derive(Clone, Copy)]
 pub enum ItemRead {
     Is(Item),
     IsNot(u32),

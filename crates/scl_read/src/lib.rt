@@ -21,20 +21,20 @@ use text::line::{LineSays, read_line};
 use text::lines::next_line;
 
 // The description: where its part of the text starts and ends.
-#[derive(Drop)]
+#[derive(Clone, Copy)]
 pub struct Description {
     pub start: usize,
     pub end: usize,
 }
 
 // A scale that was read, and its description.
-#[derive(Drop)]
+#[derive(Clone, Copy)]
 pub struct SclRead {
     pub scl: Scl,
     pub description: Description,
 }
 
-#[derive(Drop)]
+#[derive(Clone, Copy)]
 pub enum SclReadAnswer {
     Is(SclRead),
     Refused(Refusal),

@@ -11,7 +11,7 @@ use scl::Item;
 use text::line::LineSays;
 
 // What the next line with content is: the description, the number of notes, or an item.
-#[derive(Drop)]
+#[derive(Clone, Copy)]
 pub enum Due {
     Description,
     Count,
@@ -19,7 +19,7 @@ pub enum Due {
 }
 
 // What the lines so far say: the number of notes, how many items were given, and the last of them.
-#[derive(Drop)]
+#[derive(Clone, Copy)]
 pub struct State {
     pub due: Due,
     pub declared: u16,
@@ -28,14 +28,14 @@ pub struct State {
 }
 
 // What the lines say with one line more, or why it is refused.
-#[derive(Drop)]
+#[derive(Clone, Copy)]
 pub enum Step {
     Is(State),
     Refused(Refusal),
 }
 
 // What a line gives the table: an item, nothing, or nothing since it is a required line.
-#[derive(Drop)]
+#[derive(Clone, Copy)]
 pub enum Found {
     Is(Item),
     Required,

@@ -50,7 +50,7 @@ pub fn room_of(
 }
 
 // What stands in the four columns for an item.
-#[derive(Drop)]
+#[derive(Clone, Copy)]
 pub struct Stored {
     pub kind: u8,
     pub cents: f64,

@@ -20,14 +20,14 @@ use pitch::{Ratio, RatioAnswer};
 use scl::Item;
 
 // A period's ratio, and how many octaves it is.
-#[derive(Drop)]
+#[derive(Clone, Copy)]
 pub struct Period {
     pub ratio: f64,
     pub octaves: f64,
 }
 
 // A ratio brought within the period, and how many periods were taken off.
-#[derive(Drop)]
+#[derive(Clone, Copy)]
 pub struct Reduced {
     pub ratio: f64,
     pub wraps: i32,

@@ -12,21 +12,21 @@ use integer_math::I32Answer;
 use kbm::KbmRoot;
 
 // The nearest degree or key, and how far the target lies above it, a ratio.
-#[derive(Drop)]
+#[derive(Clone, Copy)]
 pub struct Approximation {
     pub approx_value: i32,
     pub deviation: f64,
 }
 
 // The number is a degree.
-#[derive(Drop)]
+#[derive(Clone, Copy)]
 pub enum DegreeSearch {
     Degree(Approximation),
     Refused(Refusal),
 }
 
 // The number is a key.
-#[derive(Drop)]
+#[derive(Clone, Copy)]
 pub enum KeySearch {
     Key(Approximation),
     Refused(Refusal),

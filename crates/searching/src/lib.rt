@@ -16,13 +16,13 @@ use base::Refusal;
 use pitch::{Ratio, RatioAnswer};
 
 // Of two neighbours the chosen one, and the deviation from it.
-#[derive(Drop)]
+#[derive(Clone, Copy)]
 pub struct Choice {
     pub upper: bool,
     pub deviation: f64,
 }
 
-#[derive(Drop)]
+#[derive(Clone, Copy)]
 pub enum ChoiceAnswer {
     Is(Choice),
     Refused(Refusal),
@@ -30,7 +30,7 @@ pub enum ChoiceAnswer {
 
 // The entry that a search found: its place and wraparounds, where it stands in the list, the periods below it, and the deviation from
 // it.
-#[derive(Drop)]
+#[derive(Clone, Copy)]
 pub struct Found {
     pub place: u32,
     pub wraps: i32,
@@ -39,7 +39,7 @@ pub struct Found {
     pub deviation: f64,
 }
 
-#[derive(Drop)]
+#[derive(Clone, Copy)]
 pub enum FoundAnswer {
     Is(Found),
     Refused(Refusal),

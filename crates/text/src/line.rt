@@ -8,7 +8,7 @@ use utf8::is_utf8;
 use white::{trim_end, trim_start};
 
 // What a line says. Its content stands from `start` to `end`, and its token from `start` to `token_end`.
-#[derive(Drop)]
+#[derive(Clone, Copy)]
 pub enum LineSays {
     NotUtf8,
     Blank,

@@ -8,7 +8,7 @@ use utf8::eights::pass;
 const AFTER_CR: u8 = 14;
 
 // A line ends before `end`, and the next starts at `next`.
-#[derive(Drop)]
+#[derive(Clone, Copy)]
 pub struct Ends {
     pub end: usize,
     pub next: usize,

@@ -21,7 +21,7 @@ use pitch::{PitchAnswer, RatioAnswer};
 use scl::Scl;
 
 // A run of keys was answered, or refused as a whole.
-#[derive(Drop)]
+#[derive(Clone, Copy)]
 pub enum RunAnswer {
     Done,
     Refused(Refusal),

@@ -10,7 +10,7 @@ use crate::eights::pass;
 const ASCII_END: u8 = 127;
 
 // So many bytes of a character are still due, and the next of them lies from `lo` to `hi`.
-#[derive(Drop)]
+#[derive(Clone, Copy)]
 pub struct State {
     pub need: u8,
     pub lo: u8,
@@ -18,7 +18,7 @@ pub struct State {
 }
 
 // What a byte does to the state: it goes on, or the text is no UTF-8.
-#[derive(Drop)]
+#[derive(Clone, Copy)]
 pub enum Step {
     Go(State),
     Stop,

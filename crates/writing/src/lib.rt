@@ -9,7 +9,7 @@ use base::Refusal;
 use printing::Placed;
 
 // How many bytes were written.
-#[derive(Drop)]
+#[derive(Clone, Copy)]
 pub enum SizeAnswer {
     Is(usize),
     Refused(Refusal),
