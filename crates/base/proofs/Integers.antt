@@ -8,7 +8,7 @@ use native.Mathlib.Nat.{le_trans, le_refl, mul-le-mul, div-le_self, mod-lt}
 use native.Mathlib.Omega.{arith}
 use lib.Dec.{ltb, leb}
 use lib.IntN.{ℤ, pos, negsuc, neg_ℤ, sub_ℕ, ◌+ℤ◌, ◌-ℤ◌, ◌*ℤ◌}
-use lib.Signed.{mag, lt_z, le_z}
+use lib.Signed.{mag, lt_z}
 use borrow.Author.Tests.{ltb-true, ltb-false, le-ltb, leb-true}
 use Rattle.base.specs.Integers.{floor_div, floor_mod, in_i32}
 

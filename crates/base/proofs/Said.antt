@@ -1,8 +1,8 @@
 -- Two results of one input are equal: the general law, of which each public call has a line. Assumes nothing.
-use mathlib.Core.Path.{◌≡◌, refl, sym, ◌∙◌, ap}
+use mathlib.Core.Path.{◌≡◌, sym, ◌∙◌, ap}
 use mathlib.Core.Logic.{◌⊎◌, inl, inr}
 use mathlib.Core.Bool.{Bool, true, false}
-use Prim.Native.Nat.{ℕ, ◌≤◌}
+use Prim.Native.Nat.{ℕ}
 use native.Mathlib.Omega.{arith}
 use Rattle.base.specs.Said.{Said, gives, refuses, refusal, Numbered, NumberedOr, pick, and_then, One}
 use Rattle.base.specs.declared.Refusal.{Refusal}

@@ -95,6 +95,10 @@ quotient_within a b n k (fin false m e) (fin false i d) sa sb v w p l h =
     (round_within a b (n * (down e * down d)) (k * (down e * down d)) sa sb (mul-pos p (mul-pos (down_pos e) (down_pos d)))
     (le_trans (mul-le-mul_right (down e * down d) l) (le_of_eq (mul_right_comm n (2 ^ a) (down e * down d))))
     (le_trans (mul-le-mul_right (down e * down d) h) (le_of_eq (mul_assoc (2 ^ b) k (down e * down d)))))
+quotient_within a b n k nan y sa sb v w p l h = elim v [ ]
+quotient_within a b n k (inf _) y sa sb v w p l h = elim v [ ]
+quotient_within a b n k (fin false m e) nan sa sb v w p l h = elim w [ ]
+quotient_within a b n k (fin false m e) (inf _) sa sb v w p l h = elim w [ ]
 
 -- of 16 bits each, as floats
 whole_value : (n : ℕ) → n ≤ 65535 → HasValue (of_int binary64 (pos n)) false n 1

@@ -43,6 +43,8 @@ field_under f s x t h e = go (eqb (suc x) (ones f)) (eqb t 0) h (eq→eqb e)
 pub units_of_law : (x : Float) (s : Bool) (n : ℕ) → HasValue x s n (2 ^ 1074) → (units_of x ≡ n) × (negative x ≡ s)
 unfolding units_of negative
 units_of_law (fin t m e) s n v = (ap (λ (z : ℕ). z / down e) v.1 ∙ mul-div_cancel n (down_pos e), v.0)
+units_of_law nan s n v = elim v [ ]
+units_of_law (inf _) s n v = elim v [ ]
 
 -- an f64's digits and exponent, in units of 2 ^ -1074
 pub record Located (x : Float) (s : Bool) (q j : ℕ) : Type 0 where

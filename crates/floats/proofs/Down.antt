@@ -66,6 +66,8 @@ lt_whole (fin true m' e') n m e v h = absurd (true≢false v.0)
 lt_whole (fin false m' e') n m e v h =
     lt_of_mul-lt-mul_right (down e')
     (subst (λ (z : ℕ). z < m * up e * down e') (crossed (m' * up e') n (down e') (down e) v.1) (ltb-true (m' * up e' * down e) (m * up e * down e') h))
+lt_whole nan n m e v h = elim v [ ]
+lt_whole (inf _) n m e v h = elim v [ ]
 
 pub le_whole : (y : Float) (n m : ℕ) (e : ℤ) → HasValue y false n 1 → lt y (fin false m e) ≡ false → m * up e ≤ n * down e
 unfolding lt
@@ -74,6 +76,8 @@ le_whole (fin false m' e') n m e v h =
     le_of_mul-le-mul_right
     (subst (λ (z : ℕ). m * up e * down e' ≤ z) (crossed (m' * up e') n (down e') (down e) v.1) (ltb-false (m' * up e' * down e) (m * up e * down e') h))
     (down_pos e')
+le_whole nan n m e v h = elim v [ ]
+le_whole (inf _) n m e v h = elim v [ ]
 
 -- rounded up where something is left over, and where nothing is
 ceil_up : (N D : ℕ) → 0 < D → N / D * D < N → (N + (D - 1)) / D ≡ N / D + 1

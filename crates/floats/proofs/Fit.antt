@@ -1,5 +1,5 @@
 -- What it says of a number that it fits an f64. Assumes nothing.
-use Rattle.std.proofs.Common.{◌≡◌, ℕ, zero, suc, ◌+◌, ◌-◌, ◌*◌, ◌%◌, ◌^◌, ◌<◌, ◌≤◌, Bool, true, ◌&&◌, T, eqb, ltb, leb, ℤ, pos, negsuc, sym, refl, ap, ◌∙◌, subst, lt_irrefl, mul_assoc, mul-lt-mul_of_pos_right, one-mul, mul-one, arith, eqb→eq, ltb→lt, leb→le, pow_pos, pow-add, eqb-true}
+use Rattle.std.proofs.Common.{◌≡◌, ℕ, zero, suc, ◌+◌, ◌*◌, ◌%◌, ◌^◌, ◌<◌, ◌≤◌, Bool, true, ◌&&◌, T, eqb, ltb, leb, ℤ, pos, negsuc, sym, refl, ap, ◌∙◌, subst, lt_irrefl, mul_assoc, mul-lt-mul_of_pos_right, one-mul, mul-one, arith, eqb→eq, ltb→lt, leb→le, pow_pos, pow-add, eqb-true}
 use native.Mathlib.Nat.{pow-succ'}
 use lib.Ieee.Exact.{round_exact}
 use lib.Ieee.Back.{whole_unique}

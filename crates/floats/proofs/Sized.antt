@@ -1,9 +1,9 @@
 -- How large an f64 is: |x| is at most a whole number, and what the float steps keep of that. Assumes nothing.
-use Rattle.std.proofs.Common.{◌≡◌, ℕ, zero, suc, ◌+◌, ◌-◌, ◌*◌, ◌/◌, ◌%◌, ◌^◌, ◌<◌, ◌≤◌, min, Bool, true, false, cond, not, ◌&&◌, T, ltb, ℤ, pos, neg_ℤ, sym, ap, ◌∙◌, subst, true≢false, le_trans, le_of_eq, mul-le-mul_right, mul_assoc, mul_comm, div-lt_iff_lt-mul, add-mul, mul-le-mul, mul-pos, mul-one, mul_right_comm, le_of_mul-le-mul_right, arith, lit<, lt→ltb, ne_eqb}
+use Rattle.std.proofs.Common.{◌≡◌, ℕ, zero, suc, ◌+◌, ◌-◌, ◌*◌, ◌/◌, ◌%◌, ◌^◌, ◌<◌, ◌≤◌, min, Bool, true, false, cond, not, ◌&&◌, T, ltb, ℤ, pos, neg_ℤ, sym, ap, ◌∙◌, subst, true≢false, le_trans, le_of_eq, mul-le-mul_right, mul_assoc, mul_comm, div-lt_iff_lt-mul, add-mul, mul-pos, mul-one, mul_right_comm, le_of_mul-le-mul_right, arith, lit<, lt→ltb, ne_eqb}
 use mathlib.Core.Bool.{beq}
 use Prim.Native.Nat.{compare}
 use native.Mathlib.Nat.{div-le_of_le-mul}
-use lib.Ieee.{Float, inf, fin, binary64, up, down, size, nearest, odd, units, round, neg, sum, add, sub, div, lt, le, eq, unlike, of_int, to_signed}
+use lib.Ieee.{Float, inf, fin, binary64, up, down, size, nearest, odd, units, round, neg, sum, add, sub, div, lt, le, eq, unlike, of_int, to_signed, nan}
 use lib.Ieee.Exact.{HasValue}
 use lib.Ieee.Back.{round_whole}
 use lib.Ieee.Fits.{down_pos, up_pos, round_is}
@@ -59,10 +59,14 @@ at_most n m e (fin false k d) v t =
     (le_of_mul-le-mul_right
     (le_trans (le_pos m k e d t) (le_of_eq (ap (λ (z : ℕ). z * down e) (sym (mul-one (k * up d)) ∙ v.1) ∙ mul_right_comm n (down d) (down e))))
     (down_pos d))
+at_most n m e nan v t = elim v [ ]
+at_most n m e (inf _) v t = elim v [ ]
 
 not_endless : (n : ℕ) (hi : Float) → HasValue hi false n 1 → T (le (inf false) hi) → ⊥
 unfolding le lt eq
 not_endless n (fin s k d) v t = t
+not_endless n nan v t = elim v [ ]
+not_endless n (inf _) v t = elim v [ ]
 
 under_whole : {y : Float} (n : ℕ) (hi : Float) → Shape false y → HasValue hi false n 1 → T (le y hi) → Sized n y
 under_whole n hi (number m e) v t = at_most n m e hi v t

@@ -5,12 +5,11 @@ use mathlib.Core.Bool.{Bool, true, false, ◌&&◌}
 use mathlib.Core.Logic.{◌⊎◌, ⊎_elim}
 use Prim.Native.Nat.{ℕ, zero, suc, ◌+◌, ◌-◌, ◌≤◌, ◌<◌}
 use native.Mathlib.Nat.{eq-or-lt_of_le}
-use native.Mathlib.Numerals.{add-one}
 use native.Mathlib.Omega.{arith}
 use lib.Dec.{leb}
 use lib.ListN.{length, get_or}
 use borrow.Author.Tests.{leb-true}
-use Rattle.utf8.specs.Eights.{between, byte_between, eight_between, Passed}
+use Rattle.utf8.specs.Eights.{byte_between, eight_between, Passed}
 
 -- both of two tests
 both : (a b : Bool) → a && b ≡ true → (a ≡ true) × (b ≡ true)

@@ -64,6 +64,7 @@ shape c (inr (inr (inr (inr (inr (inr (inr (inl h)))))))) = only3 0x2029 226 128
 shape c (inr (inr (inr (inr (inr (inr (inr (inr (inl h))))))))) = only3 0x202F 226 128 175 refl (omega arith) refl refl refl refl refl c h
 shape c (inr (inr (inr (inr (inr (inr (inr (inr (inr (inl h)))))))))) = only3 0x205F 226 129 159 refl (omega arith) refl refl refl refl refl c h
 shape c (inr (inr (inr (inr (inr (inr (inr (inr (inr (inr (inl h))))))))))) = only3 0x3000 227 128 128 refl (omega arith) refl refl refl refl refl c h
+shape c (inr (inr (inr (inr (inr (inr (inr (inr (inr (inr (inr x11))))))))))) = elim x11 [ ]
 
 -- AND BYTES that a test holds for are a character of the set
 

@@ -1,0 +1,19 @@
+-- `integer_math::difference` meets its contract: 64 bits hold what two numbers of 32 bits make.
+-- Assumes nothing.
+use lib.IntN.{◌-ℤ◌}
+use mir.Syntax.{w64}
+use Rattle.base.proofs.Integers.{mag_sub}
+use Rattle.base.proofs.Machine.{widen_fits, exact_fits, exact_is}
+use Rattle.integer_math.proofs.difference.Goals as goal
+
+pub overflow_cast-result : goal.overflow_cast-result
+overflow_cast-result c = widen_fits w64 tt c.ranges.a
+
+pub overflow_cast-result-2 : goal.overflow_cast-result-2
+overflow_cast-result-2 c = widen_fits w64 tt c.ranges.b
+
+pub overflow_sub-result : goal.overflow_sub-result
+overflow_sub-result c = exact_fits ◌-ℤ◌ mag_sub c.ranges.a c.ranges.b
+
+pub returns : goal.returns
+returns c = exact_is ◌-ℤ◌ mag_sub c.ranges.a c.ranges.b

@@ -1,0 +1,23 @@
+-- `math::i32_dr_u` meets its contract: 10 where the denominator is 0, else what `quotient` and `remainder` answer.
+-- Assumes nothing.
+use borrow.Author.Rules.{rules}
+use borrow.Author.Tests.{eq-eqb, ne_eqb}
+use mir.Facts.{to_z-of_z}
+use Rattle.base.specs.Integers.{floor_div}
+use Rattle.base.proofs.Machine.{told}
+use mir.Syntax.{w32}
+use Rattle.math.specs.Division.{division_of}
+use Rattle.math.proofs.Theorems.{gives_parts}
+use Rattle.math.proofs.i32_dr_u.Goals as goal
+
+pub returns-then-denom-eq0 : goal.returns-then-denom-eq0
+unfolding division_of
+returns-then-denom-eq0 c = rw (eq-eqb c.args.denom 0 c.if-denom-eq0.true)
+
+pub returns : goal.returns
+unfolding division_of
+returns c =
+    rw (ne_eqb c.args.denom 0 c.if-denom-eq0.false)
+    (gives_parts
+    (told {w' = w32} (λ z. floor_div z c.args.denom) c.ranges.numer (record { sfits = c.quotient.type_inv }) c.quotient.ensures)
+    (rw (to_z-of_z c.ranges.numer) at c.remainder.ensures))
