@@ -2,7 +2,7 @@
 use Rattle.std.proofs.Common.{◌≡◌, ℕ, zero, suc, ◌+◌, ◌-◌, ◌*◌, ◌/◌, ◌%◌, ◌^◌, ◌<◌, ◌≤◌, Bool, true, false, T, ℤ, pos, negsuc, ◌-ℤ◌, sym, refl, ap, ◌∙◌, subst, le_trans, le_of_eq, mul-le-mul_right, mod-lt, mul_assoc, suc-mul, mul_comm, div-lt_iff_lt-mul, add-mul, add_comm, div-add-mod', mul-one, mul_right_comm, le_of_mul-le-mul_right, mul-div_cancel, arith, lit<, lit≤, pow_pos, pow-add}
 use native.Mathlib.Nat.{mul-sub, zero-div}
 use lib.Arith.{digits_div}
-use lib.Ieee.{Float, fin, binary64, fits, up, down, round}
+use lib.Ieee.{Float, fin, binary64, fits, up, down, round, inf, nan}
 use lib.Ieee.Fits.{down_pos}
 use lib.Ieee.Nearest.{div_same}
 use lib.Ieee.Scale.{finite, round_same}
@@ -88,6 +88,8 @@ floor_literal (fin s m e) p h b =
     let l : A ≤ 2 ^ 62 * D = le_of_mul-le-mul_right (le_trans (le_of_eq v) m) (pow_pos 1022) in
     subst (λ (F : ℕ). Diff (floor_div (signed s A) D) F (2 ^ 62)) (same_floor s (2 ^ 62) A D u (2 ^ 1022) (down_pos e) (pow_pos 1022) v)
     (floor_diff s (2 ^ 62) A D (down_pos e) l)
+floor_literal nan p h b = elim h [ ]
+floor_literal (inf _) p h b = elim h [ ]
 
 pub e_literal : (x : Float) → T (fits binary64 x) → T (finite x) → units_of x ≤ 900 * 2 ^ 1074
     → plain_power (plain_floor x) ≡ power_of (floor_of x)

@@ -2,7 +2,7 @@
 use Rattle.std.proofs.Common.{◌≡◌, ℕ, zero, suc, ◌+◌, ◌-◌, ◌*◌, ◌^◌, ◌<◌, ◌≤◌, Bool, true, false, T, ℤ, pos, negsuc, ◌+ℤ◌, ◌-ℤ◌, ◌*ℤ◌, sym, refl, ap, ◌∙◌, subst, le_trans, le_of_eq, lt_of_lt_of_le, add-zero, lt_irrefl, mul-le-mul_right, mul_assoc, mul-pos, lt_of_not-le, zero-add, zero-mul, mul-one, mul_right_comm, not-le_of_lt, arith, lit<, pow_pos, pow_mono, pow-add, shl_lt, le-leb}
 use native.Mathlib.Nat.{eq_of_mul-eq-mul_right}
 use borrow.Author.Tests.{lt-leb}
-use lib.Ieee.{Float, fin, binary64, fits, up, down, round, size}
+use lib.Ieee.{Float, fin, binary64, fits, up, down, round, size, inf, nan}
 use lib.Ieee.Fits.{down_pos}
 use lib.Ieee.Digits.{size-lt, size-le, size_reaches}
 use lib.Ieee.Scale.{finite}
@@ -97,3 +97,5 @@ l_literal (fin s zero e) d k p h u lo hi = absurd (none e (d * 2 ^ k) (2 ^ 1074)
 l_literal (fin s (suc m) e) d k p h u lo hi =
     let q = parts (suc m) e d k (omega arith) (small s m e p) lo hi ((whole_units (fin s (suc m) e) p h).1 ∙ ap (λ (x : ℕ). x * down e) u) in
     ap (λ (x : ℕ). plain_log x k) (sym q.1) ∙ at_literal (suc m * 2 ^ (53 - size (suc m))) k (e -ℤ pos (53 - size (suc m))) q.0
+l_literal nan d k p h u lo hi = elim h [ ]
+l_literal (inf _) d k p h u lo hi = elim h [ ]

@@ -12,10 +12,10 @@ struct Quarters(u64, u64, u64, u64);
 // The table of `first_steps`, by the number of its bits but the two highest.
 fn first_steps_at(j: u64) -> Quarters
     requires { j < 256 }
-    ensures fact_1 { ((b : ℕ) → b / 2 ^ 42 % 1024 ≡ j → Power b 10 result.0) }
-    ensures fact_2 { ((b : ℕ) → b / 2 ^ 42 % 1024 ≡ 256 + j → Power b 10 result.1) }
-    ensures fact_3 { ((b : ℕ) → b / 2 ^ 42 % 1024 ≡ 512 + j → Power b 10 result.2) }
-    ensures fact_4 { ((b : ℕ) → b / 2 ^ 42 % 1024 ≡ 768 + j → Power b 10 result.3) }
+    ensures first { ((b : ℕ) → b / 2 ^ 42 % 1024 ≡ j → Power b 10 result.0) }
+    ensures second { ((b : ℕ) → b / 2 ^ 42 % 1024 ≡ 256 + j → Power b 10 result.1) }
+    ensures third { ((b : ℕ) → b / 2 ^ 42 % 1024 ≡ 512 + j → Power b 10 result.2) }
+    ensures fourth { ((b : ℕ) → b / 2 ^ 42 % 1024 ≡ 768 + j → Power b 10 result.3) }
 {
     match j {
         0 => Quarters(

@@ -1,6 +1,6 @@
 -- What a part of E's steps multiplies by, rounded down, is one number, and so is what it adds. Assumes nothing.
 use mathlib.Core.Path.{◌≡◌, sym, ◌∙◌}
-use Prim.Native.Nat.{ℕ, ◌+◌, ◌*◌, ◌^◌, ◌≤◌, ◌<◌}
+use Prim.Native.Nat.{ℕ, ◌+◌, ◌*◌, ◌≤◌, ◌<◌}
 use native.Mathlib.Nat.{lt_of_le_of_lt, lt_of_mul-lt-mul_right}
 use native.Mathlib.Omega.{arith}
 use Rattle.power_parts.specs.Parts.{Part, Rise}

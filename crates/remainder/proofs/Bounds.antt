@@ -11,7 +11,7 @@ use lib.Ieee.{Float, fin, binary64, up, down, round, sum, add, sub, div, rem, lt
 use lib.Ieee.Fits.{down_pos}
 use Rattle.base.specs.Said.{pick}
 use Rattle.floats.specs.Floats.{abs, trunc, zero_f, one_f}
-use Rattle.floats.proofs.Order.{Zero, Negative, nfin, negative}
+use Rattle.floats.proofs.Order.{Zero, Negative, nfin, negative, ninf}
 use Rattle.floats.proofs.Sized.{Sized, sized, size_of, sized_more, times_le, round_sized, add_sized, sub_sized, div_sized_by, trunc_sized}
 use Rattle.remainder.specs.Euclid.{rem_euclid, div_euclid}
 
@@ -64,6 +64,7 @@ abs_sized (sized s m e l) = sized false m e l
 moved_up : {n : ℕ} {r b : Float} → n ≤ 2 ^ 53 → Negative r → Sized n r → Sized n b → Sized n (add binary64 r (abs b))
 unfolding abs
 moved_up {n} h (nfin m e p) v (sized t i d r) = gap_sized n m i e d h (size_of v) r
+moved_up {n = n} {b = b} h ninf v _ = elim v [ ]
 
 pub rem_euclid_sized : {n k : ℕ} (x y : Float) → n ≤ 2 ^ 53 → Sized n x → Sized n y → Apart k y → Sized n (rem_euclid x y)
 unfolding of_bits

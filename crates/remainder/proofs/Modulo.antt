@@ -60,6 +60,10 @@ rem_units (fin u m e) (fin v n d) s t A B x y p =
         let q : 0 < B * g = mul-pos pb pg in
         let e : n * u * c ≡ 0 = ap (λ (i : ℕ). i * u * c) z ∙ ap (λ (i : ℕ). i * c) (zero-mul u) ∙ zero-mul c in
         omega arith
+rem_units nan b s t A B x y p = elim x [ ]
+rem_units (inf _) b s t A B x y p = elim x [ ]
+rem_units (fin u m e) nan s t A B x y p = elim y [ ]
+rem_units (fin u m e) (inf _) s t A B x y p = elim y [ ]
 
 -- ---- put together again
 pub size_zero : (d k : ℕ) → d ≡ 0 → of_bits binary64 0 ≡ round binary64 false (d * 2 ^ k) (2 ^ 1074)
@@ -89,6 +93,10 @@ by_zero (fin s m e) (fin u n f) t d k h v z = rw (eq-eqb n 0 (none n (up f) (2 ^
     none : (n u c g : ℕ) → 0 < u → 0 < c → n * u * c ≡ 0 → n ≡ 0
     none zero u c g p q e = refl
     none (suc n) u c g p q e = let l : 0 < suc n * u * c = mul-pos (mul-pos (omega arith) p) q in absurd (omega arith)
+by_zero nan b t d k h v z = elim h [ ]
+by_zero (inf _) b t d k h v z = elim h [ ]
+by_zero (fin s m e) nan t d k h v z = elim v [ ]
+by_zero (fin s m e) (inf _) t d k h v z = elim v [ ]
 
 module _ (a b : Float) (s t : Bool) (da ka db kb : ℕ) (x : HasValue a s (da * 2 ^ ka) (2 ^ 1074)) (y : HasValue b t (db * 2 ^ kb) (2 ^ 1074)) (some : db ≡ 0 → ⊥) where
   some_units : 0 < db * 2 ^ kb

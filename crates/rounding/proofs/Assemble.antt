@@ -4,7 +4,7 @@ use native.Mathlib.Nat.{eq_of_mul-eq-mul_right}
 use lib.Pow.{pow-lt, shl-shr}
 use lib.Ieee.Exact.{HasValue, units_val}
 use lib.Arith.{digits_lt}
-use lib.Ieee.{Float, fin, binary64, low, size, units, up, down, round, fits, to_bits, of_bits, nan_bits}
+use lib.Ieee.{Float, fin, binary64, low, size, units, up, down, round, fits, to_bits, of_bits, nan_bits, inf, nan}
 use lib.Ieee.Fits.{down_pos, round-fits, round_is, core}
 use lib.Ieee.Digits.{size-lt, size-le}
 use lib.Ieee.Nearest.{closest, closest_same}
@@ -90,6 +90,8 @@ bits_of (fin false m e) h k f v lo hi =
     let n : m * up e * 2 ^ 1074 / down e ≡ h * 2 ^ k = val_units m (up e) (down e) h k (down_pos e) v.1 in
     let t : to_bits binary64 (fin false m e) ≡ k * 2 ^ 52 + h = ap (λ (x : ℕ). 0 + (size x - 53) * 2 ^ 52 + x / 2 ^ (size x - 53)) n ∙ omega (arith, pattern_is h k lo hi) in
     ap (of_bits binary64) (sym t) ∙ of_bits-to_bits binary64 (fin false m e) f
+bits_of nan h k f v lo hi = elim v [ ]
+bits_of (inf _) h k f v lo hi = elim v [ ]
 
 -- it does not overflow
 pub under_top : (h k : ℕ) → h ≤ 2 ^ 53 → k ≤ 2040 → h * 2 ^ k < 2 ^ 2098

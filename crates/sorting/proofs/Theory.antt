@@ -37,7 +37,7 @@ module _ {b : ℕ → ℕ → Bool} (o : Strict b) where
           | inl yx ↦ simp (zy, zx, yx, o.asym x y yx)
           | inr yx ↦ elim (bool_cases (b x y)) [
             | inl xy ↦ simp (zy, zx, yx, xy)
-            | inr xy ↦ rw (o.total x y xy yx)
+            | inr xy ↦ subst (λ (t : ℕ). insert_by b x (insert_by b t (z ∷ s)) ≡ insert_by b t (insert_by b x (z ∷ s))) (o.total x y xy yx) refl
           ]
         ]
       ]
