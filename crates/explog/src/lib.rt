@@ -35,9 +35,9 @@ fn moved_up(negative: bool, w: u64) -> u64
 
 // The whole part of 2^62 + v or 2^62 - v, for v = d * 2^(k - 1022), at most 2^62: E's f, moved up to be above zero.
 fn floor_sum(negative: bool, d: u64, k: u64) -> u64
-    requires fact_1 { d < 2 ^ 53 }
-    requires fact_2 { d * 2 ^ k ≤ 2 ^ 1084 }
-    requires fact_3 { k ≤ 1032 }
+    requires few_digits { d < 2 ^ 53 }
+    requires within { d * 2 ^ k ≤ 2 ^ 1084 }
+    requires shift { k ≤ 1032 }
     ensures { result ≡ pick negative (2 ^ 1084 - d * 2 ^ k) (2 ^ 1084 + d * 2 ^ k) / 2 ^ 1022 }
 {
     if k <= 968 {

@@ -89,8 +89,8 @@ pub fn nearest_scaled(n: u64, e: u64, up: u64) -> f64
 
 // The f64 nearest to p * 2^(n - 1086).
 pub fn nearest_power(p: u64, n: u64) -> f64
-    requires fact_1 { (2 ^ 62 ≤ p) × (p < 2 ^ 63) }
-    requires fact_2 { (124 ≤ n) × (n ≤ 1924) }
+    requires digits { (2 ^ 62 ≤ p) × (p < 2 ^ 63) }
+    requires exponent { (124 ≤ n) × (n ≤ 1924) }
     ensures { result ≡ Ieee.round binary64 false (p * 2 ^ n) (2 ^ 1086) }
 {
     std::num::nearest_u64_to_f64(p) * f64::from_bits((n - 63) << 52)

@@ -12,11 +12,11 @@ shifted n l h = let k : n - 63 < 2 ^ 11 = omega arith in shl_exact 11 52 64 k (l
 
 pub float_from_bits-result : goal.float_from_bits-result
 float_from_bits-result c =
-    subst (λ (b : ℕ). T (not (nan_bits binary64 b))) (sym (shifted c.args.n c.requires.fact_2.0 c.requires.fact_2.1))
+    subst (λ (b : ℕ). T (not (nan_bits binary64 b))) (sym (shifted c.args.n c.requires.exponent.0 c.requires.exponent.1))
     (subst (λ (z : Bool). T (not z)) (sym (nan_bits_is binary64 ((c.args.n - 63) * 2 ^ 52)))
-    (has_no_nan _ _ _ _ (factor c.args.p c.args.n c.requires.fact_1.0 c.requires.fact_1.1 c.requires.fact_2.0 c.requires.fact_2.1)))
+    (has_no_nan _ _ _ _ (factor c.args.p c.args.n c.requires.digits.0 c.requires.digits.1 c.requires.exponent.0 c.requires.exponent.1)))
 
 pub returns : goal.returns
 returns c =
-    (λ i. mul binary64 (c.nearest_u64_to_f64.ensures i) (of_bits binary64 (shifted c.args.n c.requires.fact_2.0 c.requires.fact_2.1 i)))
-    ∙ nearest_law c.args.p c.args.n c.requires.fact_1.0 c.requires.fact_1.1 c.requires.fact_2.0 c.requires.fact_2.1
+    (λ i. mul binary64 (c.nearest_u64_to_f64.ensures i) (of_bits binary64 (shifted c.args.n c.requires.exponent.0 c.requires.exponent.1 i)))
+    ∙ nearest_law c.args.p c.args.n c.requires.digits.0 c.requires.digits.1 c.requires.exponent.0 c.requires.exponent.1

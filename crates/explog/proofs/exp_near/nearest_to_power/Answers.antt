@@ -21,8 +21,8 @@ float_from_bits-result c = no_nan_there _ _ _ c.near_power.ensures.below (omega 
 pub nearest_power-requires : goal.nearest_power-requires
 nearest_power-requires c =
     record {
-      fact_1 = (c.power_bits.ensures.above, power_below _ 52 _ (omega arith) c.power_bits.ensures);
-      fact_2 = c.requires;
+      digits = (c.power_bits.ensures.above, power_below _ 52 _ (omega arith) c.power_bits.ensures);
+      exponent = c.requires;
     }
 
 pub returns-then-moved-set : goal.returns-then-moved-set
