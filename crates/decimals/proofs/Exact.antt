@@ -1,6 +1,6 @@
 -- One division is one rounding: the quotient of two whole numbers that are f64 values is the f64 nearest to their fraction.
 -- Assumes nothing.
-use Rattle.std.proofs.Common.{◌≡◌, ℕ, zero, suc, ◌+◌, ◌*◌, ◌^◌, ◌<◌, ◌≤◌, false, eqb, pos, sym, refl, ap, ◌∙◌, lt_of_lt_of_le, lt_of_le_of_lt, mul_assoc, mul_comm, mul-pos, mul-one, mul_right_comm, arith, lit<, pow_mono, pow-add, shl_lt, ne_eqb}
+use Rattle.std.proofs.Common.{◌≡◌, ℕ, zero, suc, ◌+◌, ◌*◌, ◌^◌, ◌<◌, ◌≤◌, false, pos, sym, refl, ap, ◌∙◌, lt_of_lt_of_le, lt_of_le_of_lt, mul_assoc, mul-pos, mul-one, mul_right_comm, arith, lit<, pow_mono, pow-add, shl_lt, ne_eqb}
 use native.Mathlib.Nat.{mul-mul-mul_comm, pow-succ', pow-le-pow_right}
 use lib.Ieee.{Float, nan, inf, fin, binary64, up, down, round, div, of_int}
 use lib.Ieee.Back.{round_whole}

@@ -1,6 +1,6 @@
 -- THE THEOREMS OF DECIMALS, document 01, "Lines", Decimal: a text gives v exactly if it is a supported f64 text whose
 -- nearest f64 is v; it is unsupported (9) exactly for one of the four causes; all others are no numerals. Assumes nothing.
-use Rattle.std.proofs.Common.{◌≡◌, ℕ, ◌+◌, ◌^◌, ◌<◌, ◌≤◌, Bool, true, false, leb, ◌↔◌, List, ◌++◌, length, sym, refl, ap, ◌∙◌, arith, le-leb, leb-false}
+use Rattle.std.proofs.Common.{◌≡◌, ℕ, ◌^◌, ◌<◌, ◌≤◌, Bool, true, false, leb, ◌↔◌, List, ◌++◌, length, sym, refl, ap, ◌∙◌, arith, le-leb, leb-false}
 use lib.Ieee.{Float, round, binary64}
 use borrow.Author.Tests.{lt-leb}
 use Rattle.base.specs.Said.{pick}

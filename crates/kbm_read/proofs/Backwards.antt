@@ -98,7 +98,7 @@ module _ (room : ℕ) (s : List ℕ) (d : ℕ) where
 
     fault_backwards : Fault mapping End room t.says backwards_range d → BackwardsText s d
     fault_backwards (Fault.at_required before line after e p done f more q vs b w) = at_line before line after e p done f more q vs b w
-    fault_backwards (Fault.at_entry_lem before line after e p vs es b l w) = absurd (after_head es line w)
+    fault_backwards (Fault.at_entry before line after e p vs es b l w) = absurd (after_head es line w)
     fault_backwards (Fault.missing e done f more q p vs b) = absurd (omega (arith, e))
     fault_backwards (Fault.at_end p vs es b l w) = absurd (at_end (size_of vs) es w)
 

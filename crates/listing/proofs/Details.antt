@@ -32,7 +32,7 @@ pub fault_line : {F : Format} {End : Values F F.required → List F.Entry → �
     Fault F End room ms n d → DetailOf (length ms) (length F.required) n d
 fault_line (Fault.at_required before line after e p done f more rq vs b w) =
     inl (omega (arith, ap length e, p, length-append before (line ∷ after)))
-fault_line (Fault.at_entry_lem before line after e p vs es b f w) =
+fault_line (Fault.at_entry before line after e p vs es b f w) =
     inl (omega (arith, ap length e, p, length-append before (line ∷ after)))
 fault_line (Fault.missing e done f more rq p vs b) =
     inr (e, omega (arith, p), omega (arith, p, ap length rq, length-append done (f ∷ more)))

@@ -136,7 +136,7 @@ module _ (F : Format) (R : Reads F) {X : Type 0} (finish : R.Head → List F.Ent
       in_entries : q.fields ≡ [] → WrongEntry F room q.es line n → Fault F End room ms n d
       in_entries p w =
           let g = all_so l p in
-          Fault.at_entry_lem before line after m (omega (arith, at)) g.vs g.es g.lines (omega (arith, ap length g.given, l.fits (omega arith))) (rw g.given at w)
+          Fault.at_entry before line after m (omega (arith, at)) g.vs g.es g.lines (omega (arith, ap length g.given, l.fits (omega arith))) (rw g.given at w)
 
     stop_fault : {ms : List Meaning} (before : List Meaning) (line : Meaning) (after : List Meaning) {q : Place F R} {n d : ℕ} → ms ≡ before ++ line ∷ after → Leads F R room (at_start F R h) before q →
         step_on F R room (1 + length before) line q ≡ refuses n d → Fault F End room ms n d
@@ -226,7 +226,7 @@ module _ (F : Format) (R : Reads F) {X : Type 0} (finish : R.Head → List F.Ent
           let drawn = subst (λ (s : F.Seen). WrongLine F f s line n) (sym (seen_after done vs)) w in
           let step = line_refused (1 + length before) f more (head_from F R done h vs) [] n line drawn in
           ap (walk_on F R finish room 1 (at_start F R h)) m ∙ walks (line ∷ after) rq b (inr refl) (omega arith) ∙ rw (step, k)
-      fault_refused ms n d (Fault.at_entry_lem before line after m p vs es b f w) =
+      fault_refused ms n d (Fault.at_entry before line after m p vs es b f w) =
           let k : 1 + length before ≡ d = omega arith in
           let step = entry_refused (1 + length before) (head_from F R F.required h vs) es n line w in
           ap (walk_on F R finish room 1 (at_start F R h)) m ∙ walks (line ∷ after) whole b (inl refl) f ∙ rw (step, k)

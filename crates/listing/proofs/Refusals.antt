@@ -36,7 +36,7 @@ module _ (F : Format) (End : Values F F.required → List F.Entry → ℕ → Ty
     pub drawn_at : {room : ℕ} {ms : List Meaning} {n d : ℕ} → Fault F End room ms n d → DrawnAt (length ms) n d
     drawn_at {n = n} (Fault.at_required before line after e p done f more rq vs b w) =
         DrawnAt.at_line (line_draws f (seen_from F F.unseen done vs) line n w) (omega (arith, p)) (omega (arith, ap length e, p, length-append before (line ∷ after)))
-    drawn_at {room} {n = n} (Fault.at_entry_lem before line after e p vs es b f w) =
+    drawn_at {room} {n = n} (Fault.at_entry before line after e p vs es b f w) =
         DrawnAt.at_line (entry_draws room es line n w) (omega (arith, p)) (omega (arith, ap length e, p, length-append before (line ∷ after)))
     drawn_at (Fault.missing e done f more rq p vs b) =
         DrawnAt.missing e (omega (arith, p)) (omega (arith, p, ap length rq, length-append done (f ∷ more)))

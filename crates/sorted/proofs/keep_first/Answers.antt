@@ -8,6 +8,7 @@ use borrow.Author.Rules.{rules}
 use lib.ListN.{length}
 use Rattle.sorted.proofs.Keep.{Passed, pass_starts, pass_repeat, pass_new, passed_all}
 use Rattle.sorted.proofs.keep_first.Goals as goal
+use Rattle.sorted.proofs.keep_first.Goals.{then-is_near, else-is_near}
 
 pub loop-k-init : goal.loop-k-init
 loop-k-init c = pass_starts _ _ _ c.requires.0 c.requires.1
@@ -17,11 +18,15 @@ copy_entry-requires c = (omega (arith, c.loop-k.invariant.ratios, c.loop-k-test.
 
 pub loop-k-preserved : goal.loop-k-preserved
 loop-k-preserved c =
-    let in-k : c.loop-k.k < length c.loop-k.place = omega (arith, c.loop-k.invariant.ratios, c.loop-k-test.true) in
-    ⊎_elim
-    (λ w. rw (w.10, w.11, w.12, w.13, w.4.ensures.0, w.4.ensures.1, w.4.ensures.2) (pass_repeat c.loop-k.invariant in-k (sym c.is_near.ensures ∙ w.0.taken)))
-    (λ w. rw (w.1, w.2, w.3, w.4) (pass_new c.loop-k.invariant in-k (sym c.is_near.ensures ∙ w.0.left)))
-    c.if-is_near.branch
+    let in_k : c.loop-k.k < length c.loop-k.place = omega (arith, c.loop-k.invariant.ratios, c.loop-k-test.true) in
+    elim c.if-is_near.branch [
+      | then-is_near w ↦
+        rw (w.place-is, w.ratio-is, w.wraps-is, w.q-is, w.copy_entry.ensures.0, w.copy_entry.ensures.1, w.copy_entry.ensures.2)
+        (pass_repeat c.loop-k.invariant in_k (sym c.is_near.ensures ∙ w.if-is_near.true))
+      | else-is_near w ↦
+        rw (w.place-is, w.ratio-is, w.wraps-is, w.q-is)
+        (pass_new c.loop-k.invariant in_k (sym c.is_near.ensures ∙ w.if-is_near.false))
+    ]
 
 pub returns : goal.returns
 returns c = passed_all c.loop-k.invariant (omega (arith, c.loop-k.invariant.ratios, c.loop-k-test.false))

@@ -23,7 +23,7 @@ returns c =
 returns-2 : tie.Need-returns-2
 returns-2 c =
     let is = c.before.before.answer2.given.1 in
-    (refused says_float refl is _ refl c.code_of_lem.ensures, stays says_float refl is _ c.before.before.before.before.args.out.now refl)
+    (refused says_float refl is _ refl c.code_of.ensures, stays says_float refl is _ c.before.before.before.before.args.out.now refl)
 
 pub store-float-spec : {M : Type 1} → statement M
 store-float-spec =

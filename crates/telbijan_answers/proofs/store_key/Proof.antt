@@ -25,7 +25,7 @@ returns c =
 returns-2 : tie.Need-returns-2
 returns-2 c =
     let is = c.before.before.answer2.given.1 in
-    (refused says_key refl is _ refl c.code_of_lem.ensures, stays_part says_key refl is (λ k. k.0) _ c.before.before.before.before.args.out.now refl)
+    (refused says_key refl is _ refl c.code_of.ensures, stays_part says_key refl is (λ k. k.0) _ c.before.before.before.before.args.out.now refl)
 
 pub store-key-spec : {M : Type 1} → statement M
 store-key-spec =

@@ -45,7 +45,7 @@ returns-2 : tie.Need-returns-2
 returns-2 c =
     let call = c.before.before.before.before in
     let is = c.before.before.refusal.given.1 in (
-      refused says_kbm (told call) is _ refl c.code_of_lem.ensures,
+      refused says_kbm (told call) is _ refl c.code_of.ensures,
       stays_part says_kbm (told call) is (λ k. k.count) _ call.before.before.args.entries.now refl,
       stays_part says_kbm (told call) is (λ k. k.octave) _ call.before.before.args.formal.now refl,
     )

@@ -29,7 +29,7 @@ returns : tie.Need-returns
 returns c = accepted says_root (told c.before.before) c.enum_told.given.1 refl
 
 returns-2 : tie.Need-returns-2
-returns-2 c = refused says_root (told c.before.before.before.before) c.before.before.refusal.given.1 _ refl c.code_of_lem.ensures
+returns-2 c = refused says_root (told c.before.before.before.before) c.before.before.refusal.given.1 _ refl c.code_of.ensures
 
 pub telbijan-kbm-root-spec : {M : Type 1} → statement M
 telbijan-kbm-root-spec =

@@ -50,7 +50,7 @@ returns-2 : tie.Need-returns-2
 returns-2 c =
     let call = c.before.before.before.before.before in
     let is = c.before.before.refusal.given.1 in (
-      refused says_builder (told call) is _ refl c.code_of_lem.ensures,
+      refused says_builder (told call) is _ refl c.code_of.ensures,
       told_table call,
       stays_part says_builder (told call) is (λ b. b.count) _ call.before.before.before.args.after.now refl,
     )

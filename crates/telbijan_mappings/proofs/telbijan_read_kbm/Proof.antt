@@ -56,7 +56,7 @@ returns-2 c =
     let call : tie.After-read-kbm = search in
     let start : tie.Start = search in
     let is = c.before.before.refusal.given.1 in (
-      refused says_kbm (told call) is _ refl c.code_of_lem.ensures,
+      refused says_kbm (told call) is _ refl c.code_of.ensures,
       call.read-kbm.ensures.1,
       stays says_kbm (told call) is _ (old start) refl,
     )

@@ -31,7 +31,7 @@ returns-2 : tie.Need-returns-2
 returns-2 c =
     let start : tie.Start = search in
     let is = c.before.before.answer2.given.1 in
-    (refused says_read refl is _ refl c.code_of_lem.ensures, stays says_read refl is _ (old start) refl)
+    (refused says_read refl is _ refl c.code_of.ensures, stays says_read refl is _ (old start) refl)
 
 pub store-read-spec : {M : Type 1} → statement M
 store-read-spec =

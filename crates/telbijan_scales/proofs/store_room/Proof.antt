@@ -23,7 +23,7 @@ returns c =
 returns-2 : tie.Need-returns-2
 returns-2 c =
     let is = c.before.before.answer2.given.1 in
-    (refused says_builder refl is _ refl c.code_of_lem.ensures, stays_part says_builder refl is (λ b. b.room) _ c.before.before.before.before.args.room.now refl)
+    (refused says_builder refl is _ refl c.code_of.ensures, stays_part says_builder refl is (λ b. b.room) _ c.before.before.before.before.args.room.now refl)
 
 pub store-room-spec : {M : Type 1} → statement M
 store-room-spec =

@@ -19,7 +19,7 @@ returns : tie.Need-returns
 returns c = accepted says_run refl c.enum_told.given.1 refl
 
 returns-2 : tie.Need-returns-2
-returns-2 c = refused says_run refl c.before.before.said.given.1 _ refl c.code_of_lem.ensures
+returns-2 c = refused says_run refl c.before.before.said.given.1 _ refl c.code_of.ensures
 
 pub code-of-run-spec : {M : Type 1} → statement M
 code-of-run-spec =

@@ -39,7 +39,7 @@ returns-2 : tie.Need-returns-2
 returns-2 c =
     let call = c.before.before.before.before in
     let is = c.before.before.refusal.given.1 in (
-      refused says_division (told call) is _ refl c.code_of_lem.ensures,
+      refused says_division (told call) is _ refl c.code_of.ensures,
       stays_part says_division (told call) is (λ p. p.quotient) _ call.before.args.quotient.now refl,
       stays_part says_division (told call) is (λ p. p.remainder) _ call.before.args.remainder.now refl,
     )

@@ -41,7 +41,7 @@ returns-2 c =
     let is = known.refusal.given.1 in (
       says_best call.best-fraction.result,
       call.best-fraction.ensures,
-      refused says_best refl is _ refl c.code_of_lem.ensures,
+      refused says_best refl is _ refl c.code_of.ensures,
       stays_part says_best refl is (λ f. f.numer) _ start.args.numer.now refl,
       stays_part says_best refl is (λ f. f.denom) _ start.args.denom.now refl,
       stays_part says_best refl is (λ f. f.deviation.0) _ start.args.deviation.now refl,

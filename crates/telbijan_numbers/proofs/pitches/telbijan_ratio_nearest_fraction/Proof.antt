@@ -41,7 +41,7 @@ returns-2 : tie.Need-returns-2
 returns-2 c =
     let call = c.before.before.before.before in
     let is = c.before.before.refusal.given.1 in (
-      refused says_nearest (told call) is _ refl c.code_of_lem.ensures,
+      refused says_nearest (told call) is _ refl c.code_of.ensures,
       stays_part says_nearest (told call) is (λ f. f.numer) _ call.before.args.numer.now refl,
       stays_part says_nearest (told call) is (λ f. f.denom) _ call.before.args.denom.now refl,
       stays_part says_nearest (told call) is (λ f. f.deviation.0) _ call.before.args.deviation.now refl,

@@ -39,7 +39,7 @@ returns-2 : tie.Need-returns-2
 returns-2 c =
     let call = c.before.before.before.before in
     let is = c.before.before.refusal.given.1 in
-    (refused says_order (told call) is _ refl c.code_of_lem.ensures, stays_part says_order (told call) is order_number _ call.before.args.order.now refl)
+    (refused says_order (told call) is _ refl c.code_of.ensures, stays_part says_order (told call) is order_number _ call.before.args.order.now refl)
 
 pub telbijan-ratio-total-cmp-spec : {M : Type 1} → statement M
 telbijan-ratio-total-cmp-spec =

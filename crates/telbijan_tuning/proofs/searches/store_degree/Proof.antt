@@ -30,7 +30,7 @@ returns-2 : tie.Need-returns-2
 returns-2 c =
     let is = c.before.before.answer2.given.1 in
     let start = c.before.before.before.before in (
-      refused says_degree_search refl is _ refl c.code_of_lem.ensures,
+      refused says_degree_search refl is _ refl c.code_of.ensures,
       stays_part says_degree_search refl is (λ a. a.approx_value) _ start.args.number.now refl,
       stays_part says_degree_search refl is (λ a. a.deviation) _ start.args.deviation.now refl,
     )
