@@ -1,7 +1,7 @@
 -- x as L takes it, "x = m*2^e with 2^52 <= m < 2^53": m has x's own digits, with zeros after them. Assumes nothing.
 use mathlib.Core.Path.{◌≡◌, refl, sym, ap, subst}
 use mathlib.Core.Bool.{true, false}
-use Prim.Native.Nat.{ℕ, suc, ◌+◌, ◌-◌, ◌*◌, ◌^◌, ◌≤◌, ◌<◌}
+use Prim.Native.Nat.{ℕ, suc, ◌+◌, ◌-◌, ◌*◌, ◌^◌, ◌≤◌, ◌<◌, zero}
 use native.Mathlib.Nat.{add-zero, zero-add, eq_of_mul-eq-mul_right}
 use native.Mathlib.Omega.{arith}
 use lib.Dec.{T}
@@ -50,3 +50,4 @@ of_parts n e j i d fit =
 pub log_parts : {x : Float} → Within 900 900 x → fits binary64 x ≡ true → LogParts x
 log_parts (within_fin (suc n) (pos a) some l h) fit = of_parts n (pos a) a 0 (sym (add-zero a)) fit
 log_parts (within_fin (suc n) (negsuc a) some l h) fit = of_parts n (negsuc a) 0 (suc a) (zero-add (suc a)) fit
+log_parts (within_fin zero e some l h) fit = elim some [ ]

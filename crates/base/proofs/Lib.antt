@@ -6,3 +6,4 @@ pub mod Order
 pub mod Division
 pub mod Machine
 pub mod Arms
+pub mod Clauses

@@ -115,7 +115,7 @@ fn write(
     ratio: &mut [f64],
     wraps: &mut [i32],
 ) -> SclAnswer
-    ensures result_value { says_scl result ≡ counted (all_pushed (item_table kind.old cents.old numer.old denom.old) (list_table place.old ratio.old wraps.old) (said_from (item_at segment_type start size steps) 1 n)).builder
+    ensures value { says_scl result ≡ counted (all_pushed (item_table kind.old cents.old numer.old denom.old) (list_table place.old ratio.old wraps.old) (said_from (item_at segment_type start size steps) 1 n)).builder
         (list_of (item_table kind.old cents.old numer.old denom.old) (list_table place.old ratio.old wraps.old) (said_from (item_at segment_type start size steps) 1 n)) }
     ensures denom_after { item_table kind.new cents.new numer.new denom.new
         ≡ (all_pushed (item_table kind.old cents.old numer.old denom.old) (list_table place.old ratio.old wraps.old) (said_from (item_at segment_type start size steps) 1 n)).table }
@@ -193,7 +193,7 @@ pub fn create_harmonics_scale(
     ratio: &mut [f64],
     wraps: &mut [i32],
 ) -> SclAnswer
-    ensures result_value { says_scl result ≡ counted_of (made_harmonics (item_table kind.old cents.old numer.old denom.old) (list_table place.old ratio.old wraps.old) segment_type segment_start segment_size neji_divisions) }
+    ensures value { says_scl result ≡ counted_of (made_harmonics (item_table kind.old cents.old numer.old denom.old) (list_table place.old ratio.old wraps.old) segment_type segment_start segment_size neji_divisions) }
     ensures denom_after { item_table kind.new cents.new numer.new denom.new
         ≡ items_left (made_harmonics (item_table kind.old cents.old numer.old denom.old) (list_table place.old ratio.old wraps.old) segment_type segment_start segment_size neji_divisions)
         (item_table kind.old cents.old numer.old denom.old) (list_table place.old ratio.old wraps.old) }

@@ -123,7 +123,7 @@ fn write_mapping(
     out: &mut [u8],
 ) -> SizeAnswer
     requires { (in_pitch hz ≡ true) × (length map.now ≤ 65535) }
-    ensures result_value { says_size result ≡ text_length (fitted (length out.old) (mapping_text size first last middle reference hz octave (entries_of map.now))) }
+    ensures value { says_size result ≡ text_length (fitted (length out.old) (mapping_text size first last middle reference hz octave (entries_of map.now))) }
     ensures out_after { out.new ≡ after (fitted (length out.old) (mapping_text size first last middle reference hz octave (entries_of map.now))) (λ t. t) out.old }
 {
     let total = mapping_length(size, first, last, middle, reference, hz, octave, map);
@@ -139,7 +139,7 @@ fn write_mapping(
 // The text of a mapping with these entries; 11 where its last or its middle key is outside 32 bits, then 12.
 fn write_held(kbm: Kbm, entries: &[i32], out: &mut [u8]) -> SizeAnswer
     requires { (in_pitch kbm.root.pitch.0 ≡ true) × (length entries.now ≤ 65535) }
-    ensures result_value { says_size result ≡ text_length (held_text kbm (entries_of entries.now) (length out.old)) }
+    ensures value { says_size result ≡ text_length (held_text kbm (entries_of entries.now) (length out.old)) }
     ensures out_after { out.new ≡ after (held_text kbm (entries_of entries.now) (length out.old)) (λ t. t) out.old }
 {
     let size = kbm.count as i32;
@@ -165,7 +165,7 @@ fn write_held(kbm: Kbm, entries: &[i32], out: &mut [u8]) -> SizeAnswer
 // The text of a mapping into the lent bytes, and how many it takes. 10 for an unusable table or pitch, 11 where the last or
 // the middle key is outside 32 bits, 12 where the text is longer than the bytes; then nothing is written.
 pub fn export_kbm(kbm: Kbm, map: &[i32], out: &mut [u8]) -> SizeAnswer
-    ensures result_value { says_size result ≡ text_length (export_of kbm map.now (length out.old)) }
+    ensures value { says_size result ≡ text_length (export_of kbm map.now (length out.old)) }
     ensures out_after { out.new ≡ after (export_of kbm map.now (length out.old)) (λ t. t) out.old }
 {
     let count = kbm.count as usize;

@@ -99,7 +99,7 @@ impl Item {
 
     // The item as a ratio; 18 where that is out of reach, never for an item that can be used.
     fn ratio(self) -> RatioAnswer
-        ensures result_value { says_ratio result ≡ ratio_of self }
+        ensures value { says_ratio result ≡ ratio_of self }
         ensures reached { is_usable self ≡ true → Reached (says_ratio result) }
     {
         match self {
@@ -112,7 +112,7 @@ impl Item {
 
     // The item as a ratio; 10 for an item that cannot be used, and never another refusal.
     pub fn as_ratio(self) -> RatioAnswer
-        ensures result_value { says_ratio result ≡ given_ratio self }
+        ensures value { says_ratio result ≡ given_ratio self }
         ensures reached { is_usable self ≡ true → Reached (says_ratio result) }
     {
         if self.is_usable() {

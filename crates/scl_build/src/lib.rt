@@ -230,7 +230,7 @@ impl SclBuilder {
         ratio: &mut [f64],
         wraps: &mut [i32],
     ) -> SclAnswer
-        ensures result_value { (says_scl result ≡ counted self (built self (item_table kind.now cents.now numer.now denom.now) (list_table place.old ratio.old wraps.old)))
+        ensures value { (says_scl result ≡ counted self (built self (item_table kind.now cents.now numer.now denom.now) (list_table place.old ratio.old wraps.old)))
             × (list_table place.new ratio.new wraps.new
             ≡ after_list (built self (item_table kind.now cents.now numer.now denom.now) (list_table place.old ratio.old wraps.old)) (list_table place.old ratio.old wraps.old)) }
         ensures comes { Comes self (item_table kind.now cents.now numer.now denom.now) (list_table place.old ratio.old wraps.old) (says_scl result) (list_table place.new ratio.new wraps.new) }

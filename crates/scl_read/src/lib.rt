@@ -196,7 +196,7 @@ pub fn read_scl(
     ratio: &mut [f64],
     wraps: &mut [i32],
 ) -> SclReadAnswer
-    ensures result_value { says_read result ≡ read_of (room_of (item_table kind.old cents.old numer.old denom.old) (list_table place.old ratio.old wraps.old)) text.now }
+    ensures value { says_read result ≡ read_of (room_of (item_table kind.old cents.old numer.old denom.old) (list_table place.old ratio.old wraps.old)) text.now }
     ensures denom_after { item_table kind.new cents.new numer.new denom.new
         ≡ after_items text.now (item_table kind.old cents.old numer.old denom.old) (list_table place.old ratio.old wraps.old) }
     ensures wraps_after { list_table place.new ratio.new wraps.new

@@ -97,7 +97,7 @@ fn write_scale(
     out: &mut [u8],
 ) -> SizeAnswer
     requires { (is_items count (item_table kind.now cents.now numer.now denom.now) ≡ true) × (count ≤ 65535) }
-    ensures result_value { says_size result ≡ text_length (fitted (length out.old) (scale_text description.now (listed_in count (item_table kind.now cents.now numer.now denom.now)))) }
+    ensures value { says_size result ≡ text_length (fitted (length out.old) (scale_text description.now (listed_in count (item_table kind.now cents.now numer.now denom.now)))) }
     ensures out_after { out.new ≡ after (fitted (length out.old) (scale_text description.now (listed_in count (item_table kind.now cents.now numer.now denom.now)))) (λ t. t) out.old }
 {
     let number = count as i32;
@@ -122,7 +122,7 @@ pub fn export_scl(
     denom: &[u32],
     out: &mut [u8],
 ) -> SizeAnswer
-    ensures result_value { says_size result ≡ text_length (export_of scl (item_table kind.now cents.now numer.now denom.now) description.now (length out.old)) }
+    ensures value { says_size result ≡ text_length (export_of scl (item_table kind.now cents.now numer.now denom.now) description.now (length out.old)) }
     ensures out_after { out.new ≡ after (export_of scl (item_table kind.now cents.now numer.now denom.now) description.now (length out.old)) (λ t. t) out.old }
     ensures never_full { NeverFull scl description.now (length out.old) (says_size result) }
 {

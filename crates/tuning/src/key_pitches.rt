@@ -236,7 +236,7 @@ fn tested_run(
     hz: &mut [f64],
     numbers: &mut [u32],
 ) -> RunAnswer
-    ensures result_value { says_run result ≡ run_of count (items_before kind cents numer denom) kbm map.now keys
+    ensures value { says_run result ≡ run_of count (items_before kind cents numer denom) kbm map.now keys
         (length hz.old) (length numbers.old) }
     ensures hz_after { hz.new ≡ after_hz (run_of count (items_before kind cents numer denom) kbm map.now keys
         (length hz.old) (length numbers.old))
@@ -279,7 +279,7 @@ pub fn pitches_of(
     hz: &mut [f64],
     numbers: &mut [u32],
 ) -> RunAnswer
-    ensures result_value { says_run result ≡ run_of scl.count (item_table kind.now cents.now numer.now denom.now) kbm map.now keys (length hz.old) (length numbers.old) }
+    ensures value { says_run result ≡ run_of scl.count (item_table kind.now cents.now numer.now denom.now) kbm map.now keys (length hz.old) (length numbers.old) }
     ensures hz_after { hz.new ≡ after_hz (run_of scl.count (item_table kind.now cents.now numer.now denom.now) kbm map.now keys (length hz.old) (length numbers.old)) (key_pitches (items_in scl.count (item_table kind.now cents.now numer.now denom.now)) kbm map.now first) keys hz.old }
     ensures numbers_after { numbers.new ≡ after_numbers (run_of scl.count (item_table kind.now cents.now numer.now denom.now) kbm map.now keys (length hz.old) (length numbers.old)) (key_pitches (items_in scl.count (item_table kind.now cents.now numer.now denom.now)) kbm map.now first) keys numbers.old }
 {
@@ -313,7 +313,7 @@ pub fn pitches_from_middle(
     hz: &mut [f64],
     numbers: &mut [u32],
 ) -> RunAnswer
-    ensures result_value { says_run result ≡ run_of scl.count (items_before kind cents numer denom) kbm map.now keys
+    ensures value { says_run result ≡ run_of scl.count (items_before kind cents numer denom) kbm map.now keys
         (length hz.old) (length numbers.old) }
     ensures hz_after { hz.new ≡ after_hz (run_of scl.count (items_before kind cents numer denom) kbm map.now keys
         (length hz.old) (length numbers.old))
