@@ -1,7 +1,7 @@
 -- A number that passes the test is one that `write_fixed` takes. Assumes nothing.
 use mathlib.Core.Path.{◌≡◌, sym, subst}
 use mathlib.Core.Bool.{true}
-use Prim.Native.Nat.{◌*◌, ◌^◌, ◌≤◌}
+use Prim.Native.Nat.{◌*◌, ◌^◌}
 use native.Mathlib.Nat.{mul-one, le_trans, le_of_eq}
 use lib.Dec.{T, le→leb}
 use lib.IntN.{pos}

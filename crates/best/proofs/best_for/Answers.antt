@@ -20,7 +20,7 @@ best_of-best-requires c =
 pub returns : goal.returns
 returns c =
     record {
-      c.best_of-best.result = subst (λ (u : ℕ). Best u (2 ^ 1074) c.args.limit c.best_of-best.result.numer c.best_of-best.result.denom) (sym c.unpack-parts.ensures.is)
+      best = subst (λ (u : ℕ). Best u (2 ^ 1074) c.args.limit c.best_of-best.result.numer c.best_of-best.result.denom) (sym c.unpack-parts.ensures.is)
           c.best_of-best.ensures;
       deviation = refl;
     }

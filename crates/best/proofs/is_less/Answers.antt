@@ -16,7 +16,7 @@ overflow_mul-part c = record { fits = lt_of_le_of_lt (rest_small c.high_product-
 
 carried : (c : After-low_product-low) → c.high_product-carried.result < 2 ^ 32
 carried c =
-    carried_held _ _ _ _ _ c.high_product-high.ensures c.low_Product.ensures c.high_product-carried.ensures
+    carried_held _ _ _ _ _ c.high_product-high.ensures c.low_product-square.ensures c.high_product-carried.ensures
     c.requires.1
 
 pub overflow_add-part : goal.overflow_add-part
@@ -24,14 +24,14 @@ overflow_add-part c = record { fits = omega (arith, rest_small c.high_product-hi
 
 pub overflow_mul-g : goal.overflow_mul-g
 overflow_mul-g c =
-    let small = high_held _ _ _ _ _ c.high_product-high.ensures c.low_Product.ensures
+    let small = high_held _ _ _ _ _ c.high_product-high.ensures c.low_product-square.ensures
     c.high_product-carried.ensures c.requires.1 c.requires.0 in
     record { fits = lt_of_le_of_lt (top_small _ _ small c.requires.1) (lit< tt) }
 
 -- all above the last 74 bits
 g_held : (c : After-low_product-low) → (c.high_product-high.result / 1024 * c.args.a + (c.high_product-high.result % 1024 * c.args.a + c.high_product-carried.result) / 1024) < 2 ^ 64
 g_held c =
-    g_small _ _ _ _ _ c.high_product-high.ensures c.low_Product.ensures c.high_product-carried.ensures
+    g_small _ _ _ _ _ c.high_product-high.ensures c.low_product-square.ensures c.high_product-carried.ensures
     c.requires.1 c.requires.0
 
 pub overflow_add-g : goal.overflow_add-g
@@ -41,8 +41,8 @@ overflow_add-g c = record { fits = g_held c }
 in_parts : (c : After-low_product-low) →
     (Parts (c.args.m * c.args.m * c.args.a) (c.high_product-high.result / 1024 * c.args.a + (c.high_product-high.result % 1024 * c.args.a + c.high_product-carried.result) / 1024) ((c.high_product-high.result % 1024 * c.args.a + c.high_product-carried.result) % 1024) c.low_product-low.result)
 in_parts c =
-    parts _ _ _ _ _ c.high_product-high.ensures c.low_Product.ensures c.high_product-carried.ensures c.requires.1
-    _ c.low_product-low.ensures
+    parts _ _ _ _ _ c.high_product-high.ensures c.low_product-square.ensures c.high_product-carried.ensures c.requires.1
+    _ c.low_product-square.ensures
 
 pub returns-then-whole-b : goal.returns-then-whole-b
 returns-then-whole-b c =

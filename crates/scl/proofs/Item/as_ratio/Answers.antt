@@ -8,6 +8,6 @@ pub returns-else-is_usable : goal.returns-else-is_usable
 returns-else-is_usable c =
     let unusable = sym c.is_usable.ensures ∙ c.if-is_usable.false in
     record {
-      result_value = rw unusable;
+      value = rw unusable;
       reached = λ u. absurd (true≢false (sym u ∙ unusable));
     }

@@ -16,7 +16,7 @@ pub returns-in-Cents : goal.returns-in-Cents
 returns-in-Cents c =
     let is = c.from_cents.ensures ∙ ap ratio_of (sym c.in-Cents.is) in
     record {
-      result_value = is;
+      value = is;
       reached = λ u. rw (is, c.in-Cents.is) (usable_ratio (Cents c.in-Cents.cents) tt (rw c.in-Cents.is at u));
     }
 
@@ -26,6 +26,6 @@ returns-in-Fraction c =
     ∙ ap (λ (d : ℕ). computed (div binary64 (of_int binary64 (pos c.in-Fraction.numer)) (of_int binary64 (pos d)))) c.denom_of.ensures
     ∙ ap ratio_of (sym c.in-Fraction.is) in
     record {
-      result_value = is;
-      reached = λ u. rw (is, c.in-Fraction.is) (usable_ratio (Fraction c.in-Fraction.numer c.in-Fraction.denom) (omega (arith, c.type_inv.numer), omega (arith, c.denom_of.ensures, c.row_known-in-Fraction-1.given)) (rw c.in-Fraction.is at u));
+      value = is;
+      reached = λ u. rw (is, c.in-Fraction.is) (usable_ratio (Fraction c.in-Fraction.numer c.in-Fraction.denom) (omega (arith, c.row_known-1.given), omega (arith, c.denom_of.ensures, c.row_known-in-Fraction-1.given)) (rw c.in-Fraction.is at u));
     }
