@@ -3,7 +3,7 @@ use mathlib.Core.Path.{◌≡◌, refl, sym, ◌∙◌, ap, subst}
 use mathlib.Core.Logic.{◌↔◌}
 use mathlib.Core.Bool.{true}
 use mathlib.Core.List.{List, [], ◌∷◌, ◌++◌}
-use Prim.Native.Nat.{ℕ, zero, suc, ◌+◌, ◌-◌, ◌≤◌, ◌<◌}
+use Prim.Native.Nat.{ℕ, zero, suc, ◌+◌, ◌≤◌, ◌<◌}
 use native.Mathlib.Nat.{le_of_suc-le-suc, not-suc-le-zero}
 use native.Mathlib.Omega.{arith}
 use lib.ListN.{length, take, drop, length-append}
@@ -20,7 +20,7 @@ use Rattle.sorting.proofs.Work.{All}
 use Rattle.sorted.specs.Lent.{ListTable, places_of, ratios_of, wraps_of, list_in, AllAtMost, is_list}
 use Rattle.sorted.proofs.Lists.{have_list_law, at_within}
 use Rattle.scl.specs.Items.{ratio_of, AllHeld}
-use Rattle.scl.specs.Table.{ItemTable, item_of, are_usable, written_at}
+use Rattle.scl.specs.Table.{ItemTable, are_usable, written_at}
 use Rattle.scl.specs.declared.Item.{Item}
 use Rattle.floats.specs.Ranges.{in_reach}
 use Rattle.floats.proofs.Between.{within_reach}

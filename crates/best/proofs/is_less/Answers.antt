@@ -42,7 +42,7 @@ in_parts : (c : After-low_product-low) →
     (Parts (c.args.m * c.args.m * c.args.a) (c.high_product-high.result / 1024 * c.args.a + (c.high_product-high.result % 1024 * c.args.a + c.high_product-carried.result) / 1024) ((c.high_product-high.result % 1024 * c.args.a + c.high_product-carried.result) % 1024) c.low_product-low.result)
 in_parts c =
     parts _ _ _ _ _ c.high_product-high.ensures c.low_product-square.ensures c.high_product-carried.ensures c.requires.1
-    _ c.low_product-square.ensures
+    _ c.low_product-low.ensures
 
 pub returns-then-whole-b : goal.returns-then-whole-b
 returns-then-whole-b c =

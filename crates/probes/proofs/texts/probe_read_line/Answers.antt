@@ -4,4 +4,4 @@ use borrow.Author.Rules.{rules}
 use Rattle.probes.proofs.texts.probe_read_line.Goals as goal
 
 pub returns : goal.returns
-returns c = rw (sym c.read_line.ensures) c.Store-Line.ensures
+returns c = rw (sym c.read_line.ensures) c.store_line.ensures

@@ -9,6 +9,6 @@ pub returns : goal.returns
 returns c =
     let e = rw (to_z-of_z c.ranges.z) at c.write_i32.ensures in
     record {
-      value = c.place.ensures ∙ ap next_of e.0;
-      out_after = e.1;
+      value = c.place.ensures ∙ ap next_of e.value;
+      out_after = e.out_after;
     }
