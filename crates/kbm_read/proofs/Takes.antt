@@ -12,7 +12,6 @@ use lib.Signed.{le_z}
 use mir.Syntax.{w32}
 use mir.Val.{SFits}
 use borrow.Author.Tests.{ne_eqb, lt-ltb, le-ltb, le-leb, lt-leb, leb-false}
-use types.Run.{OneOf}
 use denote.Enum.Declared.{tag_of}
 use Rattle.base.specs.Numbers.{keyboard_mapping, unusable, overflow, no_room, backwards_range}
 use Rattle.base.specs.Said.{gives, refuses}
@@ -58,12 +57,11 @@ module _ (k : ℕ) (h : Head) (z : ℤ) where
 
 -- the reference pitch: a decimal is refused by its answer, or has its value tested
 module _ (k : ℕ) (t : List ℕ) (h : Head) {x : DecimalAnswer} (e : x ≡ read_decimal t) where
-  pub pitch_refused : OneOf (1 ∷ 2 ∷ []) (tag_of the_type x) → decimal_refused k x ≡ take_pitch k t h
+  pub pitch_refused : ((v : Float) → x ≡ decimal.Is v → ⊥) → decimal_refused k x ≡ take_pitch k t h
   pitch_refused o = rw (← e) (go x o)
     where
-      go : (y : DecimalAnswer) → OneOf (1 ∷ 2 ∷ []) (tag_of the_type y) → decimal_refused k y ≡ reference_pitch_said k h y
-      go (decimal.Is v) (inl n) = absurd (omega arith)
-      go (decimal.Is v) (inr n) = absurd (omega arith)
+      go : (y : DecimalAnswer) → ((v : Float) → y ≡ decimal.Is v → ⊥) → decimal_refused k y ≡ reference_pitch_said k h y
+      go (decimal.Is v) n = absurd (n v refl)
       go decimal.Unsupported n = refl
       go decimal.Bad n = refl
 

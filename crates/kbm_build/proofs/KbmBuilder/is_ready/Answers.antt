@@ -1,6 +1,5 @@
 -- `KbmBuilder::is_ready` meets its contract: the state, then the table, then the root.
 -- Assumes nothing.
-use borrow.Author.Rules.{rules}
 use mathlib.Core.Path.{sym, ◌∙◌}
 use Rattle.kbm_build.proofs.Pushes.{fitting, not_fitting, too_full}
 use Rattle.kbm_build.proofs.KbmBuilder.is_ready.Goals as goal

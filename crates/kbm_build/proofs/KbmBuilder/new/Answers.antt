@@ -1,6 +1,5 @@
 -- `KbmBuilder::new` meets its contract: 10 for a root outside the pitch limits.
 -- Assumes nothing.
-use borrow.Author.Rules.{rules}
 use mathlib.Core.Path.{sym, ◌∙◌}
 use Rattle.kbm_build.proofs.KbmBuilder.new.Goals as goal
 

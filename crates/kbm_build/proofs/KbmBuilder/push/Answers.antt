@@ -1,6 +1,5 @@
 -- `KbmBuilder::push` meets its contract: the entry's number goes to the next place, and a refusal writes nothing.
 -- Assumes nothing.
-use borrow.Author.Rules.{rules}
 use mathlib.Core.Path.{sym}
 use mir.Facts.{to_z-of_z}
 use mir.Syntax.{w32}

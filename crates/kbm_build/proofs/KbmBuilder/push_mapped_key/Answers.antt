@@ -1,6 +1,5 @@
 -- `KbmBuilder::push_mapped_key` meets its contract: the push of that entry.
 -- Assumes nothing.
-use borrow.Author.Rules.{rules}
 use mir.Facts.{to_z-of_z}
 use Rattle.kbm_build.proofs.KbmBuilder.push_mapped_key.Goals as goal
 
