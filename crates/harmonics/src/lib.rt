@@ -117,9 +117,9 @@ fn write(
 ) -> SclAnswer
     ensures value { says_scl result ≡ counted (all_pushed (item_table kind.old cents.old numer.old denom.old) (list_table place.old ratio.old wraps.old) (said_from (item_at segment_type start size steps) 1 n)).builder
         (list_of (item_table kind.old cents.old numer.old denom.old) (list_table place.old ratio.old wraps.old) (said_from (item_at segment_type start size steps) 1 n)) }
-    ensures denom_after { item_table kind.new cents.new numer.new denom.new
+    ensures table_after { item_table kind.new cents.new numer.new denom.new
         ≡ (all_pushed (item_table kind.old cents.old numer.old denom.old) (list_table place.old ratio.old wraps.old) (said_from (item_at segment_type start size steps) 1 n)).table }
-    ensures wraps_after { list_table place.new ratio.new wraps.new
+    ensures list_after { list_table place.new ratio.new wraps.new
         ≡ after_list (list_of (item_table kind.old cents.old numer.old denom.old) (list_table place.old ratio.old wraps.old) (said_from (item_at segment_type start size steps) 1 n)) (list_table place.old ratio.old wraps.old) }
 {
     let state = generate::begin(kind, cents, numer, denom, place, ratio, wraps);
@@ -194,10 +194,10 @@ pub fn create_harmonics_scale(
     wraps: &mut [i32],
 ) -> SclAnswer
     ensures value { says_scl result ≡ counted_of (made_harmonics (item_table kind.old cents.old numer.old denom.old) (list_table place.old ratio.old wraps.old) segment_type segment_start segment_size neji_divisions) }
-    ensures denom_after { item_table kind.new cents.new numer.new denom.new
+    ensures table_after { item_table kind.new cents.new numer.new denom.new
         ≡ items_left (made_harmonics (item_table kind.old cents.old numer.old denom.old) (list_table place.old ratio.old wraps.old) segment_type segment_start segment_size neji_divisions)
         (item_table kind.old cents.old numer.old denom.old) (list_table place.old ratio.old wraps.old) }
-    ensures wraps_after { list_table place.new ratio.new wraps.new
+    ensures list_after { list_table place.new ratio.new wraps.new
         ≡ list_left (made_harmonics (item_table kind.old cents.old numer.old denom.old) (list_table place.old ratio.old wraps.old) segment_type segment_start segment_size neji_divisions)
         (item_table kind.old cents.old numer.old denom.old) (list_table place.old ratio.old wraps.old) }
 {

@@ -164,9 +164,9 @@ fn run(
     ensures value { says_scl result ≡ counted (ran_of (item_table kind.old cents.old numer.old denom.old) (list_table place.old ratio.old wraps.old) n).builder
         (built (ran_of (item_table kind.old cents.old numer.old denom.old) (list_table place.old ratio.old wraps.old) n).builder
         (ran_of (item_table kind.old cents.old numer.old denom.old) (list_table place.old ratio.old wraps.old) n).table (list_table place.old ratio.old wraps.old)) }
-    ensures denom_after { item_table kind.new cents.new numer.new denom.new
+    ensures table_after { item_table kind.new cents.new numer.new denom.new
         ≡ (ran_of (item_table kind.old cents.old numer.old denom.old) (list_table place.old ratio.old wraps.old) n).table }
-    ensures wraps_after { list_table place.new ratio.new wraps.new
+    ensures list_after { list_table place.new ratio.new wraps.new
         ≡ after_list (built (ran_of (item_table kind.old cents.old numer.old denom.old) (list_table place.old ratio.old wraps.old) n).builder
         (ran_of (item_table kind.old cents.old numer.old denom.old) (list_table place.old ratio.old wraps.old) n).table (list_table place.old ratio.old wraps.old)) (list_table place.old ratio.old wraps.old) }
 {
@@ -193,10 +193,10 @@ fn make(
     requires { (0 < n) × (n < room_of (item_table kind.old cents.old numer.old denom.old) (list_table place.old ratio.old wraps.old))
         × (in_generator period ≡ true) × (is_usable_cents generator_cents ≡ true) × SomeCents period_cents }
     ensures value { says_scl result ≡ counted_of (made_of (item_table kind.old cents.old numer.old denom.old) (list_table place.old ratio.old wraps.old) n (ascending_items (pitch_at period generator_cents period_cents positive) n)) }
-    ensures denom_after { item_table kind.new cents.new numer.new denom.new
+    ensures table_after { item_table kind.new cents.new numer.new denom.new
         ≡ items_left (made_of (item_table kind.old cents.old numer.old denom.old) (list_table place.old ratio.old wraps.old) n (ascending_items (pitch_at period generator_cents period_cents positive) n))
         (item_table kind.old cents.old numer.old denom.old) (list_table place.old ratio.old wraps.old) }
-    ensures wraps_after { list_table place.new ratio.new wraps.new
+    ensures list_after { list_table place.new ratio.new wraps.new
         ≡ list_left (made_of (item_table kind.old cents.old numer.old denom.old) (list_table place.old ratio.old wraps.old) n (ascending_items (pitch_at period generator_cents period_cents positive) n))
         (item_table kind.old cents.old numer.old denom.old) (list_table place.old ratio.old wraps.old) }
 {
@@ -234,10 +234,10 @@ pub fn create_rank2_temperament_scale(
     wraps: &mut [i32],
 ) -> SclAnswer
     ensures value { says_scl result ≡ counted_of (made_rank2 (item_table kind.old cents.old numer.old denom.old) (list_table place.old ratio.old wraps.old) generator.0 num_pos_generations num_neg_generations period.0) }
-    ensures denom_after { item_table kind.new cents.new numer.new denom.new
+    ensures table_after { item_table kind.new cents.new numer.new denom.new
         ≡ items_left (made_rank2 (item_table kind.old cents.old numer.old denom.old) (list_table place.old ratio.old wraps.old) generator.0 num_pos_generations num_neg_generations period.0)
         (item_table kind.old cents.old numer.old denom.old) (list_table place.old ratio.old wraps.old) }
-    ensures wraps_after { list_table place.new ratio.new wraps.new
+    ensures list_after { list_table place.new ratio.new wraps.new
         ≡ list_left (made_rank2 (item_table kind.old cents.old numer.old denom.old) (list_table place.old ratio.old wraps.old) generator.0 num_pos_generations num_neg_generations period.0)
         (item_table kind.old cents.old numer.old denom.old) (list_table place.old ratio.old wraps.old) }
 {

@@ -64,3 +64,7 @@ module _ (b : SclBuilder) (t : ItemTable) (l : ListTable) where
     pub comes_too : {said : Said ℕ} {left : ListTable} → (said ≡ counted b (built b t l)) × (left ≡ after_list (built b t l) l)
         → ((said ≡ counted b (built b t l)) × (left ≡ after_list (built b t l) l)) × Comes b t l said left
     comes_too {said} {left} h = (h, record { beyond = rw h.0 beyond_exactly; leaves = rw (h.0, h.1) leaves_given })
+
+-- what both clauses of a build ask for
+pub value_and_comes : {A B : Type 0} → A × B → record { value : A; comes : B }
+value_and_comes p = record { value = p.0; comes = p.1 }

@@ -197,9 +197,9 @@ pub fn read_scl(
     wraps: &mut [i32],
 ) -> SclReadAnswer
     ensures value { says_read result ≡ read_of (room_of (item_table kind.old cents.old numer.old denom.old) (list_table place.old ratio.old wraps.old)) text.now }
-    ensures denom_after { item_table kind.new cents.new numer.new denom.new
+    ensures table_after { item_table kind.new cents.new numer.new denom.new
         ≡ after_items text.now (item_table kind.old cents.old numer.old denom.old) (list_table place.old ratio.old wraps.old) }
-    ensures wraps_after { list_table place.new ratio.new wraps.new
+    ensures list_after { list_table place.new ratio.new wraps.new
         ≡ after_sorted text.now (item_table kind.old cents.old numer.old denom.old) (list_table place.old ratio.old wraps.old) }
 {
     let room = scl_tables::room_of(kind, cents, numer, denom, place, ratio, wraps);

@@ -1,6 +1,5 @@
 -- `are_in_reach` meets its contract: three tests.
 -- Assumes nothing.
-use borrow.Author.Rules.{rules}
 use Rattle.searching.proofs.are_in_reach.Goals as goal
 
 pub returns : goal.returns

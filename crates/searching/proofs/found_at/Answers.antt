@@ -6,9 +6,8 @@ use lib.IntN.{pos}
 use lib.ListN.{get_or}
 use mir.Facts.{to_z-of_z}
 use mir.Syntax.{w32}
-use Rattle.sorted.specs.Lent.{ListTable, list_table}
+use Rattle.sorted.specs.Lent.{list_table}
 use Rattle.relative.proofs.Places.{list_at, list_room}
-use borrow.Author.Rules.{rules}
 use Rattle.searching.proofs.found_at.Goals as goal
 
 pub bounds-place-index : goal.bounds-place-index

@@ -31,7 +31,7 @@ pub returns-in-Is : goal.returns-in-Is
 returns-in-Is c =
     let es = list_in c.args.count (list_table c.args.place.now c.args.ratio.now c.args.wraps.now) in
     let entry : (i : ℕ) → i ≤ c.args.count → get_or c.args.ratio.now i nan ≡ (get_or es i no_entry).ratio = λ i k. ap (λ (e : Entry). e.ratio) (sym (list_at c.args.count (list_table c.args.place.now c.args.ratio.now c.args.wraps.now) c.requires.0 i k)) in
-    ap gives (rw (to_z-of_z c.ranges.periods) c.upper_at-at.result c.found_at.ensures)
+    ap gives (rw (to_z-of_z c.ranges.periods) at c.found_at.ensures)
     ∙ ap (λ (i : ℕ). gives (found_at (get_or es i no_entry) i c.args.periods c.in-Is.choice.deviation)) c.index_of-index.ensures.0
     ∙ ap (λ (a : ChoiceAnswer). and_then (says_choice a) (picked_at es c.args.periods c.upper_at-at.result)) (sym c.in-Is.is)
     ∙ nearest_told es c.args.periods c.args.target c.upper_at-at.result (entry (c.upper_at-at.result - 1) (omega (arith, c.upper_at-at.ensures.2))) (entry c.upper_at-at.result c.upper_at-at.ensures.2) c.upper_at-at.ensures.0 c.choose.ensures

@@ -5,11 +5,10 @@ use mathlib.Core.Path.{◌∙◌, ap, sym}
 use Prim.Native.Nat.{◌+◌, ℕ}
 use lib.Ieee.{Float}
 use lib.ListN.{take}
-use Rattle.sorted.specs.Lent.{ListTable, first_not_below, list_in, list_table, ratios_of}
+use Rattle.sorted.specs.Lent.{first_not_below, list_in, list_table, ratios_of}
 use Rattle.sorted.proofs.Usable.{all_positive, reach_positive}
 use Rattle.relative.proofs.Places.{list_count, list_ratios, ratios_part, ratios_reach, ratios_rise}
 use Rattle.searching.specs.Search.{clamped}
-use borrow.Author.Rules.{rules}
 use Rattle.searching.proofs.upper_at.Goals as goal
 
 pub slice_bounds-first_not_below-end : goal.slice_bounds-first_not_below-end

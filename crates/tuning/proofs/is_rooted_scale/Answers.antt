@@ -1,7 +1,6 @@
 -- `is_rooted_scale` meets its contract: both tests.
 -- Assumes nothing.
 use mathlib.Core.Path.{◌∙◌, sym}
-use borrow.Author.Rules.{rules}
 use Rattle.tuning.proofs.is_rooted_scale.Goals as goal
 
 pub returns-then-is_scale : goal.returns-then-is_scale

@@ -4,7 +4,7 @@ use mathlib.Core.Path.{◌∙◌}
 use mir.Facts.{to_z-of_z}
 use mir.Syntax.{w32}
 use Rattle.base.proofs.Said.{and_then_law}
-use Rattle.scl.specs.Table.{ItemTable, item_table, items_in}
+use Rattle.scl.specs.Table.{item_table, items_in}
 use Rattle.kbm.specs.Answers.{says_degree}
 use Rattle.relative.specs.Pitches.{pitch_of}
 use borrow.Author.Rules.{rules}

@@ -2,7 +2,6 @@
 -- Assumes nothing.
 use mathlib.Core.Path.{◌∙◌, sym}
 use Rattle.scl.proofs.Table.{both}
-use borrow.Author.Rules.{rules}
 use Rattle.tuning.proofs.maybe_pitch_from_middle.Goals as goal
 
 pub middle_pitch-requires : goal.middle_pitch-requires

@@ -1,10 +1,9 @@
 -- `maybe_pitch_of` meets its contract: 10, then the key's pitch.
 -- Assumes nothing.
 use mathlib.Core.Path.{◌∙◌, sym}
-use Rattle.scl.specs.Table.{ItemTable, is_items, item_table}
+use Rattle.scl.specs.Table.{is_items, item_table}
 use Rattle.scl.proofs.Table.{both}
 use Rattle.kbm.specs.Root.{is_root}
-use borrow.Author.Rules.{rules}
 use Rattle.tuning.proofs.maybe_pitch_of.Goals as goal
 
 pub key_pitch-requires : goal.key_pitch-requires

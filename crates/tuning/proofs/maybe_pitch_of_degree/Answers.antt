@@ -1,15 +1,12 @@
 -- `maybe_pitch_of_degree` meets its contract: 10, then 11 for the key, then the key's pitch.
 -- Assumes nothing.
 use mathlib.Core.Path.{◌∙◌, sym}
-use lib.Ieee.{Float}
 use mir.Facts.{to_z-of_z}
 use mir.Syntax.{w32}
 use mir.Val.{SFits}
-use Rattle.base.specs.Said.{Said}
 use Rattle.base.proofs.Said.{and_then_law}
 use Rattle.key.specs.Answers.{says_key}
-use Rattle.key.specs.declared.PianoKey.{PianoKey}
-use Rattle.scl.specs.Table.{ItemTable, is_items, item_table, items_in}
+use Rattle.scl.specs.Table.{is_items, item_table, items_in}
 use Rattle.scl.proofs.Table.{both}
 use Rattle.kbm.specs.Root.{is_root}
 use Rattle.tuning.specs.Keys.{maybe_pitch_of}

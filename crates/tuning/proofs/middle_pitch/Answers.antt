@@ -10,7 +10,7 @@ use Rattle.base.proofs.Said.{and_then_law}
 use Rattle.kbm.specs.Answers.{says_degree}
 use Rattle.kbm.specs.Table.{table_of}
 use Rattle.relative.specs.Pitches.{pitch_from}
-use Rattle.scl.specs.Table.{ItemTable, item_table, items_in}
+use Rattle.scl.specs.Table.{item_table, items_in}
 use Rattle.kbm.specs.Middle.{reference_degree}
 use borrow.Author.Rules.{rules}
 use Rattle.tuning.proofs.middle_pitch.Goals as goal

@@ -4,7 +4,7 @@ use mathlib.Core.Path.{◌∙◌, sym}
 use mir.Facts.{to_z-of_z}
 use mir.Syntax.{w32}
 use mir.Val.{SFits}
-use Rattle.scl.specs.Table.{ItemTable, is_items, item_table}
+use Rattle.scl.specs.Table.{is_items, item_table}
 use Rattle.scl.proofs.Table.{both}
 use Rattle.kbm.specs.Root.{is_root}
 use borrow.Author.Rules.{rules}

@@ -5,7 +5,7 @@ use mir.Facts.{to_z-of_z}
 use mir.Syntax.{w32}
 use Rattle.base.proofs.Said.{and_then_law}
 use Rattle.integer_math.specs.Answers.{says_i32}
-use Rattle.scl.specs.Table.{ItemTable, is_items, item_table, items_in}
+use Rattle.scl.specs.Table.{is_items, item_table, items_in}
 use Rattle.scl.proofs.Table.{both}
 use Rattle.kbm.specs.Root.{is_root}
 use Rattle.relative.specs.Pitches.{pitch_of}

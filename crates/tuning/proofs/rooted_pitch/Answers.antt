@@ -8,7 +8,7 @@ use Rattle.base.specs.Said.{Said, and_then}
 use Rattle.kbm.specs.Answers.{says_degree}
 use Rattle.kbm.specs.declared.DegreeAnswer.{DegreeAnswer}
 use Rattle.relative.specs.Pitches.{pitch_from}
-use Rattle.scl.specs.Table.{ItemTable, item_table, items_in}
+use Rattle.scl.specs.Table.{item_table, items_in}
 use borrow.Author.Rules.{rules}
 use Rattle.tuning.proofs.rooted_pitch.Goals as goal
 use Rattle.tuning.proofs.rooted_pitch.Goals.{Start}

@@ -4,8 +4,8 @@ use mathlib.Core.Path.{◌∙◌, sym}
 use mir.Facts.{to_z-of_z}
 use mir.Syntax.{w32}
 use mir.Val.{SFits}
-use Rattle.sorted.specs.Lent.{ListTable, is_list, list_table}
-use Rattle.scl.specs.Table.{ItemTable, is_items, item_table}
+use Rattle.sorted.specs.Lent.{is_list, list_table}
+use Rattle.scl.specs.Table.{is_items, item_table}
 use Rattle.scl.proofs.Table.{both}
 use Rattle.kbm.specs.Root.{is_root}
 use Rattle.relative.specs.Scales.{is_scale}

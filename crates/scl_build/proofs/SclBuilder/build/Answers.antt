@@ -7,7 +7,7 @@ use Rattle.sorted.specs.Lent.{list_table}
 use Rattle.scl.specs.Items.{is_usable}
 use Rattle.scl.specs.Table.{ItemTable, Typed, item_table}
 use Rattle.scl_build.proofs.Builds.{build_refused, build_given, not_ready, ready_items, places_room, ratios_room, wraps_room, items_room, ready_last, last_usable, too_many, beyond, within}
-use Rattle.scl_build.proofs.Comes.{comes_too}
+use Rattle.scl_build.proofs.Comes.{comes_too, value_and_comes}
 use Rattle.scl_build.proofs.SclBuilder.build.Goals as goal
 use Rattle.scl_build.proofs.SclBuilder.build.Goals.{After-shared_slice_known-4-1}
 
@@ -15,19 +15,11 @@ use Rattle.scl_build.proofs.SclBuilder.build.Goals.{After-shared_slice_known-4-1
 typed : (c : After-shared_slice_known-4-1) → Typed (item_table c.args.kind.now c.args.cents.now c.args.numer.now c.args.denom.now)
 typed c = record { numers = λ i. omega (arith, c.type_inv.numer i); denoms = λ i. omega (arith, c.type_inv.denom i) }
 
-pub shape_of-place-then-count-gt65535 : goal.shape_of-place-then-count-gt65535
-shape_of-place-then-count-gt65535 c = refl
-
-pub shape_of-ratio-then-count-gt65535 : goal.shape_of-ratio-then-count-gt65535
-shape_of-ratio-then-count-gt65535 c = refl
-
-pub shape_of-wraps-then-count-gt65535 : goal.shape_of-wraps-then-count-gt65535
-shape_of-wraps-then-count-gt65535 c = refl
-
 pub returns-then-count-gt65535 : goal.returns-then-count-gt65535
 returns-then-count-gt65535 c =
-    comes_too c.args.self (item_table c.args.kind.now c.args.cents.now c.args.numer.now c.args.denom.now) (list_table c.args.place.now c.args.ratio.now c.args.wraps.now) (typed (goal.at.returns-then-count-gt65535 c).After-shared_slice_known-4-1)
-    (build_refused c.args.self (item_table c.args.kind.now c.args.cents.now c.args.numer.now c.args.denom.now) (list_table c.args.place.now c.args.ratio.now c.args.wraps.now) (too_many c.args.self (item_table c.args.kind.now c.args.cents.now c.args.numer.now c.args.denom.now) (list_table c.args.place.now c.args.ratio.now c.args.wraps.now) (sym c.is_ready.ensures ∙ c.if-is_ready.true) (omega (arith, c.if-count-gt65535.true))))
+    value_and_comes
+    (comes_too c.args.self (item_table c.args.kind.now c.args.cents.now c.args.numer.now c.args.denom.now) (list_table c.args.place.now c.args.ratio.now c.args.wraps.now) (typed (goal.at.returns-then-count-gt65535 c).After-shared_slice_known-4-1)
+    (build_refused c.args.self (item_table c.args.kind.now c.args.cents.now c.args.numer.now c.args.denom.now) (list_table c.args.place.now c.args.ratio.now c.args.wraps.now) (too_many c.args.self (item_table c.args.kind.now c.args.cents.now c.args.numer.now c.args.denom.now) (list_table c.args.place.now c.args.ratio.now c.args.wraps.now) (sym c.is_ready.ensures ∙ c.if-is_ready.true) (omega (arith, c.if-count-gt65535.true)))))
 
 pub item_at-last-requires : goal.item_at-last-requires
 item_at-last-requires c = items_room c.args.self (item_table c.args.kind.now c.args.cents.now c.args.numer.now c.args.denom.now) (list_table c.args.place.now c.args.ratio.now c.args.wraps.now) (sym c.is_ready.ensures ∙ c.if-is_ready.true)
@@ -35,49 +27,25 @@ item_at-last-requires c = items_room c.args.self (item_table c.args.kind.now c.a
 pub is_beyond-requires : goal.is_beyond-requires
 is_beyond-requires c = ap is_usable (c.item_at-last.ensures ∙ sym (ready_last c.args.self (item_table c.args.kind.now c.args.cents.now c.args.numer.now c.args.denom.now) (list_table c.args.place.now c.args.ratio.now c.args.wraps.now) (sym c.is_ready.ensures ∙ c.if-is_ready.true))) ∙ last_usable c.args.self (item_table c.args.kind.now c.args.cents.now c.args.numer.now c.args.denom.now) (list_table c.args.place.now c.args.ratio.now c.args.wraps.now) (sym c.is_ready.ensures ∙ c.if-is_ready.true)
 
-pub shape_of-place-then-is_beyond : goal.shape_of-place-then-is_beyond
-shape_of-place-then-is_beyond c = refl
-
-pub shape_of-ratio-then-is_beyond : goal.shape_of-ratio-then-is_beyond
-shape_of-ratio-then-is_beyond c = refl
-
-pub shape_of-wraps-then-is_beyond : goal.shape_of-wraps-then-is_beyond
-shape_of-wraps-then-is_beyond c = refl
-
 pub returns-then-is_beyond : goal.returns-then-is_beyond
 returns-then-is_beyond c =
-    comes_too c.args.self (item_table c.args.kind.now c.args.cents.now c.args.numer.now c.args.denom.now) (list_table c.args.place.now c.args.ratio.now c.args.wraps.now) (typed (goal.at.returns-then-is_beyond c).After-shared_slice_known-4-1)
-    (build_refused c.args.self (item_table c.args.kind.now c.args.cents.now c.args.numer.now c.args.denom.now) (list_table c.args.place.now c.args.ratio.now c.args.wraps.now) (beyond c.args.self (item_table c.args.kind.now c.args.cents.now c.args.numer.now c.args.denom.now) (list_table c.args.place.now c.args.ratio.now c.args.wraps.now) (sym c.is_ready.ensures ∙ c.if-is_ready.true) c.if-count-gt65535.false c.item_at-last.ensures (sym c.is_beyond.ensures ∙ c.if-is_beyond.true)))
+    value_and_comes
+    (comes_too c.args.self (item_table c.args.kind.now c.args.cents.now c.args.numer.now c.args.denom.now) (list_table c.args.place.now c.args.ratio.now c.args.wraps.now) (typed (goal.at.returns-then-is_beyond c).After-shared_slice_known-4-1)
+    (build_refused c.args.self (item_table c.args.kind.now c.args.cents.now c.args.numer.now c.args.denom.now) (list_table c.args.place.now c.args.ratio.now c.args.wraps.now) (beyond c.args.self (item_table c.args.kind.now c.args.cents.now c.args.numer.now c.args.denom.now) (list_table c.args.place.now c.args.ratio.now c.args.wraps.now) (sym c.is_ready.ensures ∙ c.if-is_ready.true) c.if-count-gt65535.false c.item_at-last.ensures (sym c.is_beyond.ensures ∙ c.if-is_beyond.true))))
 
 pub build_list-requires : goal.build_list-requires
 build_list-requires c =
     let h = (sym c.is_ready.ensures ∙ c.if-is_ready.true) in
     (ready_items c.args.self (item_table c.args.kind.now c.args.cents.now c.args.numer.now c.args.denom.now) (list_table c.args.place.now c.args.ratio.now c.args.wraps.now) h, c.if-count-gt65535.false, places_room c.args.self (item_table c.args.kind.now c.args.cents.now c.args.numer.now c.args.denom.now) (list_table c.args.place.now c.args.ratio.now c.args.wraps.now) h, ratios_room c.args.self (item_table c.args.kind.now c.args.cents.now c.args.numer.now c.args.denom.now) (list_table c.args.place.now c.args.ratio.now c.args.wraps.now) h, wraps_room c.args.self (item_table c.args.kind.now c.args.cents.now c.args.numer.now c.args.denom.now) (list_table c.args.place.now c.args.ratio.now c.args.wraps.now) h)
 
-pub shape_of-place-then-is_ready : goal.shape_of-place-then-is_ready
-shape_of-place-then-is_ready c = c.place-1.given
-
-pub shape_of-ratio-then-is_ready : goal.shape_of-ratio-then-is_ready
-shape_of-ratio-then-is_ready c = c.ratio-1.given
-
-pub shape_of-wraps-then-is_ready : goal.shape_of-wraps-then-is_ready
-shape_of-wraps-then-is_ready c = c.wraps-1.given
-
 pub returns-then-is_ready : goal.returns-then-is_ready
 returns-then-is_ready c =
-    comes_too c.args.self (item_table c.args.kind.now c.args.cents.now c.args.numer.now c.args.denom.now) (list_table c.args.place.now c.args.ratio.now c.args.wraps.now) (typed (goal.at.returns-then-is_ready c).After-shared_slice_known-4-1)
-    (build_given c.args.self (item_table c.args.kind.now c.args.cents.now c.args.numer.now c.args.denom.now) (list_table c.args.place.now c.args.ratio.now c.args.wraps.now) (within c.args.self (item_table c.args.kind.now c.args.cents.now c.args.numer.now c.args.denom.now) (list_table c.args.place.now c.args.ratio.now c.args.wraps.now) (sym c.is_ready.ensures ∙ c.if-is_ready.true) c.if-count-gt65535.false c.item_at-last.ensures (sym c.is_beyond.ensures ∙ c.if-is_beyond.false)) c.build_list.ensures.0 c.build_list.ensures.1)
-
-pub shape_of-place : goal.shape_of-place
-shape_of-place c = refl
-
-pub shape_of-ratio : goal.shape_of-ratio
-shape_of-ratio c = refl
-
-pub shape_of-wraps : goal.shape_of-wraps
-shape_of-wraps c = refl
+    value_and_comes
+    (comes_too c.args.self (item_table c.args.kind.now c.args.cents.now c.args.numer.now c.args.denom.now) (list_table c.args.place.now c.args.ratio.now c.args.wraps.now) (typed (goal.at.returns-then-is_ready c).After-shared_slice_known-4-1)
+    (build_given c.args.self (item_table c.args.kind.now c.args.cents.now c.args.numer.now c.args.denom.now) (list_table c.args.place.now c.args.ratio.now c.args.wraps.now) (within c.args.self (item_table c.args.kind.now c.args.cents.now c.args.numer.now c.args.denom.now) (list_table c.args.place.now c.args.ratio.now c.args.wraps.now) (sym c.is_ready.ensures ∙ c.if-is_ready.true) c.if-count-gt65535.false c.item_at-last.ensures (sym c.is_beyond.ensures ∙ c.if-is_beyond.false)) c.build_list.ensures.0 c.build_list.ensures.1))
 
 pub returns : goal.returns
 returns c =
-    comes_too c.args.self (item_table c.args.kind.now c.args.cents.now c.args.numer.now c.args.denom.now) (list_table c.args.place.now c.args.ratio.now c.args.wraps.now) (typed (goal.at.returns c).After-shared_slice_known-4-1)
-    (build_refused c.args.self (item_table c.args.kind.now c.args.cents.now c.args.numer.now c.args.denom.now) (list_table c.args.place.now c.args.ratio.now c.args.wraps.now) (not_ready c.args.self (item_table c.args.kind.now c.args.cents.now c.args.numer.now c.args.denom.now) (list_table c.args.place.now c.args.ratio.now c.args.wraps.now) (sym c.is_ready.ensures ∙ c.if-is_ready.false)))
+    value_and_comes
+    (comes_too c.args.self (item_table c.args.kind.now c.args.cents.now c.args.numer.now c.args.denom.now) (list_table c.args.place.now c.args.ratio.now c.args.wraps.now) (typed (goal.at.returns c).After-shared_slice_known-4-1)
+    (build_refused c.args.self (item_table c.args.kind.now c.args.cents.now c.args.numer.now c.args.denom.now) (list_table c.args.place.now c.args.ratio.now c.args.wraps.now) (not_ready c.args.self (item_table c.args.kind.now c.args.cents.now c.args.numer.now c.args.denom.now) (list_table c.args.place.now c.args.ratio.now c.args.wraps.now) (sym c.is_ready.ensures ∙ c.if-is_ready.false))))

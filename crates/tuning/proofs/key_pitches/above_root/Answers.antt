@@ -4,7 +4,6 @@ use mathlib.Core.Path.{◌∙◌, ap, sym}
 use Rattle.pitch.specs.Answers.{says_pitch, says_ratio}
 use Rattle.pitch.specs.declared.PitchAnswer.{PitchAnswer}
 use Rattle.relative.specs.Pitches.{above}
-use borrow.Author.Rules.{rules}
 use Rattle.tuning.proofs.key_pitches.above_root.Goals as goal
 
 pub returns-in-Is : goal.returns-in-Is

@@ -1,18 +1,14 @@
 -- `fill` meets its contract: each key in its turn. The invariant: the keys before k have answered.
 -- Assumes nothing.
-use mathlib.Core.Path.{◌≡◌, refl, sym, ◌∙◌, ap}
-use Prim.Native.Nat.{ℕ, ◌≤◌, ◌<◌, ◌-◌}
+use mathlib.Core.Path.{refl, ◌∙◌, ap}
 use native.Mathlib.Omega.{arith}
 use native.Mathlib.Nat.{le_antisymm}
-use lib.Ieee.{Float}
 use lib.ListN.{length}
-use Rattle.base.specs.Said.{Said}
 use Rattle.kbm.specs.Middle.{counted}
 use Rattle.scl.specs.Table.{item_table, items_in}
 use Rattle.pitch.specs.Answers.{says_pitch}
 use Rattle.tuning.specs.Run.{step_said, sounded_to, numbers_to}
 use Rattle.tuning.proofs.Run.{sounded_to_length, numbers_to_length, hz_turn, numbers_turn}
-use borrow.Author.Rules.{rules}
 use Rattle.tuning.proofs.key_pitches.fill.Goals as goal
 
 pub loop-k-init : goal.loop-k-init

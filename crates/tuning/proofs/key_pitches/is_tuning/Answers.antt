@@ -1,7 +1,6 @@
 -- `is_tuning` meets its contract: the three tests.
 -- Assumes nothing.
 use mathlib.Core.Path.{◌∙◌, sym}
-use borrow.Author.Rules.{rules}
 use Rattle.tuning.proofs.key_pitches.is_tuning.Goals as goal
 
 pub returns-then-is_root : goal.returns-then-is_root

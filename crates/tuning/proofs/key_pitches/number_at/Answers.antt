@@ -1,8 +1,5 @@
 -- `number_at` meets its contract: 64 bits hold the sum.
 -- Assumes nothing.
-use native.Mathlib.Omega.{arith}
-use lib.IntN.{pos, ◌+ℤ◌}
-use mir.Facts.{to_z-of_z}
 use mir.Syntax.{w64}
 use Rattle.base.proofs.Machine.{widen_fits}
 use Rattle.tuning.proofs.Run.{wide_fits, wide_is}

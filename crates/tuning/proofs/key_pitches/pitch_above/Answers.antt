@@ -7,7 +7,7 @@ use mir.Facts.{to_z-of_z}
 use mir.Syntax.{w32}
 use Rattle.base.specs.Said.{Said}
 use Rattle.base.proofs.Said.{and_then_law}
-use Rattle.scl.specs.Table.{ItemTable, item_table, items_in}
+use Rattle.scl.specs.Table.{item_table, items_in}
 use Rattle.kbm.specs.Answers.{says_degree}
 use Rattle.pitch.specs.Answers.{says_pitch}
 use Rattle.relative.specs.Relative.{relative_pitch_of}

@@ -1,14 +1,11 @@
 -- `root_of` meets its contract: the degree that sounds the root's pitch, then the pitch of place 0.
 -- Assumes nothing.
 use mathlib.Core.Path.{◌∙◌}
-use lib.Ieee.{Float}
-use lib.IntN.{ℤ}
 use mir.Facts.{to_z-of_z}
 use mir.Syntax.{w32}
-use Rattle.base.specs.Said.{Said}
 use Rattle.base.proofs.Said.{and_then_law}
 use Rattle.kbm.specs.Answers.{says_degree}
-use Rattle.scl.specs.Table.{ItemTable, item_table, items_in}
+use Rattle.scl.specs.Table.{item_table, items_in}
 use Rattle.relative.specs.Pitches.{root_pitch}
 use borrow.Author.Rules.{rules}
 use Rattle.tuning.proofs.key_pitches.root_of.Goals as goal

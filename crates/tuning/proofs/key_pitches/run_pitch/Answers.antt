@@ -1,16 +1,12 @@
 -- `run_pitch` meets its contract: the key, then its pitch.
 -- Assumes nothing.
 use mathlib.Core.Path.{◌∙◌}
-use lib.Ieee.{Float}
-use Rattle.base.specs.Said.{Said}
 use Rattle.base.proofs.Said.{and_then_law}
 use Rattle.key.specs.Answers.{says_key}
-use Rattle.key.specs.declared.PianoKey.{PianoKey}
 use Rattle.kbm.specs.Middle.{counted}
-use Rattle.scl.specs.Table.{ItemTable, item_table, items_in}
+use Rattle.scl.specs.Table.{item_table, items_in}
 use Rattle.pitch.specs.Answers.{says_pitch}
 use Rattle.tuning.specs.Run.{key_said}
-use borrow.Author.Rules.{rules}
 use Rattle.tuning.proofs.key_pitches.run_pitch.Goals as goal
 
 pub returns-in-Is : goal.returns-in-Is

@@ -5,7 +5,6 @@ use lib.ListN.{set}
 use Rattle.pitch.specs.Answers.{says_pitch}
 use Rattle.pitch.specs.declared.PitchAnswer.{PitchAnswer}
 use Rattle.tuning.specs.Run.{sounded, number_beside}
-use borrow.Author.Rules.{rules}
 use Rattle.tuning.proofs.key_pitches.store.Goals as goal
 
 pub returns-in-Is : goal.returns-in-Is

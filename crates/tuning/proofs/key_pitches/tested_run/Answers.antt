@@ -2,21 +2,15 @@
 -- Assumes nothing.
 use mathlib.Core.Path.{◌≡◌, sym, ◌∙◌}
 use mathlib.Core.Bool.{true, ◌&&◌}
-use mathlib.Core.List.{List}
-use Prim.Native.Nat.{ℕ}
-use lib.Ieee.{Float}
 use lib.ListN.{length}
-use Rattle.base.specs.Said.{Said}
 use Rattle.kbm.specs.Middle.{counted}
 use Rattle.kbm.specs.Root.{is_root}
 use Rattle.kbm.specs.Table.{is_table}
 use Rattle.pitch.specs.Answers.{says_pitch}
 use Rattle.scl.proofs.Table.{both}
-use Rattle.scl.specs.Table.{ItemTable, is_items, item_table, items_in}
-use Rattle.scl.specs.declared.Item.{Item}
+use Rattle.scl.specs.Table.{is_items, item_table, items_in}
 use Rattle.tuning.specs.Run.{step_said, counted_pitches, is_tuning}
 use Rattle.tuning.proofs.Run.{keys_same, run_unusable, run_done, run_short, numbers_short, sounded_same, numbers_same}
-use borrow.Author.Rules.{rules}
 use Rattle.tuning.proofs.key_pitches.tested_run.Goals as goal
 use Rattle.tuning.proofs.key_pitches.tested_run.Goals.{Then-is_tuning}
 
