@@ -1,5 +1,5 @@
 -- A push changes no column's length. Assumes nothing.
-use mathlib.Core.Path.{◌≡◌, refl, sym, ◌∙◌, ap, subst}
+use mathlib.Core.Path.{◌≡◌, refl, ◌∙◌}
 use Prim.Native.Nat.{ℕ, ◌+◌}
 use lib.ListN.{length, length-set}
 use Rattle.base.specs.Said.{Said, gives, refuses}

@@ -1,14 +1,14 @@
 -- What an accepted generator leaves, and when it is accepted. Document 01, "Scales and searches". Assumes nothing.
-use mathlib.Core.Path.{◌≡◌, refl, sym, ◌∙◌, ap, subst}
+use mathlib.Core.Path.{◌≡◌, refl, sym, ◌∙◌, ap}
 use mathlib.Core.Logic.{◌↔◌, ◌⊎◌, inl, inr}
 use mathlib.Core.Bool.{Bool, true, false}
-use mathlib.Core.List.{List, [], ◌∷◌}
-use Prim.Native.Nat.{ℕ, ◌+◌, ◌-◌, ◌≤◌, ◌<◌}
+use mathlib.Core.List.{List, ◌∷◌}
+use Prim.Native.Nat.{ℕ, ◌+◌, ◌≤◌, ◌<◌}
 use native.Mathlib.Omega.{arith}
 use lib.ListN.{length}
 use Rattle.base.specs.Numbers.{beyond_reach}
 use Rattle.base.specs.Said.{Said, gives, refuses, pick, One}
-use Rattle.base.proofs.Said.{one_result, no_value, no_refusal, same_value}
+use Rattle.base.proofs.Said.{one_result, no_refusal}
 use Rattle.floats.specs.Floats.{one_f}
 use Rattle.sorting.specs.Entries.{Entry}
 use Rattle.sorted.specs.Lent.{ListTable, is_list}
@@ -23,7 +23,7 @@ use Rattle.scl_tables.proofs.Theorems.{beyond_reach_is}
 use Rattle.scl_build.specs.Builder as Built
 use Rattle.scl_build.specs.declared.SclBuilder.{SclBuilder}
 use Rattle.scl_build.proofs.Theorems.{run_items, build_leaves}
-use Rattle.generate.specs.Generated.{all_pushed, list_of, made_of, items_left, list_left, Leaves}
+use Rattle.generate.specs.Generated.{all_pushed, list_of, made_of, Leaves}
 use Rattle.generate.proofs.Made.{accepted, all_usable, implicit_held, list_looks, some_list, made_beyond, made_given}
 
 module _ (t : ItemTable) (l : ListTable) (is : List Item) (few : length is ≤ 65535) (room : length is < room_of t l) (usable : are_usable is ≡ true) (held : AllHeld is) where

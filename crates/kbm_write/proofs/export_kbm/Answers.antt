@@ -8,6 +8,7 @@ use Rattle.kbm.specs.Table.{is_table}
 use Rattle.kbm_write.specs.Export.{export_of}
 use Rattle.kbm_write.proofs.Room.{table_fits}
 use borrow.Author.Rules.{rules}
+use Rattle.base.proofs.Clauses.{as_pair}
 use Rattle.base.proofs.Clauses.{value_and_out}
 use Rattle.kbm_write.proofs.export_kbm.Goals as goal
 use Rattle.kbm_write.proofs.export_kbm.Goals.{Then-is_table}
@@ -32,7 +33,7 @@ pub returns-then-is_in_pitch : goal.returns-then-is_in_pitch
 unfolding export_of
 returns-then-is_in_pitch c =
     value_and_out
-    (rw (table (goal.at.returns-then-is_in_pitch c).Then-is_table, sym c.is_in_pitch.ensures ∙ c.if-is_in_pitch.true) c.write_held.ensures)
+    (rw (table (goal.at.returns-then-is_in_pitch c).Then-is_table, sym c.is_in_pitch.ensures ∙ c.if-is_in_pitch.true) (as_pair c.write_held.ensures))
 
 pub returns-else-is_in_pitch : goal.returns-else-is_in_pitch
 unfolding export_of

@@ -12,6 +12,7 @@ use mir.Syntax.{w32}
 use borrow.Author.Rules.{rules}
 use Rattle.kbm_write.specs.Export.{table_text}
 use Rattle.kbm_write.proofs.Entries.{line_at, table_length, table_sets, table_end}
+use Rattle.base.proofs.Clauses.{as_pair}
 use Rattle.kbm_write.proofs.write_entries.Goals as goal
 use Rattle.kbm_write.proofs.write_entries.Goals.{After-write_entry-next}
 
@@ -19,7 +20,7 @@ use Rattle.kbm_write.proofs.write_entries.Goals.{After-write_entry-next}
 wrote : (c : After-write_entry-next) → (c.write_entry-next.result ≡ c.loop-i.next + length (line_at c.args.map.now c.loop-i.i))
     × (c.write_entry-next.new.out ≡ sets c.loop-i.out c.loop-i.next (line_at c.args.map.now c.loop-i.i))
 wrote c =
-    rw (to_z-of_z {w = w32} {z = get_or c.args.map.now c.loop-i.i (pos 0)} (search rules)) at c.write_entry-next.ensures
+    rw (to_z-of_z {w = w32} {z = get_or c.args.map.now c.loop-i.i (pos 0)} (search rules)) at (as_pair c.write_entry-next.ensures)
 
 pub loop-i-init : goal.loop-i-init
 loop-i-init c = (omega arith, refl, refl, refl)

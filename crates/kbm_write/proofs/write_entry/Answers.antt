@@ -11,6 +11,7 @@ use mir.Syntax.{w32}
 use Rattle.kbm.specs.Table.{is_unmapped}
 use Rattle.kbm.proofs.Entries.{unmapped_yes, unmapped_no}
 use Rattle.kbm_write.proofs.Lines.{unmapped_text, mapped_text, x_written}
+use Rattle.base.proofs.Clauses.{as_pair}
 use Rattle.base.proofs.Clauses.{value_and_out}
 use Rattle.kbm_write.proofs.write_entry.Goals as goal
 use Rattle.kbm_write.proofs.write_entry.Goals.{Else-z-eq-UNMAPPED, Then-z-eq-UNMAPPED}
@@ -49,4 +50,4 @@ write_line-requires c = rw (to_z-of_z {w = w32} c.ranges.z, sym (mapped_text c.a
 pub returns : goal.returns
 returns c =
     value_and_out
-    (rw (mapped_text c.args.z (left (goal.at.returns c).Else-z-eq-UNMAPPED)) (rw (to_z-of_z {c = w32} c.ranges.z) at c.write_line.ensures))
+    (rw (mapped_text c.args.z (left (goal.at.returns c).Else-z-eq-UNMAPPED)) (rw (to_z-of_z {w = w32} c.ranges.z) at (as_pair c.write_line.ensures)))

@@ -14,6 +14,7 @@ use Rattle.integer_math.specs.Answers.{says_i32}
 use Rattle.kbm_write.specs.Export.{last_key_of, middle_key_of}
 use Rattle.kbm_write.proofs.Room.{held_is}
 use borrow.Author.Rules.{rules}
+use Rattle.base.proofs.Clauses.{as_pair}
 use Rattle.base.proofs.Clauses.{value_and_out}
 use Rattle.kbm_write.proofs.write_held.Goals as goal
 use Rattle.kbm_write.proofs.write_held.Goals.{After-to_i32, After-to_i32-in-Is, In-Is, In-Is-to_i32, Start}
@@ -66,7 +67,7 @@ pub returns-in-Is-to_i32 : goal.returns-in-Is-to_i32
 returns-in-Is-to_i32 c =
     let las = sym (told_last (goal.at.returns-in-Is-to_i32 c).After-to_i32) ∙ ap says_i32 c.in-Is.is in
     let mid = sym (told_middle (goal.at.returns-in-Is-to_i32 c).After-to_i32-in-Is) ∙ ap says_i32 c.in-Is-to_i32.is in
-    let e = rw (to_z_pos w32 {n = c.args.kbm.count} (size_fits (goal.at.returns-in-Is-to_i32 c).Start), to_z-of_z {c = w32} (start_fits (goal.at.returns-in-Is-to_i32 c).Start), to_z-of_z {c = w32} (last_fits (goal.at.returns-in-Is-to_i32 c).In-Is), to_z-of_z {c = w32} (middle_fits (goal.at.returns-in-Is-to_i32 c).In-Is-to_i32), to_z-of_z {c = w32} (reference_fits (goal.at.returns-in-Is-to_i32 c).Start), to_z-of_z {c = w16} (octave_fits (goal.at.returns-in-Is-to_i32 c).Start), to_z-of_z {c = w32} (octave_wide (goal.at.returns-in-Is-to_i32 c).Start), held_is (last_key_of c.args.kbm) las, held_is (middle_key_of c.args.kbm) mid) at c.write_mapping.ensures in
+    let e = rw (to_z_pos w32 {n = c.args.kbm.count} (size_fits (goal.at.returns-in-Is-to_i32 c).Start), to_z-of_z {w = w32} (start_fits (goal.at.returns-in-Is-to_i32 c).Start), to_z-of_z {w = w32} (last_fits (goal.at.returns-in-Is-to_i32 c).In-Is), to_z-of_z {w = w32} (middle_fits (goal.at.returns-in-Is-to_i32 c).In-Is-to_i32), to_z-of_z {w = w32} (reference_fits (goal.at.returns-in-Is-to_i32 c).Start), to_z-of_z {w = w16} (octave_fits (goal.at.returns-in-Is-to_i32 c).Start), to_z-of_z {w = w32} (octave_wide (goal.at.returns-in-Is-to_i32 c).Start), held_is (last_key_of c.args.kbm) las, held_is (middle_key_of c.args.kbm) mid) at (as_pair c.write_mapping.ensures) in
     value_and_out
     (rw (las, mid) e)
 

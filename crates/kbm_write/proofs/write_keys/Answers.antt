@@ -6,6 +6,7 @@ use mir.Syntax.{w32}
 use borrow.Author.Rules.{rules}
 use Rattle.printing.specs.PrintText.{whole_text}
 use Rattle.kbm_write.proofs.Lines.{five_length, five_written}
+use Rattle.base.proofs.Clauses.{as_pair}
 use Rattle.kbm_write.proofs.write_keys.Goals as goal
 
 pub write_line-a-requires : goal.write_line-a-requires
@@ -39,15 +40,15 @@ write_line-requires c =
 
 pub returns : goal.returns
 returns c =
-    let e1 = rw (to_z-of_z {w = w32} c.ranges.size) at c.write_line-a.ensures in
-    let e2 = rw (to_z-of_z {w = w32} c.ranges.first) at c.write_line-b.ensures in
-    let e3 = rw (to_z-of_z {w = w32} c.ranges.last) at c.write_line-c.ensures in
-    let e4 = rw (to_z-of_z {w = w32} c.ranges.middle) at c.write_line-d.ensures in
-    let e5 = rw (to_z-of_z {w = w32} c.ranges.reference) at c.write_line.ensures in
+    let e1 = rw (to_z-of_z {w = w32} c.ranges.size) at (as_pair c.write_line-a.ensures) in
+    let e2 = rw (to_z-of_z {w = w32} c.ranges.first) at (as_pair c.write_line-b.ensures) in
+    let e3 = rw (to_z-of_z {w = w32} c.ranges.last) at (as_pair c.write_line-c.ensures) in
+    let e4 = rw (to_z-of_z {w = w32} c.ranges.middle) at (as_pair c.write_line-d.ensures) in
+    let e5 = rw (to_z-of_z {w = w32} c.ranges.reference) at (as_pair c.write_line.ensures) in
     record {
-      value = omega (arith, e1.value, e2.value, e3.value, e4.value, e5.value, five_length (whole_text c.args.size) (whole_text c.args.first) (whole_text c.args.last) (whole_text c.args.middle) (whole_text c.args.reference));
+      value = omega (arith, e1.0, e2.0, e3.0, e4.0, e5.0, five_length (whole_text c.args.size) (whole_text c.args.first) (whole_text c.args.last) (whole_text c.args.middle) (whole_text c.args.reference));
       out_after = five_written (whole_text c.args.size) (whole_text c.args.first) (whole_text c.args.last) (whole_text c.args.middle) (whole_text c.args.reference)
           c.args.out.now c.write_line-a.new.out c.write_line-b.new.out c.write_line-c.new.out c.write_line-d.new.out c.write_line.new.out
           c.write_line-a.result c.write_line-b.result c.write_line-c.result c.write_line-d.result
-          e1.out_after e1.value e2.out_after e2.value e3.out_after e3.value e4.out_after e4.value e5.out_after;
+          e1.1 e1.0 e2.1 e2.0 e3.1 e3.0 e4.1 e4.0 e5.1;
     }

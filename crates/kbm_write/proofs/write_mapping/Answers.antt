@@ -18,6 +18,7 @@ use Rattle.writing.proofs.Room.{too_long, long_enough}
 use Rattle.kbm_write.proofs.Lines.{pitch_limited}
 use Rattle.kbm_write.proofs.Room.{four_runs, four_length}
 use borrow.Author.Rules.{rules}
+use Rattle.base.proofs.Clauses.{as_pair}
 use Rattle.base.proofs.Clauses.{value_and_out}
 use Rattle.kbm_write.proofs.write_mapping.Goals as goal
 use Rattle.kbm_write.proofs.write_mapping.Goals.{After-mapping_length-total, After-write_keys-sound, After-write_line-entries, Start}
@@ -33,11 +34,11 @@ total c =
 
 told_keys : (c : After-write_keys-sound) → (c.write_keys-sound.result ≡ length (lines_text (key_texts c.args.size c.args.first c.args.last c.args.middle c.args.reference))) × (c.write_keys-sound.new.out ≡ sets c.args.out.now 0 (lines_text (key_texts c.args.size c.args.first c.args.last c.args.middle c.args.reference)))
 told_keys c =
-    rw (to_z-of_z {w = w32} c.ranges.size, to_z-of_z {w = w32} c.ranges.first, to_z-of_z {w = w32} c.ranges.last, to_z-of_z {w = w32} c.ranges.middle, to_z-of_z {w = w32} c.ranges.reference) at c.write_keys-sound.ensures
+    rw (to_z-of_z {w = w32} c.ranges.size, to_z-of_z {w = w32} c.ranges.first, to_z-of_z {w = w32} c.ranges.last, to_z-of_z {w = w32} c.ranges.middle, to_z-of_z {w = w32} c.ranges.reference) at (as_pair c.write_keys-sound.ensures)
 
 told_octave : (c : After-write_line-entries) → (c.write_line-entries.result ≡ c.write_decimal-formal.result + length (line (whole_text c.args.octave))) × (c.write_line-entries.new.out ≡ sets c.write_decimal-formal.new.out c.write_decimal-formal.result (line (whole_text c.args.octave)))
 told_octave c =
-    rw (to_z-of_z {w = w32} c.ranges.octave) at c.write_line-entries.ensures
+    rw (to_z-of_z {w = w32} c.ranges.octave) at (as_pair c.write_line-entries.ensures)
 
 pub returns-then-out-total : goal.returns-then-out-total
 returns-then-out-total c =

@@ -1,6 +1,5 @@
 -- `store_midi` meets its contract: stored or coded. Assumes nothing.
 use mathlib.Core.Path.{refl}
-use borrow.Author.Rules.{rules}
 use Rattle.key.specs.Answers.{says_midi}
 use Rattle.telbijan_answers.proofs.Interface.{accepted, refused, stays, stored}
 use Rattle.telbijan_answers.proofs.store_midi.Goals as goal

@@ -1,6 +1,5 @@
 -- `store_pitch` meets its contract: stored or coded. Assumes nothing.
 use mathlib.Core.Path.{refl}
-use borrow.Author.Rules.{rules}
 use Rattle.pitch.specs.Answers.{says_pitch}
 use Rattle.telbijan_answers.proofs.Interface.{accepted, refused, stays, stored}
 use Rattle.telbijan_answers.proofs.store_pitch.Goals as goal

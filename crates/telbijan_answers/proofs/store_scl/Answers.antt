@@ -1,6 +1,5 @@
 -- `store_scl` meets its contract: stored or coded. Assumes nothing.
 use mathlib.Core.Path.{refl}
-use borrow.Author.Rules.{rules}
 use Rattle.scl.specs.Answers.{says_scl}
 use Rattle.telbijan_answers.proofs.Interface.{accepted, refused, stays, stored}
 use Rattle.telbijan_answers.proofs.store_scl.Goals as goal

@@ -1,6 +1,5 @@
 -- `store_size` meets its contract: stored or coded. Assumes nothing.
 use mathlib.Core.Path.{refl}
-use borrow.Author.Rules.{rules}
 use Rattle.writing.specs.Answers.{says_size}
 use Rattle.telbijan_answers.proofs.Interface.{accepted, refused, stays, stored}
 use Rattle.telbijan_answers.proofs.store_size.Goals as goal

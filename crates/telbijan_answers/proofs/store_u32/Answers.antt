@@ -1,6 +1,5 @@
 -- `store_u32` meets its contract: stored or coded. Assumes nothing.
 use mathlib.Core.Path.{refl}
-use borrow.Author.Rules.{rules}
 use Rattle.math.specs.Answers.{says_u32}
 use Rattle.telbijan_answers.proofs.Interface.{accepted, refused, stays, stored}
 use Rattle.telbijan_answers.proofs.store_u32.Goals as goal
