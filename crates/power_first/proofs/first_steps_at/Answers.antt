@@ -3,7 +3,8 @@
 use native.Mathlib.Omega.{arith}
 use lib.Dec.{lit<}
 use Rattle.base.proofs.Arms.{past}
-use Rattle.power_first.proofs.Rows.{first_steps, first_steps_quarters}
+use Rattle.power_first.proofs.Rows.{first_steps}
+use Rattle.power_first.proofs.Arms.{first_steps_quarters}
 use Rattle.power_first.proofs.first_steps_at.Goals as goal
 
 pub returns-in-0 : goal.returns-in-0
