@@ -1,39 +1,44 @@
-// Answers to frozen questions, as the programs that replay them write them to standard output. Each field is written after a space: integers
+// Answers to frozen questions, as the programs that replay them write them to a writer. Each field is written after a space: integers
 // in decimal, a float as 16 hex digits of its bits or `nan`, a refusal as `!NUMBER DETAIL`, bytes as hex digits or `-` for none.
+#![tactic(auto)]
+
 use base::Refusal;
-use libc::STDOUT_FILENO;
+use std::io;
+use std::io::Write;
 
 // Bytes as they are, with no space.
-fn raw(bytes: &[u8]) {
-    io::write_all(STDOUT_FILENO, bytes);
+fn raw<W: Write>(out: &mut W, bytes: &[u8]) -> io::Result<()> {
+    out.write_all(bytes)
 }
 
 // The name that begins an answer: that of a call, or `?` where there is none.
-pub fn name(name: &[u8]) {
+pub fn name<W: Write>(out: &mut W, name: &[u8]) -> io::Result<()> {
     if name.len() == 0 {
-        raw(b"?");
+        raw(out, b"?")
     } else {
-        raw(name);
+        raw(out, name)
     }
 }
 
 // The end of an answer.
-pub fn end() {
-    raw(b"\n");
+pub fn end<W: Write>(out: &mut W) -> io::Result<()> {
+    raw(out, b"\n")
 }
 
-pub fn word(word: &[u8]) {
-    raw(b" ");
-    raw(word);
+// A word.
+pub fn word<W: Write>(out: &mut W, word: &[u8]) -> io::Result<()> {
+    raw(out, b" ")?;
+    raw(out, word)
 }
 
-pub fn size(n: usize) {
-    raw(b" ");
-    io::print_decimal(STDOUT_FILENO, n as u64);
+// A number of things.
+pub fn size<W: Write>(out: &mut W, n: usize) -> io::Result<()> {
+    write!(out, " {n}")
 }
 
-pub fn natural(n: u32) {
-    size(n as usize);
+// A natural number.
+pub fn natural<W: Write>(out: &mut W, n: u32) -> io::Result<()> {
+    size(out, n as usize)
 }
 
 // z, or -1 - z where z is negative.
@@ -41,18 +46,20 @@ fn magnitude(z: i32) -> u32 {
     if z < 0 { (-1 - z) as u32 } else { z as u32 }
 }
 
-pub fn int(z: i32) {
+// An integer.
+pub fn int<W: Write>(out: &mut W, z: i32) -> io::Result<()> {
     let m = magnitude(z) as u64;
     if z < 0 {
-        raw(b" -");
-        io::print_decimal(STDOUT_FILENO, m + 1);
+        let n = m + 1;
+        write!(out, " -{n}")
     } else {
-        size(m as usize);
+        size(out, m as usize)
     }
 }
 
-pub fn short(z: i16) {
-    int(z as i32);
+// A short integer.
+pub fn short<W: Write>(out: &mut W, z: i16) -> io::Result<()> {
+    int(out, z as i32)
 }
 
 // The bits of a number; 0 for a NaN.
@@ -63,73 +70,76 @@ fn bits(x: f64) -> u64 {
     0
 }
 
-pub fn float(x: f64) {
+// A float: 16 hex digits of its bits, or `nan`.
+pub fn float<W: Write>(out: &mut W, x: f64) -> io::Result<()> {
     if x == x {
-        raw(b" ");
-        io::print_hex(STDOUT_FILENO, bits(x), 16);
+        let n = bits(x);
+        write!(out, " {n:016x}")
     } else {
-        raw(b" nan");
+        raw(out, b" nan")
     }
 }
 
-pub fn refusal(refusal: Refusal) {
-    raw(b" !");
-    io::print_decimal(STDOUT_FILENO, refusal.number as u64);
-    size(refusal.detail);
+// A refusal: its number after `!`, and its detail.
+pub fn refusal<W: Write>(out: &mut W, refusal: Refusal) -> io::Result<()> {
+    let number = refusal.number;
+    write!(out, " !{number}")?;
+    size(out, refusal.detail)
 }
 
+// A byte as a wider number.
 fn wide(b: u8) -> u64 {
     b as u64
 }
 
-pub fn bytes(bytes: &[u8]) {
+// Bytes: two hex digits for each, or `-` for none.
+pub fn bytes<W: Write>(out: &mut W, bytes: &[u8]) -> io::Result<()> {
     if bytes.len() == 0 {
-        raw(b" -");
-        return;
+        return raw(out, b" -");
     }
-    raw(b" ");
-    let mut k = 0;
-    while k < bytes.len() {
-        io::print_hex(STDOUT_FILENO, wide(bytes[k]), 2);
-        k += 1;
+    raw(out, b" ")?;
+    for b in bytes {
+        let n = wide(*b);
+        write!(out, "{n:02x}")?;
     }
+    Ok(())
 }
 
 // The places of a table, after their number.
-pub fn table(map: &[i32]) {
-    size(map.len());
-    let mut k = 0;
-    while k < map.len() {
-        int(map[k]);
-        k += 1;
+pub fn table<W: Write>(out: &mut W, map: &[i32]) -> io::Result<()> {
+    size(out, map.len())?;
+    for z in map {
+        int(out, *z)?;
     }
+    Ok(())
 }
 
 // A scale's item; `.` where it is as lent.
-fn item(kind: u8, cents: f64, numer: u32, denom: u32) {
+fn item<W: Write>(out: &mut W, kind: u8, cents: f64, numer: u32, denom: u32) -> io::Result<()> {
     if (kind == 9) & (cents == 2.0) & (numer == 7) & (denom == 7) {
-        word(b".");
+        word(out, b".")
     } else {
-        natural(kind as u32);
-        float(cents);
-        natural(numer);
-        natural(denom);
+        natural(out, kind as u32)?;
+        float(out, cents)?;
+        natural(out, numer)?;
+        natural(out, denom)
     }
 }
 
 // An entry of a sorted list; `.` where it is as lent.
-pub fn entry(place: u32, ratio: f64, wraps: i32) {
+pub fn entry<W: Write>(out: &mut W, place: u32, ratio: f64, wraps: i32) -> io::Result<()> {
     if (place == 8) & (ratio == 0.5) & (wraps == 8) {
-        word(b".");
+        word(out, b".")
     } else {
-        natural(place);
-        float(ratio);
-        int(wraps);
+        natural(out, place)?;
+        float(out, ratio)?;
+        int(out, wraps)
     }
 }
 
 // All places of the seven columns of a scale: the item of each, and the entry.
-pub fn places(
+pub fn places<W: Write>(
+    out: &mut W,
     kind: &[u8; 16],
     cents: &[f64; 16],
     numer: &[u32; 16],
@@ -137,11 +147,10 @@ pub fn places(
     place: &[u32; 16],
     ratio: &[f64; 16],
     wraps: &[i32; 16],
-) {
-    let mut k: usize = 0;
-    while k < 16 {
-        item(kind[k], cents[k], numer[k], denom[k]);
-        entry(place[k], ratio[k], wraps[k]);
-        k += 1;
+) -> io::Result<()> {
+    for k in 0..16 {
+        item(out, kind[k], cents[k], numer[k], denom[k])?;
+        entry(out, place[k], ratio[k], wraps[k])?;
     }
+    Ok(())
 }
