@@ -2,9 +2,26 @@
 // in decimal, a float as 16 hex digits of its bits or `nan`, a refusal as `!NUMBER DETAIL`, bytes as hex digits or `-` for none.
 #![tactic(auto)]
 
+ghost use Rattle.std.specs.Prelude.{◌≤◌, length, IfOk};
+
 use base::Refusal;
 use std::io;
-use std::io::Write;
+use std::io::{Read, Write};
+
+// Reads the questions until their bytes are full or the input ends, and how many bytes they are.
+pub fn questions<R: Read>(from: &mut R, list: &mut [u8]) -> io::Result<usize>
+    ensures { IfOk result (λ n. n ≤ length list.new) }
+{
+    let mut n = 0;
+    while n < list.len() {
+        let more = from.read(&mut list[n..])?;
+        if more == 0 {
+            break;
+        }
+        n += more;
+    }
+    Ok(n)
+}
 
 // Bytes as they are, with no space.
 fn raw<W: Write>(out: &mut W, bytes: &[u8]) -> io::Result<()> {
