@@ -4,60 +4,57 @@ use floats::FloatAnswer;
 use integer_math::I32Answer;
 use kbm::{Counting, DegreeAnswer, Kbm};
 use key::{KeyAnswer, PianoKey};
-use libc::STDOUT_FILENO;
 use pitch::Pitch;
 use printing::Placed;
+use std::io;
+use std::io::{ErrorKind, Write};
 
 // The most keys that are shown.
 pub const MOST: usize = 1024;
 
 // Prints the first n bytes and one byte more.
-fn print_bytes(out: &[u8], n: usize, end: u8) -> bool {
-    if io::write_all(STDOUT_FILENO, crate::files::first(out, n)) {
-        return io::write_all(STDOUT_FILENO, &[end]);
-    }
-    false
+fn print_bytes<W: Write>(out: &mut W, bytes: &[u8], n: usize, end: u8) -> io::Result<()> {
+    out.write_all(crate::files::first(bytes, n))?;
+    out.write_all(&[end])
 }
 
 // Prints a whole number and a byte.
-fn print_whole(z: i32, end: u8) -> bool {
-    let mut out = [0u8; 32];
-    match printing::write_i32(z, &mut out, 0) {
-        Placed::At(n) => print_bytes(&out, n, end),
-        Placed::Full => false,
+fn print_whole<W: Write>(out: &mut W, z: i32, end: u8) -> io::Result<()> {
+    let mut bytes = [0u8; 32];
+    match printing::write_i32(z, &mut bytes, 0) {
+        Placed::At(n) => print_bytes(out, &bytes, n, end),
+        Placed::Full => Err(io::Error::from(ErrorKind::WriteZero)),
     }
 }
 
 // Prints a number with three decimals, or a word for one above 2^53, and a byte.
-fn print_three(x: f64, end: u8) -> bool {
-    let mut out = [0u8; 64];
-    match keytable_lines::write_three(x, &mut out, 0) {
-        Placed::At(n) => print_bytes(&out, n, end),
-        Placed::Full => print_bytes(b"above-2^53", 10, end),
+fn print_three<W: Write>(out: &mut W, x: f64, end: u8) -> io::Result<()> {
+    let mut bytes = [0u8; 64];
+    match keytable_lines::write_three(x, &mut bytes, 0) {
+        Placed::At(n) => print_bytes(out, &bytes, n, end),
+        Placed::Full => print_bytes(out, b"above-2^53", 10, end),
     }
 }
 
 // Prints a pitch in Hz, its cents above the reference pitch, and a line end.
-fn print_pitch(reference: Pitch, hz: f64) -> bool {
-    if !print_three(hz, b' ') {
-        return false;
-    }
+fn print_pitch<W: Write>(out: &mut W, reference: Pitch, hz: f64) -> io::Result<()> {
+    print_three(out, hz, b' ')?;
     match keytable_lines::cents_above(reference, Pitch(hz)) {
-        FloatAnswer::Is(cents) => print_three(cents, b'\n'),
+        FloatAnswer::Is(cents) => print_three(out, cents, b'\n'),
         FloatAnswer::Refused(refusal) => {
-            crate::reasons::say(STDOUT_FILENO, refusal.number);
-            io::write_all(STDOUT_FILENO, b"\n")
+            crate::reasons::say(out, refusal.number)?;
+            out.write_all(b"\n")
         }
     }
 }
 
 // Prints why a key has no pitch, and a line end.
-fn print_reason(number: u32) -> bool {
+fn print_reason<W: Write>(out: &mut W, number: u32) -> io::Result<()> {
     if number == base::UNMAPPED_KEY {
-        return io::write_all(STDOUT_FILENO, b"unmapped\n");
+        return out.write_all(b"unmapped\n");
     }
-    crate::reasons::say(STDOUT_FILENO, number);
-    io::write_all(STDOUT_FILENO, b"\n")
+    crate::reasons::say(out, number)?;
+    out.write_all(b"\n")
 }
 
 // The degree of a key in either counting.
@@ -69,65 +66,61 @@ fn degree_of(counting: Counting, kbm: Kbm, map: &[i32], key: PianoKey) -> Degree
 }
 
 // Prints the line of a key.
-fn print_key(
+fn print_key<W: Write>(
+    out: &mut W,
     counting: Counting,
     kbm: Kbm,
     map: &[i32],
     key: PianoKey,
     hz: f64,
     number: u32,
-) -> bool {
-    if !print_whole(key.0, b' ') {
-        return false;
-    }
+) -> io::Result<()> {
+    print_whole(out, key.0, b' ')?;
     if number != 0 {
-        return print_reason(number);
+        return print_reason(out, number);
     }
     let DegreeAnswer::Is(degree) = degree_of(counting, kbm, map, key) else {
-        return print_reason(base::UNMAPPED_KEY);
+        return print_reason(out, base::UNMAPPED_KEY);
     };
-    if !print_whole(degree.0, b' ') {
-        return false;
-    }
+    print_whole(out, degree.0, b' ')?;
     let root = kbm.root;
-    print_pitch(root.pitch, hz)
+    print_pitch(out, root.pitch, hz)
 }
 
 // Prints how many keys lie from `first` up to, not including, `end`, if any.
-fn print_left(first: PianoKey, end: PianoKey) -> bool {
+fn print_left<W: Write>(out: &mut W, first: PianoKey, end: PianoKey) -> io::Result<()> {
     if end.0 <= first.0 {
-        return true;
+        return Ok(());
     }
     let I32Answer::Is(left) = first.num_keys_before(end) else {
-        return io::write_all(STDOUT_FILENO, b"over 2147483647 keys more\n");
+        return out.write_all(b"over 2147483647 keys more\n");
     };
-    if print_whole(left, b' ') {
-        return io::write_all(STDOUT_FILENO, b"keys more\n");
-    }
-    false
+    print_whole(out, left, b' ')?;
+    out.write_all(b"keys more\n")
 }
 
 // Prints the lines of the first keys of the range, and how many are left out.
-pub fn print_keys(counting: Counting, mapping: Mapping, sounds: Sounds) -> bool {
+pub fn print_keys<W: Write>(
+    out: &mut W,
+    counting: Counting,
+    mapping: Mapping,
+    sounds: Sounds,
+) -> io::Result<()> {
     let kbm = mapping.kbm;
     let map = mapping.map;
     let hz = sounds.hz;
     let numbers = sounds.numbers;
     let end = kbm.end;
     let mut key = kbm.start;
-    let mut i: usize = 0;
-    while i < MOST {
+    for i in 0..MOST {
         if end.0 <= key.0 {
-            return true;
+            return Ok(());
         }
-        if !print_key(counting, kbm, &map, key, hz[i], numbers[i]) {
-            return false;
-        }
+        print_key(out, counting, kbm, &map, key, hz[i], numbers[i])?;
         let KeyAnswer::Is(next) = key.plus_steps(1) else {
-            return true;
+            return Ok(());
         };
         key = next;
-        i += 1;
     }
-    print_left(key, end)
+    print_left(out, key, end)
 }

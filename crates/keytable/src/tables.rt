@@ -6,6 +6,8 @@ use key::PianoKey;
 use pitch::Pitch;
 use scl::Scl;
 use scl_read::SclReadAnswer;
+use std::io::Write;
+use std::rt::Files;
 
 // How many items a scale and how many entries a mapping can have.
 const PLACES: usize = 8192;
@@ -57,14 +59,15 @@ struct Told {
 }
 
 // The same of an answer; where it is a refusal, says so.
-fn tell(name: &[u8], answer: SclReadAnswer) -> Told {
+fn tell<E: Write>(err: &mut E, name: &[u8], answer: SclReadAnswer) -> Told {
     match answer {
         SclReadAnswer::Is(read) => {
             let scl = read.scl;
             Told { is_read: true, scl }
         }
         SclReadAnswer::Refused(refusal) => {
-            crate::reasons::refuse(
+            let _ = crate::reasons::refuse(
+                err,
                 name,
                 b"the description\nthe number of notes",
                 refusal.number,
@@ -79,7 +82,7 @@ fn tell(name: &[u8], answer: SclReadAnswer) -> Told {
 }
 
 // The scale of the first n bytes; where it is refused, says so.
-fn scale_of(name: &[u8], bytes: &[u8], n: usize) -> Scale {
+fn scale_of<E: Write>(err: &mut E, name: &[u8], bytes: &[u8], n: usize) -> Scale {
     let text = crate::files::first(bytes, n);
     let mut kind = [0u8; PLACES];
     let mut cents = [0.0; PLACES];
@@ -91,7 +94,7 @@ fn scale_of(name: &[u8], bytes: &[u8], n: usize) -> Scale {
     let answer = scl_read::read_scl(
         text, &mut kind, &mut cents, &mut numer, &mut denom, &mut place, &mut ratio, &mut wraps,
     );
-    let told = tell(name, answer);
+    let told = tell(err, name, answer);
     let scl = told.scl;
     Scale {
         is_read: told.is_read,
@@ -120,16 +123,16 @@ fn no_scale() -> Scale {
 }
 
 // The scale of a file; where there is none, says why.
-pub fn read_scale(name: &[u8]) -> Scale {
+pub fn read_scale<R: Files, E: Write>(rt: &R, err: &mut E, name: &[u8]) -> Scale {
     let mut text = [0u8; ROOM];
-    match crate::files::read_file(name, &mut text) {
-        Input::Has(n) => scale_of(name, &text, n),
+    match crate::files::read_file(rt, err, name, &mut text) {
+        Input::Has(n) => scale_of(err, name, &text, n),
         Input::Failed => no_scale(),
     }
 }
 
 // The mapping of the first n bytes; where it is refused, says so.
-fn mapping_of(name: &[u8], bytes: &[u8], n: usize) -> Mapping {
+fn mapping_of<E: Write>(err: &mut E, name: &[u8], bytes: &[u8], n: usize) -> Mapping {
     let text = crate::files::first(bytes, n);
     let mut map = [0i32; PLACES];
     match kbm_read::read_kbm(text, &mut map) {
@@ -139,7 +142,8 @@ fn mapping_of(name: &[u8], bytes: &[u8], n: usize) -> Mapping {
             map,
         },
         KbmAnswer::Refused(refusal) => {
-            crate::reasons::refuse(
+            let _ = crate::reasons::refuse(
+                err,
                 name,
                 b"the size\nthe first key\nthe last key\nthe middle key\nthe reference key\nthe reference pitch\nthe formal octave",
                 refusal.number,
@@ -165,10 +169,10 @@ fn no_mapping() -> Mapping {
 }
 
 // The mapping of a file; where there is none, says why.
-pub fn read_mapping(name: &[u8]) -> Mapping {
+pub fn read_mapping<R: Files, E: Write>(rt: &R, err: &mut E, name: &[u8]) -> Mapping {
     let mut text = [0u8; ROOM];
-    match crate::files::read_file(name, &mut text) {
-        Input::Has(n) => mapping_of(name, &text, n),
+    match crate::files::read_file(rt, err, name, &mut text) {
+        Input::Has(n) => mapping_of(err, name, &text, n),
         Input::Failed => no_mapping(),
     }
 }

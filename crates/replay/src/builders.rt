@@ -4,6 +4,8 @@ use kbm::KbmRoot;
 use kbm_build::{BuilderAnswer, KbmBuilder, Octave};
 use key::PianoKey;
 use pitch::Pitch;
+use std::io;
+use std::io::Write;
 
 // One push of two fields.
 fn pushed(builder: KbmBuilder, map: &mut [i32], line: &[u8], at: usize) -> BuilderAnswer {
@@ -17,10 +19,10 @@ fn pushed(builder: KbmBuilder, map: &mut [i32], line: &[u8], at: usize) -> Build
 }
 
 // The new count, or a refusal.
-fn say_pushed(answer: BuilderAnswer) {
+fn say_pushed<W: Write>(sink: &mut W, answer: BuilderAnswer) -> io::Result<()> {
     match answer {
-        BuilderAnswer::Is(builder) => say::size(builder.count),
-        BuilderAnswer::Refused(refusal) => say::refusal(refusal),
+        BuilderAnswer::Is(builder) => say::size(sink, builder.count),
+        BuilderAnswer::Refused(refusal) => say::refusal(sink, refusal),
     }
 }
 
@@ -33,19 +35,22 @@ fn kept(answer: BuilderAnswer, old: KbmBuilder) -> KbmBuilder {
 }
 
 // All pushes of a line, each answered, then the build of the table.
-fn say_run(start: KbmBuilder, map: &mut [i32], line: &[u8]) {
+fn say_run<W: Write>(
+    sink: &mut W,
+    start: KbmBuilder,
+    map: &mut [i32],
+    line: &[u8],
+) -> io::Result<()> {
     let pushes = given::size(line, 10);
     let mut builder = start;
     let mut at: usize = 11;
-    let mut k: usize = 0;
-    while k < pushes {
+    for _ in 0..pushes {
         let said = pushed(builder, map, line, at);
-        say_pushed(said);
+        say_pushed(sink, said)?;
         builder = kept(said, builder);
         at = std::num::wrapping_add_usize(at, 2);
-        k += 1;
     }
-    crate::mappings::say_mapping(builder.build(map));
+    crate::mappings::say_mapping(sink, builder.build(map))
 }
 
 // A builder with the formal octave of a line, or with none.
@@ -68,20 +73,20 @@ fn begun(map: &[i32], line: &[u8]) -> BuilderAnswer {
 }
 
 // What a line builds, or why no builder starts.
-fn say_begun(map: &mut [i32], line: &[u8]) {
+fn say_begun<W: Write>(sink: &mut W, map: &mut [i32], line: &[u8]) -> io::Result<()> {
     match begun(map, line) {
-        BuilderAnswer::Is(builder) => say_run(builder, map, line),
-        BuilderAnswer::Refused(refusal) => say::refusal(refusal),
+        BuilderAnswer::Is(builder) => say_run(sink, builder, map, line),
+        BuilderAnswer::Refused(refusal) => say::refusal(sink, refusal),
     }
 }
 
 // `build ROOM ROOT START END OCTAVE PUSHES ..`: the answer of each push, the mapping or a refusal, then the table; where no builder starts,
 // its refusal and the table.
-pub fn say_build(line: &[u8]) {
+pub fn say_build<W: Write>(sink: &mut W, line: &[u8]) -> io::Result<()> {
     let mut map = [crate::mappings::PATTERN; 16];
     let room = given::size(line, 2);
-    say_begun(crate::mappings::first_mut(&mut map, room), line);
-    say::table(crate::mappings::first(&map, room));
+    say_begun(sink, crate::mappings::first_mut(&mut map, room), line)?;
+    say::table(sink, crate::mappings::first(&map, room))
 }
 
 // A state of two fields, ROOM and COUNT, which need not be a table's.
@@ -102,24 +107,27 @@ fn state(line: &[u8]) -> KbmBuilder {
 }
 
 // `push ROOM COUNT DEGREE TABLE` on a state that need not be the table's: the new count or a refusal, then the table.
-pub fn say_push(line: &[u8]) {
+pub fn say_push<W: Write>(sink: &mut W, line: &[u8]) -> io::Result<()> {
     let places = given::size(line, 6);
     let mut map = frozen::columns::ints(crate::mappings::PATTERN, places, line, 7, 1);
-    say_pushed(pushed(
-        state(line),
-        crate::mappings::first_mut(&mut map, places),
-        line,
-        4,
-    ));
-    say::table(crate::mappings::first(&map, places));
+    say_pushed(
+        sink,
+        pushed(
+            state(line),
+            crate::mappings::first_mut(&mut map, places),
+            line,
+            4,
+        ),
+    )?;
+    say::table(sink, crate::mappings::first(&map, places))
 }
 
 // `finish ROOM COUNT TABLE`, the build of a state that need not be the table's, with formal octave 1: the mapping or a refusal, then the
 // table.
-pub fn say_finish(line: &[u8]) {
+pub fn say_finish<W: Write>(sink: &mut W, line: &[u8]) -> io::Result<()> {
     let places = given::size(line, 4);
     let map = frozen::columns::ints(crate::mappings::PATTERN, places, line, 5, 1);
     let table = crate::mappings::first(&map, places);
-    crate::mappings::say_mapping(state(line).formal_octave(1).build(table));
-    say::table(table);
+    crate::mappings::say_mapping(sink, state(line).formal_octave(1).build(table))?;
+    say::table(sink, table)
 }

@@ -4,6 +4,8 @@ use frozen::given;
 use kbm::{Counting, DegreeAnswer, Kbm, KbmAnswer, KbmRoot, RootAnswer};
 use key::PianoKey;
 use pitch::Pitch;
+use std::io;
+use std::io::Write;
 use writing::SizeAnswer;
 
 // What lent places and bytes are before a call.
@@ -54,30 +56,30 @@ fn mapping(line: &[u8]) -> Kbm {
     }
 }
 
-fn say_root(root: KbmRoot) {
+fn say_root<W: Write>(sink: &mut W, root: KbmRoot) -> io::Result<()> {
     let reference = root.reference;
     let pitch = root.pitch;
-    say::int(reference.0);
-    say::float(pitch.0);
-    say::int(root.offset);
+    say::int(sink, reference.0)?;
+    say::float(sink, pitch.0)?;
+    say::int(sink, root.offset)
 }
 
-fn say_range(kbm: Kbm) {
+fn say_range<W: Write>(sink: &mut W, kbm: Kbm) -> io::Result<()> {
     let start = kbm.start;
     let end = kbm.end;
-    say::size(kbm.count as usize);
-    say::int(start.0);
-    say::int(end.0);
+    say::size(sink, kbm.count as usize)?;
+    say::int(sink, start.0)?;
+    say::int(sink, end.0)
 }
 
-pub fn say_mapping(answer: KbmAnswer) {
+pub fn say_mapping<W: Write>(sink: &mut W, answer: KbmAnswer) -> io::Result<()> {
     match answer {
         KbmAnswer::Is(kbm) => {
-            say_range(kbm);
-            say_root(kbm.root);
-            say::short(kbm.octave);
+            say_range(sink, kbm)?;
+            say_root(sink, kbm.root)?;
+            say::short(sink, kbm.octave)
         }
-        KbmAnswer::Refused(refusal) => say::refusal(refusal),
+        KbmAnswer::Refused(refusal) => say::refusal(sink, refusal),
     }
 }
 
@@ -89,55 +91,61 @@ fn degree(counting: Counting, kbm: Kbm, map: &[i32], key: PianoKey) -> DegreeAns
 }
 
 // `degree KEY MAPPING TABLE`, and `middle_degree`, counted from the middle key: the degree, or a refusal.
-pub fn say_degree(counting: Counting, line: &[u8]) {
+pub fn say_degree<W: Write>(sink: &mut W, counting: Counting, line: &[u8]) -> io::Result<()> {
     let places = given::size(line, 10);
     let map = frozen::columns::ints(PATTERN, places, line, 11, 1);
     let key = PianoKey(given::int(line, 2));
     match degree(counting, mapping(line), first(&map, places), key) {
-        DegreeAnswer::Is(degree) => say::int(degree.0),
-        DegreeAnswer::Refused(refusal) => say::refusal(refusal),
+        DegreeAnswer::Is(degree) => say::int(sink, degree.0),
+        DegreeAnswer::Refused(refusal) => say::refusal(sink, refusal),
     }
 }
 
 // `read TEXT ROOM`: the mapping or a refusal, then the table.
-pub fn say_read(line: &[u8]) {
+pub fn say_read<W: Write>(sink: &mut W, line: &[u8]) -> io::Result<()> {
     let mut text = [BYTE; 512];
     let mut map = [PATTERN; 16];
     let length = given::bytes(line, 2, &mut text);
     let room = given::size(line, 3);
-    say_mapping(kbm_read::read_kbm(frozen::first(&text, length), first_mut(&mut map, room)));
-    say::table(first(&map, room));
+    say_mapping(
+        sink,
+        kbm_read::read_kbm(frozen::first(&text, length), first_mut(&mut map, room)),
+    )?;
+    say::table(sink, first(&map, room))
 }
 
 // `export ROOM MAPPING TABLE`: the size or a refusal, then the lent bytes.
-pub fn say_export(line: &[u8]) {
+pub fn say_export<W: Write>(sink: &mut W, line: &[u8]) -> io::Result<()> {
     let mut out = [BYTE; 512];
     let room = given::size(line, 2);
     let places = given::size(line, 10);
     let map = frozen::columns::ints(PATTERN, places, line, 11, 1);
-    say_size(kbm_write::export_kbm(
-        mapping(line),
-        first(&map, places),
-        frozen::first_mut(&mut out, room),
-    ));
-    say::bytes(frozen::first(&out, room));
+    say_size(
+        sink,
+        kbm_write::export_kbm(
+            mapping(line),
+            first(&map, places),
+            frozen::first_mut(&mut out, room),
+        ),
+    )?;
+    say::bytes(sink, frozen::first(&out, room))
 }
 
-fn say_size(answer: SizeAnswer) {
+fn say_size<W: Write>(sink: &mut W, answer: SizeAnswer) -> io::Result<()> {
     match answer {
-        SizeAnswer::Is(written) => say::size(written),
-        SizeAnswer::Refused(refusal) => say::refusal(refusal),
+        SizeAnswer::Is(written) => say::size(sink, written),
+        SizeAnswer::Refused(refusal) => say::refusal(sink, refusal),
     }
 }
 
 // `root REFERENCE PITCH OFFSET`: the root, or a refusal.
-pub fn say_made_root(line: &[u8]) {
+pub fn say_made_root<W: Write>(sink: &mut W, line: &[u8]) -> io::Result<()> {
     match KbmRoot::new(
         PianoKey(given::int(line, 2)),
         Pitch(given::float(line, 3)),
         given::int(line, 4),
     ) {
-        RootAnswer::Is(root) => say_root(root),
-        RootAnswer::Refused(refusal) => say::refusal(refusal),
+        RootAnswer::Is(root) => say_root(sink, root),
+        RootAnswer::Refused(refusal) => say::refusal(sink, refusal),
     }
 }

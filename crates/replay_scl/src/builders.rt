@@ -3,6 +3,8 @@
 use frozen::given;
 use pitch::Ratio;
 use scl_build::{SclBuilder, SclBuilderAnswer};
+use std::io;
+use std::io::Write;
 
 // The columns of the items.
 #[derive(Clone, Copy)]
@@ -144,10 +146,10 @@ fn stepped_on(items: Items, builder: SclBuilder, of: Step) -> Stepped {
 }
 
 // The new count, or a refusal.
-fn say_step(answer: SclBuilderAnswer) {
+fn say_step<W: Write>(sink: &mut W, answer: SclBuilderAnswer) -> io::Result<()> {
     match answer {
-        SclBuilderAnswer::Is(builder) => say::size(builder.count),
-        SclBuilderAnswer::Refused(refusal) => say::refusal(refusal),
+        SclBuilderAnswer::Is(builder) => say::size(sink, builder.count),
+        SclBuilderAnswer::Refused(refusal) => say::refusal(sink, refusal),
     }
 }
 
@@ -167,37 +169,35 @@ struct Done {
 }
 
 // One step more, answered.
-fn say_next(done: Done, of: Step) -> Done {
+fn say_next<W: Write>(sink: &mut W, done: Done, of: Step) -> io::Result<Done> {
     let builder = done.builder;
     let items = done.items;
     let one = stepped_on(items, builder, of);
     let said = one.said;
     let items = one.items;
-    say_step(said);
-    Done {
+    say_step(sink, said)?;
+    Ok(Done {
         items,
         builder: kept(said, builder),
-    }
+    })
 }
 
 // All steps of a line, each answered.
-fn say_steps(line: &[u8]) -> Done {
+fn say_steps<W: Write>(sink: &mut W, line: &[u8]) -> io::Result<Done> {
     let steps = given::size(line, 2);
     let items = lent();
     let builder = SclBuilder { room: 0, count: 0 };
     let mut done = Done { items, builder };
     let mut at: usize = 3;
-    let mut k: usize = 0;
-    while k < steps {
-        done = say_next(done, asked(line, at));
+    for _ in 0..steps {
+        done = say_next(sink, done, asked(line, at))?;
         at = std::num::wrapping_add_usize(at, 4);
-        k += 1;
     }
-    done
+    Ok(done)
 }
 
 // The build of these items: the count or a refusal, then the places.
-fn say_built(done: Done) {
+fn say_built<W: Write>(sink: &mut W, done: Done) -> io::Result<()> {
     let items = done.items;
     let builder = done.builder;
     let kind = items.kind;
@@ -207,15 +207,19 @@ fn say_built(done: Done) {
     let mut place = [8u32; 16];
     let mut ratio = [0.5; 16];
     let mut wraps = [8; 16];
-    crate::say_count(builder.build(
-        &kind, &cents, &numer, &denom, &mut place, &mut ratio, &mut wraps,
-    ));
-    say::places(&kind, &cents, &numer, &denom, &place, &ratio, &wraps);
+    crate::say_count(
+        sink,
+        builder.build(
+            &kind, &cents, &numer, &denom, &mut place, &mut ratio, &mut wraps,
+        ),
+    )?;
+    say::places(sink, &kind, &cents, &numer, &denom, &place, &ratio, &wraps)
 }
 
 // `build STEPS ..`, a new builder first: the count after each step, and that of the scale, each of them or a refusal; then the places.
-pub fn say_build(line: &[u8]) {
-    say_built(say_steps(line));
+pub fn say_build<W: Write>(sink: &mut W, line: &[u8]) -> io::Result<()> {
+    let done = say_steps(sink, line)?;
+    say_built(sink, done)
 }
 
 // A builder's state of two fields, ROOM and COUNT, which need not be the columns'.
@@ -227,15 +231,15 @@ fn state(line: &[u8]) -> SclBuilder {
 }
 
 // `push ROOM COUNT STEP` on a state that need not be the columns': the new count or a refusal, then the places.
-pub fn say_push(line: &[u8]) {
+pub fn say_push<W: Write>(sink: &mut W, line: &[u8]) -> io::Result<()> {
     let one = stepped_on(lent(), state(line), asked(line, 4));
     let said = one.said;
     let items = one.items;
-    say_step(said);
-    say_items(items);
+    say_step(sink, said)?;
+    say_items(sink, items)
 }
 
-fn say_items(items: Items) {
+fn say_items<W: Write>(sink: &mut W, items: Items) -> io::Result<()> {
     let kind = items.kind;
     let cents = items.cents;
     let numer = items.numer;
@@ -243,12 +247,12 @@ fn say_items(items: Items) {
     let place = [8u32; 16];
     let ratio = [0.5; 16];
     let wraps = [8; 16];
-    say::places(&kind, &cents, &numer, &denom, &place, &ratio, &wraps);
+    say::places(sink, &kind, &cents, &numer, &denom, &place, &ratio, &wraps)
 }
 
 // `finish ROOM COUNT`, the build of a state that need not be the columns': the count or a refusal, then the places.
-pub fn say_finish(line: &[u8]) {
+pub fn say_finish<W: Write>(sink: &mut W, line: &[u8]) -> io::Result<()> {
     let items = lent();
     let builder = state(line);
-    say_built(Done { items, builder });
+    say_built(sink, Done { items, builder })
 }

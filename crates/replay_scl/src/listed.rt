@@ -6,6 +6,8 @@ use frozen::given;
 use pitch::Ratio;
 use scl::Scl;
 use scl_build::SclBuilder;
+use std::io;
+use std::io::Write;
 
 // An entry that no call has written.
 const OLD: SortedEntry = SortedEntry {
@@ -14,17 +16,16 @@ const OLD: SortedEntry = SortedEntry {
     wraps: 8,
 };
 
-fn say_list(list: [SortedEntry; 8]) {
-    let mut k: usize = 0;
-    while k < 8 {
-        let e = list[k];
-        say::entry(e.place, e.ratio, e.wraps);
-        k += 1;
+fn say_list<W: Write>(sink: &mut W, list: [SortedEntry; 8]) -> io::Result<()> {
+    for e in list {
+        say::entry(sink, e.place, e.ratio, e.wraps)?;
     }
+    Ok(())
 }
 
 // `read_entries TEXT`: count, start and end of the description, or a refusal; then the places.
-fn say_read(
+fn say_read<W: Write>(
+    sink: &mut W,
     done: Reading,
     kind: &[u8; 16],
     cents: &[f64; 16],
@@ -33,23 +34,24 @@ fn say_read(
     place: &[u32; 16],
     ratio: &[f64; 16],
     wraps: &[i32; 16],
-) {
+) -> io::Result<()> {
     let said = done.answer;
     let list = done.list;
-    crate::say_answer(said);
-    say::places(kind, cents, numer, denom, place, ratio, wraps);
-    say_list(list);
+    crate::say_answer(sink, said)?;
+    say::places(sink, kind, cents, numer, denom, place, ratio, wraps)?;
+    say_list(sink, list)
 }
 
 // `build_entries TEXT ROOM COUNT`, the build of a state over the items read, beside a list and columns that are new: the count or a refusal, then the
 // places.
-fn say_built<'i>(
+fn say_built<'i, W: Write>(
+    sink: &mut W,
     kind: &'i [u8; 16],
     cents: &'i [f64; 16],
     numer: &'i [u32; 16],
     denom: &'i [u32; 16],
     line: &[u8],
-) {
+) -> io::Result<()> {
     let mut place = [8u32; 16];
     let mut ratio = [0.5; 16];
     let mut wraps = [8; 16];
@@ -62,30 +64,35 @@ fn say_built<'i>(
     );
     let said = done.answer;
     let list = done.list;
-    crate::say_count(said);
-    say::places(kind, cents, numer, denom, &place, &ratio, &wraps);
-    say_list(list);
+    crate::say_count(sink, said)?;
+    say::places(sink, kind, cents, numer, denom, &place, &ratio, &wraps)?;
+    say_list(sink, list)
 }
 
 // `find_in_entries TEXT COUNT SORTED TARGET`, SORTED being 1 for the ascending degree: the degree and the deviation, or a refusal.
-fn say_found<'i>(
+fn say_found<'i, W: Write>(
+    sink: &mut W,
     kind: &'i [u8; 16],
     cents: &'i [f64; 16],
     numer: &'i [u32; 16],
     denom: &'i [u32; 16],
     list: [SortedEntry; 8],
     line: &[u8],
-) {
+) -> io::Result<()> {
     let scl = Scl {
         count: given::count(line, 3),
     };
     let sorted = given::flag(line, 4);
     let target = Ratio(given::float(line, 5));
-    crate::say_degree(crate::lent::find(scl, kind, cents, numer, denom, list, target, sorted));
+    crate::say_degree(
+        sink,
+        crate::lent::find(scl, kind, cents, numer, denom, list, target, sorted),
+    )
 }
 
 // What a line asks for after a read.
-fn say_after<'i>(
+fn say_after<'i, W: Write>(
+    sink: &mut W,
     call: usize,
     done: Reading,
     kind: &'i [u8; 16],
@@ -96,16 +103,16 @@ fn say_after<'i>(
     ratio: &[f64; 16],
     wraps: &[i32; 16],
     line: &[u8],
-) {
+) -> io::Result<()> {
     let list = done.list;
     match call {
-        0 => say_read(done, kind, cents, numer, denom, place, ratio, wraps),
-        1 => say_built(kind, cents, numer, denom, line),
-        _ => say_found(kind, cents, numer, denom, list, line),
+        0 => say_read(sink, done, kind, cents, numer, denom, place, ratio, wraps),
+        1 => say_built(sink, kind, cents, numer, denom, line),
+        _ => say_found(sink, kind, cents, numer, denom, list, line),
     }
 }
 
-fn say_of(call: usize, text: &[u8], line: &[u8]) {
+fn say_of<W: Write>(sink: &mut W, call: usize, text: &[u8], line: &[u8]) -> io::Result<()> {
     let mut kind = [9u8; 16];
     let mut cents = [2.0; 16];
     let mut numer = [7u32; 16];
@@ -118,13 +125,13 @@ fn say_of(call: usize, text: &[u8], line: &[u8]) {
         [OLD; 8],
     );
     say_after(
-        call, done, &kind, &cents, &numer, &denom, &place, &ratio, &wraps, line,
-    );
+        sink, call, done, &kind, &cents, &numer, &denom, &place, &ratio, &wraps, line,
+    )
 }
 
 // `NAME TEXT ..`.
-pub fn say_text(call: usize, line: &[u8]) {
+pub fn say_text<W: Write>(sink: &mut W, call: usize, line: &[u8]) -> io::Result<()> {
     let mut text = [238u8; 512];
     let length = given::bytes(line, 2, &mut text);
-    say_of(call, frozen::first(&text, length), line);
+    say_of(sink, call, frozen::first(&text, length), line)
 }

@@ -3,6 +3,8 @@
 use frozen::given;
 use harmonics::segment::{Divisions, SegmentType};
 use pitch::Ratio;
+use std::io;
+use std::io::Write;
 
 fn sort(line: &[u8]) -> SegmentType {
     if given::flag(line, 2) {
@@ -18,7 +20,7 @@ fn divisions(line: &[u8]) -> Divisions {
     Divisions::Lacking
 }
 
-pub fn say_segment(line: &[u8]) {
+pub fn say_segment<W: Write>(sink: &mut W, line: &[u8]) -> io::Result<()> {
     let mut kind = [9u8; 16];
     let mut cents = [2.0; 16];
     let mut numer = [7u32; 16];
@@ -26,23 +28,26 @@ pub fn say_segment(line: &[u8]) {
     let mut place = [8u32; 16];
     let mut ratio = [0.5; 16];
     let mut wraps = [8; 16];
-    crate::say_count(harmonics::create_harmonics_scale(
-        sort(line),
-        given::count(line, 3),
-        given::count(line, 4),
-        divisions(line),
-        &mut kind,
-        &mut cents,
-        &mut numer,
-        &mut denom,
-        &mut place,
-        &mut ratio,
-        &mut wraps,
-    ));
-    say::places(&kind, &cents, &numer, &denom, &place, &ratio, &wraps);
+    crate::say_count(
+        sink,
+        harmonics::create_harmonics_scale(
+            sort(line),
+            given::count(line, 3),
+            given::count(line, 4),
+            divisions(line),
+            &mut kind,
+            &mut cents,
+            &mut numer,
+            &mut denom,
+            &mut place,
+            &mut ratio,
+            &mut wraps,
+        ),
+    )?;
+    say::places(sink, &kind, &cents, &numer, &denom, &place, &ratio, &wraps)
 }
 
-pub fn say_temperament(line: &[u8]) {
+pub fn say_temperament<W: Write>(sink: &mut W, line: &[u8]) -> io::Result<()> {
     let mut kind = [9u8; 16];
     let mut cents = [2.0; 16];
     let mut numer = [7u32; 16];
@@ -50,18 +55,21 @@ pub fn say_temperament(line: &[u8]) {
     let mut place = [8u32; 16];
     let mut ratio = [0.5; 16];
     let mut wraps = [8; 16];
-    crate::say_count(rank2::create_rank2_temperament_scale(
-        Ratio(given::float(line, 2)),
-        given::count(line, 3),
-        given::count(line, 4),
-        Ratio(given::float(line, 5)),
-        &mut kind,
-        &mut cents,
-        &mut numer,
-        &mut denom,
-        &mut place,
-        &mut ratio,
-        &mut wraps,
-    ));
-    say::places(&kind, &cents, &numer, &denom, &place, &ratio, &wraps);
+    crate::say_count(
+        sink,
+        rank2::create_rank2_temperament_scale(
+            Ratio(given::float(line, 2)),
+            given::count(line, 3),
+            given::count(line, 4),
+            Ratio(given::float(line, 5)),
+            &mut kind,
+            &mut cents,
+            &mut numer,
+            &mut denom,
+            &mut place,
+            &mut ratio,
+            &mut wraps,
+        ),
+    )?;
+    say::places(sink, &kind, &cents, &numer, &denom, &place, &ratio, &wraps)
 }

@@ -4,6 +4,8 @@ use frozen::{columns, given};
 use kbm::Kbm;
 use key::{Degree, PianoKey};
 use scl::Scl;
+use std::io;
+use std::io::Write;
 use tuning::key_pitches::RunAnswer;
 
 fn mapping(line: &[u8]) -> Kbm {
@@ -30,24 +32,31 @@ fn entries(line: &[u8]) -> [i32; 8] {
     ]
 }
 
-fn say_done(answer: RunAnswer) {
+fn say_done<W: Write>(sink: &mut W, answer: RunAnswer) -> io::Result<()> {
     match answer {
-        RunAnswer::Done => say::word(b"done"),
-        RunAnswer::Refused(refusal) => say::refusal(refusal),
+        RunAnswer::Done => say::word(sink, b"done"),
+        RunAnswer::Refused(refusal) => say::refusal(sink, refusal),
     }
 }
 
 // Every place of a run: the pitch and the number.
-fn say_sounds(hz: &[f64; 8], numbers: &[u32; 8]) {
-    let mut k: usize = 0;
-    while k < 8 {
-        say::float(hz[k]);
-        say::natural(numbers[k]);
-        k += 1;
+fn say_sounds<W: Write>(sink: &mut W, hz: &[f64; 8], numbers: &[u32; 8]) -> io::Result<()> {
+    for k in 0..8 {
+        say::float(sink, hz[k])?;
+        say::natural(sink, numbers[k])?;
     }
+    Ok(())
 }
 
-fn say_run(k: &[u8], e: &[f64], n: &[u32], d: &[u32], call: usize, line: &[u8]) {
+fn say_run<W: Write>(
+    sink: &mut W,
+    k: &[u8],
+    e: &[f64],
+    n: &[u32],
+    d: &[u32],
+    call: usize,
+    line: &[u8],
+) -> io::Result<()> {
     let scl = Scl {
         count: given::count(line, 2),
     };
@@ -85,12 +94,20 @@ fn say_run(k: &[u8], e: &[f64], n: &[u32], d: &[u32], call: usize, line: &[u8]) 
             &mut numbers,
         )
     };
-    say_done(said);
-    say_sounds(&hz, &numbers);
+    say_done(sink, said)?;
+    say_sounds(sink, &hz, &numbers)
 }
 
 // The pitch of a key in either counting, or of a degree of the mapping.
-fn say_pitch(k: &[u8], e: &[f64], n: &[u32], d: &[u32], call: usize, line: &[u8]) {
+fn say_pitch<W: Write>(
+    sink: &mut W,
+    k: &[u8],
+    e: &[f64],
+    n: &[u32],
+    d: &[u32],
+    call: usize,
+    line: &[u8],
+) -> io::Result<()> {
     let scl = Scl {
         count: given::count(line, 2),
     };
@@ -103,23 +120,31 @@ fn say_pitch(k: &[u8], e: &[f64], n: &[u32], d: &[u32], call: usize, line: &[u8]
     } else {
         tuning::maybe_pitch_from_middle(scl, k, e, n, d, mapping(line), &map, PianoKey(number))
     };
-    crate::say_pitch(said);
+    crate::say_pitch(sink, said)
 }
 
-fn say_of(k: &[u8], e: &[f64], n: &[u32], d: &[u32], call: usize, line: &[u8]) {
+fn say_of<W: Write>(
+    sink: &mut W,
+    k: &[u8],
+    e: &[f64],
+    n: &[u32],
+    d: &[u32],
+    call: usize,
+    line: &[u8],
+) -> io::Result<()> {
     match call {
-        15 => say_run(k, e, n, d, call, line),
-        17 => say_run(k, e, n, d, call, line),
-        _ => say_pitch(k, e, n, d, call, line),
+        15 => say_run(sink, k, e, n, d, call, line),
+        17 => say_run(sink, k, e, n, d, call, line),
+        _ => say_pitch(sink, k, e, n, d, call, line),
     }
 }
 
 // `maybe_key`, `maybe_degree`, `run`, and counted from the middle key `middle_key`, `middle_run`.
-pub fn say_mapped(call: usize, line: &[u8]) {
+pub fn say_mapped<W: Write>(sink: &mut W, call: usize, line: &[u8]) -> io::Result<()> {
     let places = given::size(line, 21);
     let kind = columns::bytes(9, places, line, 22, 7);
     let cents = columns::floats(2.0, places, line, 23, 7);
     let numer = columns::naturals(7, places, line, 24, 7);
     let denom = columns::naturals(7, places, line, 25, 7);
-    say_of(&kind, &cents, &numer, &denom, call, line);
+    say_of(sink, &kind, &cents, &numer, &denom, call, line)
 }

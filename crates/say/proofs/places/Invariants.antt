@@ -1,9 +1,7 @@
--- `places` is safe and ends: each turn takes a place. Assumes nothing.
-use Prim.Native.Nat.{◌-◌}
+-- Since the loop began, the places that are passed have been written.
+use Rattle.std.specs.Io.KnownBytes.{Appends}
+use Rattle.say.specs.Said.{places_fields}
 use Rattle.say.proofs.places.Given as goal
 
 abbrev pub invariant-loop-k : goal.invariant-loop-k
-invariant-loop-k l = Unit {0}
-
-abbrev pub decreases-loop-k : goal.decreases-loop-k
-decreases-loop-k l = 16 - l.k
+invariant-loop-k g l = Appends (g.W.Write.contents l.initial.out) (g.W.Write.contents l.out) (places_fields l.kind l.cents l.numer l.denom l.place l.ratio l.wraps l.k)

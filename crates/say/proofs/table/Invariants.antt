@@ -1,10 +1,9 @@
--- `table` is safe and ends: each turn takes a place. Assumes nothing.
-use Prim.Native.Nat.{◌-◌}
-use lib.ListN.{length}
+-- Since the loop began, the places that are passed have been written.
+use Rattle.std.proofs.Common.{take}
+use Rattle.std.specs.Io.KnownBytes.{Appends}
+use Rattle.std.specs.List.{flat_map}
+use Rattle.say.specs.Said.{int_field}
 use Rattle.say.proofs.table.Given as goal
 
-abbrev pub invariant-loop-k : goal.invariant-loop-k
-invariant-loop-k l = Unit {0}
-
-abbrev pub decreases-loop-k : goal.decreases-loop-k
-decreases-loop-k l = length l.map - l.k
+abbrev pub invariant-loop-z : goal.invariant-loop-z
+invariant-loop-z g l = Appends (g.W.Write.contents l.initial.out) (g.W.Write.contents l.out) (flat_map int_field (take l.z-index l.map))

@@ -1,0 +1,2 @@
+mod Consumed
+mod Whole
