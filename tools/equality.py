@@ -1,7 +1,7 @@
-"""equality: what an equality line (NAME-one) states, read for tools/audit. With the parameters of the modules around it a line has one of two forms:
+"""equality: what an equality line (NAME_one) states, read for tools/audit. With the parameters of the modules around it a line has one of two forms:
 
-    (x .. : DATA) .. → One says s × ..                         of crates/base: says r ≡ s and says r′ ≡ s give r ≡ r′
-    (x .. r r′ : DATA) .. → FACT r → FACT r′ → (r ≡ r′) × ..    the same written out: a fact of one result, and of another
+    (x .. : DATA) .. → One says s × ..                         of crates/base: says r ≡ s and says r' ≡ s give r ≡ r'
+    (x .. r r' : DATA) .. → FACT r → FACT r' → (r ≡ r') × ..    the same written out: a fact of one result, and of another
 
 DATA is a type of values, known by its form (`is_data`); any other premise is a fault. What is asked of a result, `says r ≡ s` or each part of FACT,
 must be what the contract ensures, with the line's variables replaced by terms of what goes in; and what is equated must be the result and all that
@@ -11,8 +11,11 @@ a crate below it (`short_names`); a name is the same where both files import it 
 is read with these written out (`ensured`), so that an argument that a relation leaves out is not there."""
 import re
 
+from library import origin
+from vocabulary import clauses_in
+
 # records of columns or of stored numbers, and what makes them: equal where these are
-TABLES = {"ItemTable": "itemTable", "ListTable": "listTable", "Kbm": "mappingWith", "SclRead": "readWith"}
+TABLES = {"ItemTable": "item_table", "ListTable": "list_table", "Kbm": "mapping_with", "SclRead": "read_with"}
 VALUES = {"ℕ", "ℤ", "Float", "Bool", "Entry", *TABLES}  # and each struct and enum of the sources; lists, answers and functions of these
 ONE = "abbrev pub One : {A B : Type 0} → (A → B) → B → Type 0\nOne {A} {B} says s = (x y : A) → says x ≡ s → says y ≡ s → x ≡ y\n"
 # what every contract of a call for C is said by, as it must stand
@@ -21,13 +24,13 @@ SAID_BY = {
     "code": "code number detail = detail % 2 ^ 56 * 256 + number % 256\n",
     "result": "result (gives a) = 0\nresult (refuses number detail) = code number detail\n",
     "kept": "kept (gives a) old = a\nkept (refuses number detail) old = old\n",
-    "fieldOf": "fieldOf part (gives a) = gives (part a)\nfieldOf part (refuses number detail) = refuses number detail\n",
+    "field_of": "field_of part (gives a) = gives (part a)\nfield_of part (refuses number detail) = refuses number detail\n",
 }
-RESULT = "the result"  # what a contract calls `r`, or otherwise
-ONE_OF = "Rattle·base.specs.Said.One"  # where it is imported from
+RESULT = "the result"  # what a contract calls `result`
+ONE_OF = "Rattle.base.specs.Said.One"  # where it is imported from
 JOINS = {"λ", "let", "in", "if", "then", "else", "match", "case", "with", "where"}
 BINDS = {"×", "≡", "+", "-", "*", "/", "%", "^", "++", "∷", "[]", "⊥", "{"}  # signs that join no more than their sides
-MAKERS = {("listTable", "Rattle·sorted.specs.Lent.listTable")}  # what makes a table, by its place, where that is a file of short names
+MAKERS = {("list_table", "Rattle.sorted.specs.Lent.list_table")}  # what makes a table, by its place, where that is a file of short names
 LENT = ".specs.Lent"  # the file of specs that has short names for lent tables, in each crate that has such
 
 
@@ -53,12 +56,9 @@ def imports(text):
     """Where a file imports names from: the places of each, and the module that each name of a module stands for."""
     names, modules = {}, {}
     for path, listed, alias in re.findall(r"^(?:ghost |pub |unfoldable )*use ([^\s{};]+?)(?:\.\{([^}]*)\}| as (\S+?))?;?$", text, re.M):
-        path = re.sub(r"^(Rattle·\w+)·\w+", r"\1", path)
-        if path == "denote.Ref":  # a contract has `now` without an import
-            continue
         modules |= {alias: path} if alias else {}
         for name, here in re.findall(r"([^\s,]+)(?: as ([^\s,]+))?", listed):
-            names.setdefault((here or name).strip("_"), set()).add(f"{path}.{name}")
+            names.setdefault((here or name).strip("◌"), set()).add(origin(path, name))
             modules[here or name] = f"{path}.{name}"
     return names, modules
 
@@ -66,31 +66,46 @@ def imports(text):
 def named(word, names, modules):
     found = re.fullmatch(r"([A-Z]\w*)\.((?:[A-Z]\w*\.)*(\w.*))", word)
     name = Name(found[3] if found else word)
-    name.places = frozenset([f"{modules.get(found[1], found[1])}.{found[2]}"] if found else names.get(word, ()))
+    name.places = frozenset([origin(*f"{modules.get(found[1], found[1])}.{found[2]}".rsplit(".", 1))] if found else names.get(word, ()))
     return name
 
 
 # ---- terms: a word, or a tuple of terms
+PROJECTED = re.compile(r"((?:[A-Z]\w*\.)*[^.]*\.?)((?:\.[^.]+)*)")  # what is named, maybe in a module, and the fields that are taken of it
+
+
 def closed(parts):
     return parts[0] if len(parts) == 1 else tuple(parts)
 
 
 def parse(text, known=({}, {})):
-    """A text by its parentheses, in a file with these imports; a group in braces begins with one."""
+    """A text by its parentheses, in a file with these imports; a group in braces begins with one, and x.f, written tight, is (x .f)."""
     groups = [[]]
-    for word in re.findall(r"[(){};,]|[^\s(){};,]+", re.sub(r"[«»]|--[^\n]*", "", text)):
+    for before, word in re.findall(r"(?<=(.))([(){};,]|[^\s(){};,]+)", " " + re.sub(r"[«»]|--[^\n]*", "", text), re.S):
         if word in "({":
             groups.append(["{"] if word == "{" else [])
         elif word in ")}":
             group = groups.pop()
             groups[-1].append(closed(group))
         else:
-            groups[-1].append(named(word, *known))
+            found = PROJECTED.fullmatch(word)
+            first, fields = found.groups() if found else (word, "")
+            if first or before not in ")}" or not fields:
+                groups[-1].append(named(first or word, *known))
+                fields = fields if first else ""
+            for field in re.findall(r"\.[^.]+", fields):
+                groups[-1].append((groups[-1].pop(), field))
     return closed(groups[0])
 
 
+def is_field(term):
+    return isinstance(term, tuple) and len(term) == 2 and isinstance(term[1], str) and re.fullmatch(r"\.[^.]+", term[1])
+
+
 def shown(term):
-    return " ".join(f"({shown(each)})" if isinstance(each, tuple) else each for each in term if each != "{") if isinstance(term, tuple) else term
+    if is_field(term):
+        return f"{shown(term[0]) if is_field(term[0]) or isinstance(term[0], str) else f'({shown(term[0])})'}{term[1]}"
+    return " ".join(f"({shown(each)})" if isinstance(each, tuple) and not is_field(each) else shown(each) for each in term if each != "{") if isinstance(term, tuple) else term
 
 
 def split(term, sign):
@@ -254,20 +269,23 @@ class Line:
 
 # ---- a line against a contract
 def ensured(contract, text, meant):
-    """What a contract of a file says, each fact by its sides, whatever it calls the result."""
-    facts, called = [], {}
-    for name, said in re.findall(r"\bensures \{ λ (\w+)\.|⌜(.*?)⌝", contract, re.S):
-        called = {name: RESULT} if name else called
-        if said:
-            facts += [sides(factor) for factor in factors(unfolded(replaced(parse(said, imports(text)), called), meant))]
-    return facts
+    """What a contract of a file says, each fact by its sides."""
+    said = [text for kind, text in clauses_in(contract) or [] if kind == "ensures"]
+    return [sides(factor) for each in said for factor in factors(unfolded(replaced(parse(each, imports(text)), {"result": RESULT}), meant))]
+
+
+def ended(term):
+    """The `&mut` of which a term is what it holds after the call, `x.new`, and in a definition over what a parameter is `x.exit.now`; else none."""
+    if is_field(term) and term[1] == ".new" and isinstance(term[0], str):
+        return term[0]
+    return term[0][0] if is_field(term) and term[1] == ".now" and is_field(term[0]) and term[0][1] == ".exit" and isinstance(term[0][0], str) else None
 
 
 def left_in(term):
     """The names of each `&mut` of which a term of a contract says what it holds after the call."""
-    if not isinstance(term, tuple):
-        return set()
-    return ({term[0]} if term[1:] == (".exit",) else set()).union(*map(left_in, term))
+    if ended(term):
+        return {ended(term)}
+    return set().union(*map(left_in, term)) if isinstance(term, tuple) else set()
 
 
 def answers(contract):
@@ -281,8 +299,8 @@ def outputs(term):
         return {RESULT}
     if not isinstance(term, tuple):
         return set()
-    if term[0] == "now" and term[1][1:] == (".exit",):
-        return {term[1][0]}
+    if ended(term):
+        return {ended(term)}
     parts = [outputs(part) for part in term[1:]] if term[0] in TABLES.values() else [set()]
     return set().union(*parts) if all(parts) else set()
 
@@ -290,7 +308,7 @@ def outputs(term):
 def matches(pattern, term, line, bound):
     """Whether a term of a contract is a line's term with its variables replaced; `bound` says by what, and grows."""
     if isinstance(pattern, str) and pattern in line.inputs | line.results:
-        fits = outputs(term) if pattern in line.results else not words(term) & {RESULT, ".exit"}
+        fits = outputs(term) if pattern in line.results else not words(term) & {RESULT, ".exit", ".new"}
         return bool(fits) and is_same(bound.setdefault(pattern, term), term)
     if isinstance(pattern, str) or isinstance(term, str):
         return is_same(pattern, term)

@@ -1,72 +1,68 @@
 """vocabulary: that contracts, definitions and statements mean by a sign or a word of the logic what the logic means; read for tools/audit.
 
-A spec that declares a `_≡_` of its own as Unit, and is imported by the source, empties every contract that is written with it: the words
+A spec that declares a `◌≡◌` of its own as Unit, and is imported by the source, empties every contract that is written with it: the words
 stay, and nothing is said. So it is a fault, in src/, specs/ and proofs/, where
 
-- a sign is declared or bound: a name is made of what `PLAIN` has, so neither `_≡_` nor one that looks like it can be made here;
+- a sign is declared or bound: a name is made of what `PLAIN` has, so neither `◌≡◌` nor one that looks like it can be made here;
 - a file has a character that is not seen, or its code one that is not among `SIGNS`;
 - src/ or specs/ import anything under another name, or a file declares what it imports;
 - a word of the logic (`HOMES`, and what else src/ and specs/ import from its libraries) is declared or bound, or imported under another
-  name or from another place than its own; the words that are a field's, a case's or a bound name here too are in `ALSO_OURS`, and are no
-  definition in specs/. In proofs/ a word may come from any library;
+  name or from a place that does not have it from where its own place has it (tools/library.py); the words that are a field's, a case's or a
+  bound name here too are in `ALSO_OURS`, and are no definition in specs/. In proofs/ a word may come from any library;
 - so too, in src/, specs/ and beside an equality line, with the words that every answer is said by (`ANSWERS`);
+- a source imports a word that a clause has of itself (`CLAUSE_WORDS`), or a parameter is called `result`;
 - a module, or the short name of one, is called as a library is; a `use` line brings all names, or is not read here; a line `infix`,
   `open` .. is there;
 - an equality line names a type of the code's that its file declares, or imports from elsewhere than the code;
-- a contract has a comment in it, or a clause that is not ⌜ .. ⌝ alone, or several joined by ∗: what a comment, a wand or an `or` says is
-  not ensured.
+- a contract has a comment in it, or a clause that is not `requires { .. }` or `ensures { .. }`, with a name or without, of one plain fact:
+  what a comment, a wand or an `or` of memory says is not ensured.
 
 The libraries are read where the toolchain has them: a word that its own place does not have is a fault too, so that none of this is held
 of nothing."""
-import functools
 import glob
-import json
 import os
 import re
-import subprocess
 import unicodedata
 
-PLAIN = re.compile(r"#?[A-Za-z0-9μΛℕℤ₀-₉′?·-]+")
-SIGNS = set("→·≡∷ℕλ∙≤κℤ𝓤×μ⌝⌜′‵⊥δν⊎𝓣↦⊛←↔»«𝓜Λ≢ℓ∵𝓡𝓖γ⋆∗⊢⇛Γτ″σ₀₁₂₃₄₅₆₇₈₉")
+from library import has, is_library, mounts, origin
+
+PLAIN = re.compile(r"#?[A-Za-z0-9_μΛℕℤ₀-₉'?-]+(?:\+[A-Za-z0-9_μΛℕℤ₀-₉'?-]+)*")
+SIGNS = set("→≡∷ℕλ∙≤κℤ𝓤×μ‵⊥δν⊎𝓣↦⊛←↔»«𝓜Λ≢ℓ∵𝓡𝓖γ⋆∗⊢⇛Γτ″σ₀₁₂₃₄₅₆₇₈₉◌")
 
 # where src/ and specs/ have the logic's words from
 HOMES = {name: module for module, names in {
-    "Prim.Native.Nat": "ℕ zero suc min _+_ _-_ _*_ _/_ _%_ _^_ _<_ _≤_",
-    "denote.Ref": "now",
-    "lib.Count": "ones",
-    "lib.Dec": "T eqb leb ltb",
-    "lib.Ieee": "Float add binary64 div down eq fin fits inf le lt mul nan neg ofBits ofInt rem round size sub toSigned toUnsigned up",
-    "lib.Ieee.Exact": "HasValue",
-    "lib.Ieee.Nearest": "closest",
-    "lib.Ieee.Positive": "positive",
-    "lib.Ieee.Scale": "finite",
-    "lib.IntN": "ℤ pos negsuc natAbs negℤ _+ℤ_ _-ℤ_ _*ℤ_",
-    "lib.ListN": "length getD take drop set",
-    "lib.Seq": "sets",
-    "lib.Signed": "leZ ltZ mag _<ℤ_ _≤ℤ_",
-    "mathlib.Core.Bool": "Bool true false not _&&_ _||_",
-    "mathlib.Core.List": "List [] _∷_ _++_ map reverse",
-    "mathlib.Core.Logic": "_↔_ _⊎_",
-    "mathlib.Core.Path": "_≡_ refl",
+    "Rattle.std.specs.Prelude": "ℕ zero suc min ◌+◌ ◌-◌ ◌*◌ ◌/◌ ◌%◌ ◌^◌ ◌<◌ ◌≤◌ count_ones T eqb leb ltb Float ℤ pos negsuc nat_abs neg_ℤ"
+        " ◌+ℤ◌ ◌-ℤ◌ ◌*ℤ◌ ◌<ℤ◌ ◌≤ℤ◌ length get_or take drop set Bool true false not ◌&&◌ ◌||◌ List [] ◌∷◌ ◌++◌ map reverse ◌↔◌ ◌⊎◌ ◌≡◌ refl",
+    "Rattle.std.specs.Borrow": "Bor",
+    "Rattle.std.specs.Float": "binary64 fin inf nan",
+    "Rattle.std.specs.Float.Ieee": "add div down eq fits le lt mul of_bits of_int rem round size sub to_signed to_unsigned up neg",
+    "Rattle.std.specs.Float.Ieee.Exact": "HasValue",
+    "Rattle.std.specs.Float.Ieee.Nearest": "closest",
+    "Rattle.std.specs.Float.Ieee.Positive": "positive",
+    "Rattle.std.specs.Float.Ieee.Scale": "finite",
+    "Rattle.std.specs.Int.Signed": "le_z lt_z mag",
+    "Rattle.std.proofs.lemmas.List.Edits": "sets",
 }.items() for name in names.split()}
 # what every file has with no `use` line, and the names of no library but the prover's own
 LENT = dict.fromkeys("Unit tt ⊥ Dec Discrete IsProp IsSet Path Id J Type".split(), "the logic")
+# what a clause calls the result, and what stands behind a reference
+CLAUSE_WORDS = set("result now old new".split())
 # words of the logic that this project has too, as a field, a case, a bound name, or a law or a part of a proof
 ALSO_OURS = set("add down finite fits inf kept le map nan ones pos positive set size up zero".split())
 ALSO_BOUND = {*ALSO_OURS, "length", "take", "T"}
 # the words that every answer is said by
 ANSWERS = {name: module for module, names in {
-    "Rattle·base.specs.Said": "Said gives refuses refusal pick andThen One",
-    "Rattle·telbijan_answers.specs.Interface": "code result kept fieldOf numberIn detailIn",
+    "Rattle.base.specs.Said": "Said gives refuses refusal pick and_then One",
+    "Rattle.telbijan_answers.specs.Interface": "code result kept field_of number_in detail_in",
 }.items() for name in names.split()}
 # types of values that equality lines are written with and that no code declares
-OUR_TYPES = {"Entry": "Rattle·sorting.specs.Entries"}
+OUR_TYPES = {"Entry": "Rattle.sorting.specs.Entries"}
 
-USE = re.compile(r"^ *((?:ghost |pub |unfoldable )*)use\s+([^\s{};]+?)(?:\.\{([^}]*)\}|\s+as\s+([^\s;]+))?;?[ ]*$", re.M)
+USE = re.compile(r"^ *((?:ghost |pub |unfoldable )*)use\s+([^\s{};]+?)(?:(?:\.|::)\{([^}]*)\}|\s+as\s+([^\s;]+))?;?[ ]*$", re.M)
 BLOCK, NAMED = r"(record|data|module|mutual|ruleset) +([^\s({]*)", r"((?:(?![=→:|λ] )[^\s(){},;.]+ +)+)(?:\{[^}]*\} +)?:(?= |$)"
 DECLARED = re.compile(rf"^( *)(?:abbrev |unfoldable |opaque |axiom )*(?:pub )?(?:{BLOCK}|{NAMED})", re.M)
 BOUND = re.compile(r"[({]\s*([^\s(){}:.;,]+(?:\s+[^\s(){}:.;,]+)*)\s+:\s|λ ([^.]*)\.|\blet\s+([^\s:=]+)")
-BOUND_SIGN = re.compile(r"[({]([^(){}:]*_[^(){}:]*)\s:\s|λ ([^.]*_[^.]*)\.|\blet\s+(\S*_\S*)")
+BOUND_SIGN = re.compile(r"[({]([^(){}:]*◌[^(){}:]*)\s:\s|λ ([^.]*◌[^.]*)\.|\blet\s+(\S*◌\S*)")
 HEAD = re.compile(r"^( *)(?:pub )?(?:extern \"C\" )?fn (\w+)(.*?)(?:^\1\{$| \{$)", re.M | re.S)
 MARKS = {"_", "abbrev", "pub", "unfoldable", "opaque", "axiom", "let", "in", "use", "mod", "ghost"}
 
@@ -88,36 +84,6 @@ def is_sign(name):
     return not PLAIN.fullmatch(name)
 
 
-# ---- the logic's libraries
-@functools.cache
-def libraries():
-    """The folders of the logic's libraries, by their names."""
-    try:
-        said = subprocess.run(["rt", "doc"], capture_output=True, text=True, check=True).stdout.split("\n")[0]
-        logic = os.path.join(os.path.dirname(said), "..", "logic")
-        with open(os.path.join(logic, "antt-project.json")) as file:
-            return {each["name"]: os.path.join(logic, each["src"]) for each in json.load(file)["libraries"]}
-    except (OSError, subprocess.CalledProcessError, ValueError, KeyError):
-        return {}
-
-
-def is_library(module):
-    return module.split(".")[0] in {*libraries(), "Prim"}
-
-
-@functools.cache
-def library_text(module):
-    first, *rest = module.split(".")
-    path = os.path.join(libraries().get(first, "/"), *rest or ["Lib"]) + ".antt"
-    return open(path).read() if os.path.isfile(path) else ""
-
-
-def has(module, name):
-    """Whether a library's module has this name; the prover has Prim itself, and no file."""
-    word = rf"(?<![^\s(){{}},.]){re.escape(name)}(?![^\s(){{}},.])"
-    return module.startswith("Prim.Native.") or bool(re.search(word, library_text(module)))
-
-
 # ---- a file
 class Source:
     """A file of src/, specs/ or proofs/: its code, what it imports by (module, name, name here), and its short names of modules."""
@@ -130,7 +96,6 @@ class Source:
             lines += 1
             if path.endswith(".rt") and "ghost" not in marks:
                 continue
-            module = re.sub(r"^(Rattle·\w+)·\w+", r"\1", module)
             listed = [each.split() for each in names.split(",") if each.strip()]
             if module.endswith("*") or ["*"] in listed:
                 self.fault(f"brings all names of {module}")
@@ -138,10 +103,10 @@ class Source:
             for name, *renamed in listed:
                 inner, _, last = name.rpartition(".")
                 self.uses.append((f"{module}.{inner}" if inner else module, last, renamed[-1] if renamed else last))
-        if lines != len(re.findall(r"(?<![\w·-])use(?![\w·-])", self.code)):
+        if lines != len(re.findall(r"(?<![\w.-])use(?![\w-])", self.code)):
             self.fault("has a `use` line that is not read here")
         self.rest = USE.sub("", self.code)
-        lines = re.findall(r"^( *)pub (\S+-one) :(.*?)^\1(?:unfolding [^\n]*\n\1)*\2\b", self.rest, re.M | re.S)
+        lines = re.findall(r"^( *)pub (\S+_one) :(.*?)^\1(?:unfolding [^\n]*\n\1)*\2\b", self.rest, re.M | re.S)
         self.said_by_one = {word for _, _, said in lines if self.kind == "proofs" for word in re.findall(r"[^\s(){}]+", said)}
 
     def fault(self, said):
@@ -192,11 +157,11 @@ def audit_words(file, watched):
         elif name in watched and (name not in ALSO_OURS or (defines and file.kind == "specs")):
             file.fault(f"declares {name}, which is {watched[name]}'s")
     for name in file.bound():
-        if "_" in name.strip("«»") and len(name) > 1 and name[0] != "«":
+        if "◌" in name:
             file.fault(f"binds {name}: a sign means what the logic means by it")
         elif name in HOMES and name not in ALSO_BOUND and file.kind != "proofs":
             file.fault(f"binds {name}, which is {watched[name]}'s")
-    for name in re.findall(r"(?<![^\s(){}.;,@])(_[^\s(){}.;,@\"«»]+_)(?! \{)(?=[\s(){}.;,])", file.rest) if file.kind != "proofs" else []:
+    for name in re.findall(r"[^\s(){}.;,@\"«»]*◌[^\s(){}.;,@\"«»]*", file.rest) if file.kind != "proofs" else []:
         file.fault(f"names {name} outside a `use` line")
     if file.path.endswith(".antt"):
         audit_form(file)
@@ -204,9 +169,9 @@ def audit_words(file, watched):
 
 def audit_form(file):
     """What could be written in a way that is not read here."""
-    for name in re.findall(r"^ *(infix[lr]?|syntax|notation|axiom)\b|(?<![\w·-])(open)(?![\w·-])", file.rest, re.M):
+    for name in re.findall(r"^ *(infix[lr]?|syntax|notation|axiom)\b|(?<![\w.-])(open)(?![\w-])", file.rest, re.M):
         file.fault(f"has a line `{''.join(name)}`")
-    for name in re.findall(r"^ *(?:(?:abbrev|unfoldable|pub) )*(_[^\s(){}]+|[^\s(){}]+_)(?! \{)(?=\s)", file.rest, re.M):
+    for name in re.findall(r"^ *(?:(?:abbrev|unfoldable|pub) )*([^\s(){}]*◌[^\s(){}]*)(?! \{)(?=\s)", file.rest, re.M):
         file.fault(f"declares {name}: a sign means what the logic means by it")
     if re.search(r"^[^\n]*\bwhere +\S", file.rest, re.M):
         file.fault("has more behind `where` on its line")
@@ -218,7 +183,7 @@ def audit_form(file):
 
 def audit_imports(file, watched):
     places = {module.split(".")[-1]: module for module in HOMES.values()}
-    roots = {*libraries(), "Prim"}
+    roots = {*mounts(), "Prim", "Rattle"}
     for short, module in file.shorts.items():
         if short in roots or places.get(short, module) != module:
             file.fault(f"calls {module} {short}, as a library is called")
@@ -227,10 +192,12 @@ def audit_imports(file, watched):
             file.fault(f"has a module {name}, called as a library is")
     for module, name, here in file.uses:
         elsewhere = not is_library(module)
+        home = watched.get(name, module)
+        is_home = home == module or (not elsewhere and is_library(home) and origin(home, name) == origin(module, name))
         if here != name and (file.kind != "proofs" or (here in watched and elsewhere) or is_sign(here) or is_sign(name)):
             file.fault(f"imports {name} of {module} as {here}")
-        elif watched.get(name, module) != module and (file.kind != "proofs" or is_sign(name) or (elsewhere and name not in ALSO_OURS)):
-            file.fault(f"imports {name} from {module}, which is {watched[name]}'s")
+        elif not is_home and (file.kind != "proofs" or is_sign(name) or (elsewhere and name not in ALSO_OURS)):
+            file.fault(f"imports {name} from {module}, which is {home}'s")
         elif is_sign(name) and elsewhere:
             file.fault(f"imports {name} from {module}, which is no library of the logic")
 
@@ -246,8 +213,20 @@ def audit_types(file, types):
             file.fault(f"imports {here} from {module} for an equality line, where that is a type of the code's")
 
 
-SAID = r"⌜[^⌜⌝]*⌝(?:\s*∗\s*⌜[^⌜⌝]*⌝)*"
-CLAUSE = re.compile(rf"\s*(?:requires(?: \w+)? \{{\s*{SAID}\s*\}}|ensures(?: \w+)? \{{\s*λ (?:\w+|\(\w+ : [^()]*\))\.\s*{SAID}\s*\}})")
+CLAUSE = re.compile(r"\s*(requires|ensures)(?: \w+)? \{")
+
+
+def clauses_in(head):
+    """The clauses of a function's head, each as its kind and its text; None where one is of another form."""
+    found, at = [], re.search(r"(?<!\S)(?:requires|ensures|ghost)\b|\Z", head).start()
+    while begins := CLAUSE.match(head, at):
+        depth, at = 1, begins.end()
+        while depth and at < len(head):
+            depth += {"{": 1, "}": -1}.get(head[at], 0)
+            at += 1
+        found.append((begins[1], head[begins.end():at - 1]))
+    said = [text for _, text in found if re.search(r"[⌜⌝∗ₛ]|-∗|^\s*λ", text)]
+    return None if said or head[at:].strip() else found
 
 
 def audit_contracts(file):
@@ -258,10 +237,13 @@ def audit_contracts(file):
     for _, name, head in HEAD.findall(text):
         if re.search(r"//|/\*|(?<!\S)--|\{-", head):
             file.fault(f"{name} has a comment in its contract")
-            continue
-        clauses = re.search(r"(?<!\S)(?:requires|ensures|ghost)\b.*", head, re.S)
-        if clauses and CLAUSE.sub("", clauses[0]).strip():
-            file.fault(f"{name} has a clause that is not ⌜ .. ⌝ alone")
+        elif clauses_in(head) is None:
+            file.fault(f"{name} has a clause that is not one plain fact")
+        if "result" in re.findall(r"(\w+): ", head.split(")")[0]):
+            file.fault(f"{name} calls a parameter result, as a clause calls what it answers")
+    for _, name, here in file.uses:
+        if {name, here} & CLAUSE_WORDS:
+            file.fault(f"imports {name}, which a clause has of itself")
     if re.search(r"\bghost\b(?! use )", file.code):
         file.fault("has something ghost that is no `use` line")
 
@@ -274,7 +256,7 @@ def misused(types):
             homes.setdefault(name, module)
     faults = [f"vocabulary: {module} of the logic has no {name}" for name, module in sorted(homes.items()) if not has(module, name)]
     for file in files:
-        place = "Rattle·" + re.sub(r"^crates/|\.\w+$", "", file.path).replace("/", ".")
+        place = "Rattle." + re.sub(r"^crates/|\.\w+$", "", file.path).replace("/", ".")
         answers = {name: module for name, module in ANSWERS.items() if module != place and (file.kind != "proofs" or file.said_by_one)}
         audit_characters(file)
         audit_words(file, {**LENT, **answers, **homes})

@@ -101,7 +101,7 @@ fn declared() -> BTreeMap<String, bool> {
             found.insert(name.to_string(), result == "uint64_t");
         }
     }
-    for path in ["crates/probes/src/lib.rt", "crates/probes/src/texts.rt"] {
+    for path in ["crates/probes_c/src/lib.rt", "crates/probes_c/src/texts.rt"] {
         for line in read(path).lines() {
             if let Some(rest) = line.strip_prefix("pub extern \"C\" fn ") {
                 found.insert(rest.split('(').next().unwrap_or("").to_string(), false);
