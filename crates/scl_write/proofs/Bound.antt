@@ -100,3 +100,7 @@ module _ (scl : Scl) (table : ItemTable) (description : List ℕ) (count : scl.c
   pub full_too : (out : List ℕ) {said : Said ℕ} {left : List ℕ} → (said ≡ text_length (export_of scl table description (length out))) × (left ≡ after (export_of scl table description (length out)) (λ t. t) out)
       → (said ≡ text_length (export_of scl table description (length out))) × ((left ≡ after (export_of scl table description (length out)) (λ t. t) out) × NeverFull scl description (length out) said)
   full_too out h = (h.0, (h.1, rw h.0 (never_full (length out))))
+
+-- what the three clauses of the export ask for
+pub as_clauses : {A B C : Type 0} → A × (B × C) → record { value : A; out_after : B; never_full : C }
+as_clauses p = record { value = p.0; out_after = p.1.0; never_full = p.1.1 }

@@ -5,9 +5,10 @@ use mathlib.Core.Bool.{true}
 use native.Mathlib.Omega.{arith}
 use Rattle.scl.specs.Table.{ItemTable, Typed, item_table, is_items}
 use Rattle.scl_write.specs.Export.{export_of}
-use Rattle.scl_write.proofs.Bound.{full_too}
+use Rattle.scl_write.proofs.Bound.{as_clauses, full_too}
 use Prim.Native.Nat.{◌≤◌}
 use borrow.Author.Rules.{rules}
+use Rattle.base.proofs.Clauses.{as_pair}
 use Rattle.scl_write.proofs.export_scl.Goals as goal
 use Rattle.scl_write.proofs.export_scl.Goals.{After-is_items, Start, Then-is_items}
 
@@ -28,17 +29,20 @@ write_scale-requires c = (items (goal.at.write_scale-requires c).Then-is_items, 
 pub returns-then-is_utf8 : goal.returns-then-is_utf8
 unfolding export_of
 returns-then-is_utf8 c =
-    full_too c.args.scl (item_table c.args.kind.now c.args.cents.now c.args.numer.now c.args.denom.now) c.args.description.now (few (goal.at.returns-then-is_utf8 c).Start) (typed (goal.at.returns-then-is_utf8 c).After-is_items) c.args.out.now
-    (rw (items (goal.at.returns-then-is_utf8 c).Then-is_items, sym c.is_utf8.ensures ∙ c.if-is_utf8.true) c.write_scale.ensures)
+    as_clauses
+    (full_too c.args.scl (item_table c.args.kind.now c.args.cents.now c.args.numer.now c.args.denom.now) c.args.description.now (few (goal.at.returns-then-is_utf8 c).Start) (typed (goal.at.returns-then-is_utf8 c).After-is_items) c.args.out.now
+    (rw (items (goal.at.returns-then-is_utf8 c).Then-is_items, sym c.is_utf8.ensures ∙ c.if-is_utf8.true) (as_pair c.write_scale.ensures)))
 
 pub returns-else-is_utf8 : goal.returns-else-is_utf8
 unfolding export_of
 returns-else-is_utf8 c =
-    full_too c.args.scl (item_table c.args.kind.now c.args.cents.now c.args.numer.now c.args.denom.now) c.args.description.now (few (goal.at.returns-else-is_utf8 c).Start) (typed (goal.at.returns-else-is_utf8 c).After-is_items) c.args.out.now
-    (rw (items (goal.at.returns-else-is_utf8 c).Then-is_items, sym c.is_utf8.ensures ∙ c.if-is_utf8.false) (refl, refl))
+    as_clauses
+    (full_too c.args.scl (item_table c.args.kind.now c.args.cents.now c.args.numer.now c.args.denom.now) c.args.description.now (few (goal.at.returns-else-is_utf8 c).Start) (typed (goal.at.returns-else-is_utf8 c).After-is_items) c.args.out.now
+    (rw (items (goal.at.returns-else-is_utf8 c).Then-is_items, sym c.is_utf8.ensures ∙ c.if-is_utf8.false) (refl, refl)))
 
 pub returns-else-is_items : goal.returns-else-is_items
 unfolding export_of
 returns-else-is_items c =
-    full_too c.args.scl (item_table c.args.kind.now c.args.cents.now c.args.numer.now c.args.denom.now) c.args.description.now (few (goal.at.returns-else-is_items c).Start) (typed (goal.at.returns-else-is_items c).After-is_items) c.args.out.now
-    (rw (sym c.is_items.ensures ∙ c.if-is_items.false) (refl, refl))
+    as_clauses
+    (full_too c.args.scl (item_table c.args.kind.now c.args.cents.now c.args.numer.now c.args.denom.now) c.args.description.now (few (goal.at.returns-else-is_items c).Start) (typed (goal.at.returns-else-is_items c).After-is_items) c.args.out.now
+    (rw (sym c.is_items.ensures ∙ c.if-is_items.false) (refl, refl)))

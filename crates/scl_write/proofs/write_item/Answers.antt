@@ -16,6 +16,7 @@ use Rattle.scl.specs.declared.Item.TheVariants.{Cents, Fraction}
 use Rattle.scl_write.specs.Export.{item_text}
 use Rattle.scl_write.proofs.ItemLines.{cents_limited, fraction_length, fraction_sets}
 use borrow.Author.Rules.{rules}
+use Rattle.base.proofs.Clauses.{as_pair}
 use Rattle.base.proofs.Clauses.{value_and_out}
 use Rattle.scl_write.proofs.write_item.Goals as goal
 use Rattle.scl_write.proofs.write_item.Goals.{In-Cents, In-Given, In-Lacking, Start}
@@ -53,7 +54,7 @@ write_number-requires-in-Lacking c = (told (goal.at.write_number-requires-in-Lac
 pub returns-in-Cents : goal.returns-in-Cents
 returns-in-Cents c =
     value_and_out
-    (rw (cents_is (goal.at.returns-in-Cents c).In-Cents) c.write_decimal.ensures)
+    (rw (cents_is (goal.at.returns-in-Cents c).In-Cents) (as_pair c.write_decimal.ensures))
 
 pub returns-in-Given : goal.returns-in-Given
 returns-in-Given c =
@@ -65,4 +66,4 @@ returns-in-Given c =
 pub returns-in-Lacking : goal.returns-in-Lacking
 returns-in-Lacking c =
     value_and_out
-    (rw (lacking_is (goal.at.returns-in-Lacking c).In-Lacking) c.write_number-in-Lacking.ensures)
+    (rw (lacking_is (goal.at.returns-in-Lacking c).In-Lacking) (as_pair c.write_number-in-Lacking.ensures))

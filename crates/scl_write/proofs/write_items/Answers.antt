@@ -11,13 +11,14 @@ use Rattle.scl.specs.Table.{ItemTable, item_table}
 use Rattle.scl.proofs.Table.{items_are}
 use Rattle.scl_write.specs.Export.{standing, item_text}
 use Rattle.scl_write.proofs.ItemLines.{left, left_length, left_sets, left_end}
+use Rattle.base.proofs.Clauses.{as_pair}
 use Rattle.scl_write.proofs.write_items.Goals as goal
 use Rattle.scl_write.proofs.write_items.Goals.{After-write_item-next}
 
 -- what was written is the line of the item at `i`
 wrote : (c : After-write_item-next) → (c.write_item-next.result ≡ c.loop-i.next + length (line (item_text (standing (item_table c.args.kind.now c.args.cents.now c.args.numer.now c.args.denom.now) c.loop-i.i))))
     × (c.write_item-next.new.out ≡ sets c.loop-i.out c.loop-i.next (line (item_text (standing (item_table c.args.kind.now c.args.cents.now c.args.numer.now c.args.denom.now) c.loop-i.i))))
-wrote c = rw c.item_at.ensures.0 at c.write_item-next.ensures
+wrote c = rw c.item_at.ensures.0 at (as_pair c.write_item-next.ensures)
 
 pub loop-i-init : goal.loop-i-init
 loop-i-init c = (omega arith, refl, refl, refl)

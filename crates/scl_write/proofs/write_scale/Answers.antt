@@ -19,6 +19,7 @@ use Rattle.scl_write.specs.Export.{item_texts, listed_in, scale_text}
 use Rattle.scl_write.proofs.ItemLines.{length_listed}
 use Rattle.scl_write.proofs.ScaleLines.{scale_length, scale_written}
 use borrow.Author.Rules.{rules}
+use Rattle.base.proofs.Clauses.{as_pair}
 use Rattle.base.proofs.Clauses.{value_and_out}
 use Rattle.scl_write.proofs.write_scale.Goals as goal
 use Rattle.scl_write.proofs.write_scale.Goals.{After-line_length, After-write_line-items_at, Start}
@@ -43,7 +44,7 @@ total c =
 told_number : (c : After-write_line-items_at) → (c.write_line-items_at.result ≡ c.write_text-number_at.result + length (line (whole_text (pos c.args.count)))) × (c.write_line-items_at.new.out ≡ sets c.write_text-number_at.new.out c.write_text-number_at.result (line (whole_text (pos c.args.count))))
 told_number c =
     let small : c.args.count < 2 ^ 31 = omega (arith, c.requires.1) in
-    rw (to_z_pos w32 {n = c.args.count} small) at c.write_line-items_at.ensures
+    rw (to_z_pos w32 {n = c.args.count} small) at (as_pair c.write_line-items_at.ensures)
 
 pub returns-then-out-total : goal.returns-then-out-total
 returns-then-out-total c =

@@ -1,0 +1,22 @@
+-- `push_all` meets its contract. The invariant: the pushes that are left make of the state what all pushes make of the first one.
+-- Assumes nothing.
+use mathlib.Core.Path.{◌≡◌, refl, sym, ◌∙◌}
+use borrow.Author.Rules.{rules}
+use Prim.Native.Nat.{◌≤◌, ◌-◌}
+use native.Mathlib.Omega.{arith}
+use lib.ListN.{length, take, drop}
+use Rattle.scl.specs.Table.{item_table}
+use Rattle.scl_build.specs.Builder.{beside}
+use Rattle.generate.proofs.Kept.{Kept, kept_all, kept_on}
+use Rattle.rank2.specs.Steps.{after_ratios}
+use Rattle.rank2.proofs.Pushes.{ratio_kept, one_pushed, all_pushed}
+use borrow.Author.Rules.{rules}
+use Rattle.rank2.proofs.push_all.Given as goal
+
+abbrev pub invariant-loop-i : goal.invariant-loop-i
+invariant-loop-i l =
+    (l.i ≤ l.n) × (l.n ≤ length l.ratio) × Kept (item_table l.kind l.cents l.numer l.denom) (item_table l.initial.kind l.initial.cents l.initial.numer l.initial.denom)
+    × (after_ratios (beside l.builder (item_table l.kind l.cents l.numer l.denom)) (drop l.i (take l.n l.ratio)) ≡ after_ratios (beside l.initial.builder (item_table l.initial.kind l.initial.cents l.initial.numer l.initial.denom)) (take l.n l.ratio))
+
+abbrev pub decreases-loop-i : goal.decreases-loop-i
+decreases-loop-i l = l.n - l.i
