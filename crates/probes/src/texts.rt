@@ -20,8 +20,7 @@ const NONE: i64 = 4294967296;
 const FULL: usize = 18446744073709551615;
 
 // Where the line that starts at a place ends; where the next one starts is stored.
-#[unsafe(no_mangle)]
-pub extern "C" fn probe_next_line(source: &[u8], at: usize, next: &mut usize) -> usize
+pub fn probe_next_line(source: &[u8], at: usize, next: &mut usize) -> usize
     ensures value { result ≡ (cut at (drop at source.now)).end }
     ensures next_after { next.new ≡ (cut at (drop at source.now)).next }
 {
@@ -56,8 +55,7 @@ fn store_line(says: LineSays, start: &mut usize, end: &mut usize, token: &mut us
 }
 
 // What a line says: 0 not UTF-8, 1 blank, 2 a comment, 3 content, whose start, end and token's end are stored.
-#[unsafe(no_mangle)]
-pub extern "C" fn probe_read_line(
+pub fn probe_read_line(
     source: &[u8],
     from: usize,
     to: usize,
@@ -82,8 +80,7 @@ fn number_of_u16(answer: U16) -> i64
     }
 }
 
-#[unsafe(no_mangle)]
-pub extern "C" fn probe_read_u16(s: &[u8]) -> i64
+pub fn probe_read_u16(s: &[u8]) -> i64
     ensures { result ≡ integer_of (read_int false (2 ^ 16) s.now) }
 {
     number_of_u16(integers::read_u16(s))
@@ -98,8 +95,7 @@ fn number_of_u32(answer: U32) -> i64
     }
 }
 
-#[unsafe(no_mangle)]
-pub extern "C" fn probe_read_u32(s: &[u8]) -> i64
+pub fn probe_read_u32(s: &[u8]) -> i64
     ensures { result ≡ integer_of (read_int false (2 ^ 32) s.now) }
 {
     number_of_u32(integers::read_u32(s))
@@ -114,8 +110,7 @@ fn number_of_i16(answer: I16) -> i64
     }
 }
 
-#[unsafe(no_mangle)]
-pub extern "C" fn probe_read_i16(s: &[u8]) -> i64
+pub fn probe_read_i16(s: &[u8]) -> i64
     ensures { result ≡ integer_of (read_int true (2 ^ 15) s.now) }
 {
     number_of_i16(integers::read_i16(s))
@@ -130,8 +125,7 @@ fn number_of_i32(answer: I32) -> i64
     }
 }
 
-#[unsafe(no_mangle)]
-pub extern "C" fn probe_read_i32(s: &[u8]) -> i64
+pub fn probe_read_i32(s: &[u8]) -> i64
     ensures { result ≡ integer_of (read_int true (2 ^ 31) s.now) }
 {
     number_of_i32(integers::read_i32(s))
@@ -152,8 +146,7 @@ fn store_decimal(answer: DecimalAnswer, value: &mut f64) -> u32
     }
 }
 
-#[unsafe(no_mangle)]
-pub extern "C" fn probe_read_decimal(s: &[u8], value: &mut f64) -> u32
+pub fn probe_read_decimal(s: &[u8], value: &mut f64) -> u32
     ensures value { result ≡ decimal_kind (read_decimal s.now) }
     ensures value_after { value.new ≡ decimal_value (read_decimal s.now) value.old }
 {
@@ -181,14 +174,7 @@ pub fn is_printable(x: f64, decimals: u64) -> bool
 }
 
 // The place after a number written with so many decimals at a place; none where it is not to be written or does not fit.
-#[unsafe(no_mangle)]
-pub extern "C" fn probe_write_fixed(
-    x: f64,
-    decimals: u64,
-    plus: bool,
-    out: &mut [u8],
-    at: usize,
-) -> usize
+pub fn probe_write_fixed(x: f64, decimals: u64, plus: bool, out: &mut [u8], at: usize) -> usize
     ensures value { result ≡ next_of (pick (printable_to x decimals) (placed out.old at (text_of decimals plus x)) Full) }
     ensures out_after { out.new ≡ pick (printable_to x decimals) (written out.old at (text_of decimals plus x)) out.old }
 {
@@ -198,16 +184,14 @@ pub extern "C" fn probe_write_fixed(
     FULL
 }
 
-#[unsafe(no_mangle)]
-pub extern "C" fn probe_write_i32(z: i32, out: &mut [u8], at: usize) -> usize
+pub fn probe_write_i32(z: i32, out: &mut [u8], at: usize) -> usize
     ensures value { result ≡ next_of (placed out.old at (whole_text z)) }
     ensures out_after { out.new ≡ written out.old at (whole_text z) }
 {
     place(printing::write_i32(z, out, at))
 }
 
-#[unsafe(no_mangle)]
-pub extern "C" fn probe_write_u32(n: u32, out: &mut [u8], at: usize) -> usize
+pub fn probe_write_u32(n: u32, out: &mut [u8], at: usize) -> usize
     ensures value { result ≡ next_of (placed out.old at (whole_text (pos n))) }
     ensures out_after { out.new ≡ written out.old at (whole_text (pos n)) }
 {

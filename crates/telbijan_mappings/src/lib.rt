@@ -51,8 +51,7 @@ pub fn mapping_with(
 // The degree of a key, stored: 10 for a table that cannot be used, 16 outside start..end (end is outside, and every key where end is
 // not above start), 11 where the distance from the reference key passes 32 bits, 17 unmapped, 11 where the degree does. The pitch plays
 // no part: any `hz` will do.
-#[unsafe(no_mangle)]
-pub extern "C" fn telbijan_scale_degree_of(
+pub fn telbijan_scale_degree_of(
     map: &[i32],
     count: u16,
     start: i32,
@@ -74,8 +73,7 @@ pub extern "C" fn telbijan_scale_degree_of(
 // The degree of a key counted from the middle key, as in Scala, stored. The middle key is the exact sum of reference and offset, which may
 // lie outside 32 bits. 10 for a table that cannot be used, 16 outside start..end, 11 where the distance from the middle key passes 32 bits,
 // 17 unmapped, 11 where the degree does. The pitch plays no part: any `hz` will do.
-#[unsafe(no_mangle)]
-pub extern "C" fn telbijan_scale_degree_from_middle(
+pub fn telbijan_scale_degree_from_middle(
     map: &[i32],
     count: u16,
     start: i32,
@@ -100,8 +98,7 @@ pub extern "C" fn telbijan_scale_degree_from_middle(
 // The text of a mapping, written into the lent bytes; the number of bytes is stored, and bytes behind it keep their values. 10 for
 // a table or pitch that cannot be used, 11 where the last or the middle key passes 32 bits, 12 where the text is longer than
 // the bytes. A mapping whose last key is below its first is written as any other; a read refuses that text (25).
-#[unsafe(no_mangle)]
-pub extern "C" fn telbijan_export_kbm(
+pub fn telbijan_export_kbm(
     map: &[i32],
     count: u16,
     start: i32,
@@ -121,8 +118,7 @@ pub extern "C" fn telbijan_export_kbm(
 }
 
 // Whether a mapping's root can be used: 10 for a pitch outside 2^-10..2^20.
-#[unsafe(no_mangle)]
-pub extern "C" fn telbijan_kbm_root(reference: i32, hz: f64, offset: i32) -> u64
+pub fn telbijan_kbm_root(reference: i32, hz: f64, offset: i32) -> u64
     ensures { Answered (root_of (key reference) (record { 0 = hz }) offset) result }
 {
     match KbmRoot::new(PianoKey(reference), Pitch(hz), offset) {
@@ -151,8 +147,7 @@ fn pushing(room: usize, count: usize) -> KbmBuilder
 
 // One mapped entry more, at place `count` of a table of `room` places; the new count is stored. 10 for a room or count that
 // is not the table's, 12 with no place left.
-#[unsafe(no_mangle)]
-pub extern "C" fn telbijan_push_mapped_key(
+pub fn telbijan_push_mapped_key(
     map: &mut [i32],
     room: usize,
     count: usize,
@@ -172,8 +167,7 @@ pub extern "C" fn telbijan_push_mapped_key(
 }
 
 // One unmapped entry more, in the same way.
-#[unsafe(no_mangle)]
-pub extern "C" fn telbijan_push_unmapped_key(
+pub fn telbijan_push_unmapped_key(
     map: &mut [i32],
     room: usize,
     count: usize,
@@ -205,8 +199,7 @@ fn octave_of(given: bool, octave: i16) -> Octave
 // The mapping of the entries that were pushed: its count and its formal octave are stored. `given` says whether there is a formal
 // octave, `octave`; with none and no entries 0 is stored. 10 for a state, table or pitch that cannot be used, 15 for entries
 // and no formal octave, 25 where `end` is not above `start`, so that the last key is below the first, 13 over 65,535 entries.
-#[unsafe(no_mangle)]
-pub extern "C" fn telbijan_build_kbm(
+pub fn telbijan_build_kbm(
     map: &[i32],
     room: usize,
     count: usize,
@@ -251,8 +244,7 @@ pub extern "C" fn telbijan_build_kbm(
 // are stored. The refusals are 1, 3, 7, 8, 9, 10, 11, 12 and 25 with their line; 2 with which required line is missing (1 size, 2
 // first key, 3 last key, 4 middle key, 5 reference key, 6 pitch, 7 formal octave); 12, 13 and 14 with 0, after the last line. 25 is for
 // a last key below the first, at the last key's line, after 3 and 11 there: what is read has at least one key in its range.
-#[unsafe(no_mangle)]
-pub extern "C" fn telbijan_read_kbm(
+pub fn telbijan_read_kbm(
     text: &[u8],
     map: &mut [i32],
     count: &mut u16,

@@ -1,5 +1,5 @@
 // Whole numbers, keys, powers, ratios and pitches for C: include/telbijan.h declares the functions.
-mod integers;
-mod keys;
-mod pitches;
-mod powers;
+pub mod integers;
+pub mod keys;
+pub mod pitches;
+pub mod powers;

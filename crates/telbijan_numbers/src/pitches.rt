@@ -13,160 +13,133 @@ use fraction::NearestAnswer;
 use pitch::{Order, OrderAnswer, Pitch, Ratio};
 
 // The ratio of a number; 10 outside 2^-900..2^900.
-#[unsafe(no_mangle)]
-pub extern "C" fn telbijan_ratio_from_float(value: f64, ratio: &mut f64) -> u64
+pub fn telbijan_ratio_from_float(value: f64, ratio: &mut f64) -> u64
     ensures { Stored (from_float value) ratio.old result ratio.new }
 {
     telbijan_answers::store_ratio(Ratio::from_float(value), ratio)
 }
 
 // The ratio of so many octaves; 18 outside -900..900.
-#[unsafe(no_mangle)]
-pub extern "C" fn telbijan_ratio_from_octaves(octaves: f64, ratio: &mut f64) -> u64
+pub fn telbijan_ratio_from_octaves(octaves: f64, ratio: &mut f64) -> u64
     ensures { Stored (from_octaves octaves) ratio.old result ratio.new }
 {
     telbijan_answers::store_ratio(Ratio::from_octaves(octaves), ratio)
 }
 
 // The ratio of so many semitones; 18.
-#[unsafe(no_mangle)]
-pub extern "C" fn telbijan_ratio_from_semitones(semitones: f64, ratio: &mut f64) -> u64
+pub fn telbijan_ratio_from_semitones(semitones: f64, ratio: &mut f64) -> u64
     ensures { Stored (from_semitones semitones) ratio.old result ratio.new }
 {
     telbijan_answers::store_ratio(Ratio::from_semitones(semitones), ratio)
 }
 
 // The ratio of so many cents; 18.
-#[unsafe(no_mangle)]
-pub extern "C" fn telbijan_ratio_from_cents(cents: f64, ratio: &mut f64) -> u64
+pub fn telbijan_ratio_from_cents(cents: f64, ratio: &mut f64) -> u64
     ensures { Stored (from_cents cents) ratio.old result ratio.new }
 {
     telbijan_answers::store_ratio(Ratio::from_cents(cents), ratio)
 }
 
 // The ratio from the first pitch to the second; 10, 18.
-#[unsafe(no_mangle)]
-pub extern "C" fn telbijan_ratio_between_pitches(first: f64, second: f64, ratio: &mut f64) -> u64
+pub fn telbijan_ratio_between_pitches(first: f64, second: f64, ratio: &mut f64) -> u64
     ensures { Stored (between_pitches first second) ratio.old result ratio.new }
 {
     telbijan_answers::store_ratio(Ratio::between_pitches(Pitch(first), Pitch(second)), ratio)
 }
 
 // One ratio on top of another; 10, 18.
-#[unsafe(no_mangle)]
-pub extern "C" fn telbijan_ratio_stretched_by(value: f64, stretch: f64, ratio: &mut f64) -> u64
+pub fn telbijan_ratio_stretched_by(value: f64, stretch: f64, ratio: &mut f64) -> u64
     ensures { Stored (stretched_by value stretch) ratio.old result ratio.new }
 {
     telbijan_answers::store_ratio(Ratio(value).stretched_by(Ratio(stretch)), ratio)
 }
 
 // How far a ratio is from another; 10, 18.
-#[unsafe(no_mangle)]
-pub extern "C" fn telbijan_ratio_deviation_from(value: f64, reference: f64, ratio: &mut f64) -> u64
+pub fn telbijan_ratio_deviation_from(value: f64, reference: f64, ratio: &mut f64) -> u64
     ensures { Stored (deviation_from value reference) ratio.old result ratio.new }
 {
     telbijan_answers::store_ratio(Ratio(value).deviation_from(Ratio(reference)), ratio)
 }
 
 // So many times the interval; 10, 18.
-#[unsafe(no_mangle)]
-pub extern "C" fn telbijan_ratio_repeated(value: f64, times: f64, ratio: &mut f64) -> u64
+pub fn telbijan_ratio_repeated(value: f64, times: f64, ratio: &mut f64) -> u64
     ensures { Stored (repeated value times) ratio.old result ratio.new }
 {
     telbijan_answers::store_ratio(Ratio(value).repeated(times), ratio)
 }
 
 // One of so many equal parts of the interval; 10, 18.
-#[unsafe(no_mangle)]
-pub extern "C" fn telbijan_ratio_divided_into_equal_steps(
-    value: f64,
-    steps: f64,
-    ratio: &mut f64,
-) -> u64
+pub fn telbijan_ratio_divided_into_equal_steps(value: f64, steps: f64, ratio: &mut f64) -> u64
     ensures { Stored (divided_into value steps) ratio.old result ratio.new }
 {
     telbijan_answers::store_ratio(Ratio(value).divided_into_equal_steps(steps), ratio)
 }
 
 // How many steps make the interval, infinite or a NaN for a step of 1.0; 10.
-#[unsafe(no_mangle)]
-pub extern "C" fn telbijan_ratio_num_equal_steps_of_size(
-    value: f64,
-    step: f64,
-    count: &mut f64,
-) -> u64
+pub fn telbijan_ratio_num_equal_steps_of_size(value: f64, step: f64, count: &mut f64) -> u64
     ensures { Stored (steps_of_size value step) count.old result count.new }
 {
     telbijan_answers::store_float(Ratio(value).num_equal_steps_of_size(Ratio(step)), count)
 }
 
 // The octaves of a ratio; 10.
-#[unsafe(no_mangle)]
-pub extern "C" fn telbijan_ratio_as_octaves(value: f64, octaves: &mut f64) -> u64
+pub fn telbijan_ratio_as_octaves(value: f64, octaves: &mut f64) -> u64
     ensures { Stored (as_octaves value) octaves.old result octaves.new }
 {
     telbijan_answers::store_float(Ratio(value).as_octaves(), octaves)
 }
 
 // The semitones of a ratio; 10.
-#[unsafe(no_mangle)]
-pub extern "C" fn telbijan_ratio_as_semitones(value: f64, semitones: &mut f64) -> u64
+pub fn telbijan_ratio_as_semitones(value: f64, semitones: &mut f64) -> u64
     ensures { Stored (as_semitones value) semitones.old result semitones.new }
 {
     telbijan_answers::store_float(Ratio(value).as_semitones(), semitones)
 }
 
 // The cents of a ratio; 10.
-#[unsafe(no_mangle)]
-pub extern "C" fn telbijan_ratio_as_cents(value: f64, cents: &mut f64) -> u64
+pub fn telbijan_ratio_as_cents(value: f64, cents: &mut f64) -> u64
     ensures { Stored (as_cents value) cents.old result cents.new }
 {
     telbijan_answers::store_float(Ratio(value).as_cents(), cents)
 }
 
 // The interval turned over; 10.
-#[unsafe(no_mangle)]
-pub extern "C" fn telbijan_ratio_inv(value: f64, ratio: &mut f64) -> u64
+pub fn telbijan_ratio_inv(value: f64, ratio: &mut f64) -> u64
     ensures { Stored (inverse value) ratio.old result ratio.new }
 {
     telbijan_answers::store_ratio(Ratio(value).inv(), ratio)
 }
 
 // The interval upwards; 10.
-#[unsafe(no_mangle)]
-pub extern "C" fn telbijan_ratio_abs(value: f64, ratio: &mut f64) -> u64
+pub fn telbijan_ratio_abs(value: f64, ratio: &mut f64) -> u64
     ensures { Stored (absolute value) ratio.old result ratio.new }
 {
     telbijan_answers::store_ratio(Ratio(value).abs(), ratio)
 }
 
 // The pitch of a number in Hz; 10 outside 2^-900..2^900.
-#[unsafe(no_mangle)]
-pub extern "C" fn telbijan_pitch_from_hz(value: f64, hz: &mut f64) -> u64
+pub fn telbijan_pitch_from_hz(value: f64, hz: &mut f64) -> u64
     ensures { Stored (from_hz value) hz.old result hz.new }
 {
     telbijan_answers::store_pitch(Pitch::from_hz(value), hz)
 }
 
 // The pitch that much higher; 10, 18.
-#[unsafe(no_mangle)]
-pub extern "C" fn telbijan_pitch_times_ratio(value: f64, ratio: f64, hz: &mut f64) -> u64
+pub fn telbijan_pitch_times_ratio(value: f64, ratio: f64, hz: &mut f64) -> u64
     ensures { Stored (pitch_times value ratio) hz.old result hz.new }
 {
     telbijan_answers::store_pitch(Pitch(value).times(Ratio(ratio)), hz)
 }
 
 // The pitch that much lower; 10, 18.
-#[unsafe(no_mangle)]
-pub extern "C" fn telbijan_pitch_over_ratio(value: f64, ratio: f64, hz: &mut f64) -> u64
+pub fn telbijan_pitch_over_ratio(value: f64, ratio: f64, hz: &mut f64) -> u64
     ensures { Stored (pitch_over value ratio) hz.old result hz.new }
 {
     telbijan_answers::store_pitch(Pitch(value).over(Ratio(ratio)), hz)
 }
 
 // Whether a ratio is as good as a unison; 10.
-#[unsafe(no_mangle)]
-pub extern "C" fn telbijan_ratio_is_negligible(value: f64, negligible: &mut bool) -> u64
+pub fn telbijan_ratio_is_negligible(value: f64, negligible: &mut bool) -> u64
     ensures { Stored (is_negligible value) negligible.old result negligible.new }
 {
     telbijan_answers::store_bool(Ratio(value).is_negligible(), negligible)
@@ -184,8 +157,7 @@ fn order_number(order: Order) -> i32
 }
 
 // Whether a ratio is lower than another (-1), the same (0) or higher (1); 10.
-#[unsafe(no_mangle)]
-pub extern "C" fn telbijan_ratio_total_cmp(value: f64, other: f64, order: &mut i32) -> u64
+pub fn telbijan_ratio_total_cmp(value: f64, other: f64, order: &mut i32) -> u64
     ensures { StoredPart order_number (total_cmp value other) order.old result order.new }
 {
     match Ratio(value).total_cmp(Ratio(other)) {
@@ -199,8 +171,7 @@ pub extern "C" fn telbijan_ratio_total_cmp(value: f64, other: f64, order: &mut i
 
 // The nearest fraction that the walk finds within the odd limit, octaves taken off: numer, denom, deviation and octaves are
 // stored; 10 outside 2^-64..2^64.
-#[unsafe(no_mangle)]
-pub extern "C" fn telbijan_ratio_nearest_fraction(
+pub fn telbijan_ratio_nearest_fraction(
     value: f64,
     limit: u16,
     numer: &mut u16,
@@ -233,8 +204,7 @@ pub extern "C" fn telbijan_ratio_nearest_fraction(
 // the larger over the smaller; where two are as near, the smaller denominator, then the smaller numerator: it is in lowest terms. Octaves
 // are not taken off. Stored are numer, denom and deviation, value / (numer / denom); 10 outside 2^-64..2^64, then 29 for limit 0. The time
 // grows with the limit: about half a microsecond at 9, a quarter of a millisecond at 65535.
-#[unsafe(no_mangle)]
-pub extern "C" fn telbijan_ratio_best_fraction(
+pub fn telbijan_ratio_best_fraction(
     value: f64,
     limit: u16,
     numer: &mut u16,

@@ -4,8 +4,7 @@ ghost use Rattle.telbijan_answers.specs.Calls.{Stored};
 
 // E(x), the power 2^x, stored; 18 outside -900..900. It is above the true power by one part in 2^53 at most, and below it by less
 // than one in 2^51: within 8e-13 cents. What a caller computes before and after rounds again.
-#[unsafe(no_mangle)]
-pub extern "C" fn telbijan_exp2(x: f64, power: &mut f64) -> u64
+pub fn telbijan_exp2(x: f64, power: &mut f64) -> u64
     ensures { Stored (E x) power.old result power.new }
 {
     telbijan_answers::store_float(explog::exp2(x), power)
@@ -13,8 +12,7 @@ pub extern "C" fn telbijan_exp2(x: f64, power: &mut f64) -> u64
 
 // L(x), the base 2 logarithm, stored; 18 outside 2^-900..2^900. It is above the true logarithm by |L(x)| * 2^-53 at most, and below
 // it by less than that plus 2^-51: up to 32 octaves, within 5e-12 cents. What a caller computes before and after rounds again.
-#[unsafe(no_mangle)]
-pub extern "C" fn telbijan_log2(x: f64, logarithm: &mut f64) -> u64
+pub fn telbijan_log2(x: f64, logarithm: &mut f64) -> u64
     ensures { Stored (L x) logarithm.old result logarithm.new }
 {
     telbijan_answers::store_float(explog::log2(x), logarithm)

@@ -35,8 +35,7 @@ fn divisions_of(divided: bool, divisions: u16) -> Divisions
 // `otonal`: the harmonics start + 1 to start + size over start; else start + size over start + size - 1 down to start. `divided`: the
 // harmonics nearest to so many equal divisions of the segment. 10 for start 0, 12 where a column has no place for all items and place
 // 0, 18 for 0 divisions and where two or more items have the period 1.0.
-#[unsafe(no_mangle)]
-pub extern "C" fn telbijan_create_harmonics_scale(
+pub fn telbijan_create_harmonics_scale(
     otonal: bool,
     start: u16,
     size: u16,
@@ -69,8 +68,7 @@ pub extern "C" fn telbijan_create_harmonics_scale(
 // ascending order; its items, in cents, and its sorted list written as a builder would, its count of items stored. 13 for over 65,535
 // items, 10 for a generator or a period outside 2^-32..2^32 or a period of 1.0, 12 where a column has no place for all items and place
 // 0, 18 where two or more items have the period 1.0.
-#[unsafe(no_mangle)]
-pub extern "C" fn telbijan_create_rank2_temperament_scale(
+pub fn telbijan_create_rank2_temperament_scale(
     generator: f64,
     positive: u16,
     negative: u16,

@@ -1,5 +1,5 @@
 // Scales for C: seven lent columns, the items' four and the sorted list's three, and beside them the count of items.
-mod generators;
+pub mod generators;
 
 ghost use Rattle.scl.specs.Table.{item_of};
 ghost use Rattle.scl.specs.declared.Denom.TheVariants.{Given, Lacking};
@@ -16,14 +16,7 @@ use scl_build::{SclBuilder, SclBuilderAnswer};
 use scl_read::SclReadAnswer;
 
 // The ratio of an item, stored: 10 for an item that cannot be used, one of an unknown kind too.
-#[unsafe(no_mangle)]
-pub extern "C" fn telbijan_item_as_ratio(
-    kind: u8,
-    cents: f64,
-    numer: u32,
-    denom: u32,
-    ratio: &mut f64,
-) -> u64
+pub fn telbijan_item_as_ratio(kind: u8, cents: f64, numer: u32, denom: u32, ratio: &mut f64) -> u64
     ensures { ItemAsRatio (item_of kind cents numer denom) ratio.old result ratio.new }
 {
     telbijan_answers::store_ratio(scl::item_of(kind, cents, numer, denom).as_ratio(), ratio)
@@ -54,8 +47,7 @@ fn store_read(answer: SclReadAnswer, count: &mut u16, start: &mut usize, end: &m
 // first places of the list; the places behind keep their values. Stored are the count of items, and where the description starts
 // and ends in the text. The refusals are 1, 3, 4, 5, 6, 9, 10 and 12 with their line; 2 with which required line is missing (1
 // description, 2 count); 13, 14 and 18 with 0, after the last line; and 12 with 0, first, where a column has no place.
-#[unsafe(no_mangle)]
-pub extern "C" fn telbijan_read_scl(
+pub fn telbijan_read_scl(
     text: &[u8],
     kind: &mut [u8],
     cents: &mut [f64],
@@ -93,8 +85,7 @@ fn store_room(answer: SclBuilderAnswer, room: &mut usize) -> u64
 
 // A builder with nothing pushed: place 0 gets the implicit 0.0 cents, and the room is stored, the places of the shortest column; the
 // count is 0. 12 where a column has no place. The list's columns are only measured.
-#[unsafe(no_mangle)]
-pub extern "C" fn telbijan_new_scl(
+pub fn telbijan_new_scl(
     kind: &mut [u8],
     cents: &mut [f64],
     numer: &mut [u32],
@@ -129,8 +120,7 @@ fn store_count(answer: SclBuilderAnswer, after: &mut usize) -> u64
 
 // One item in cents more, at place `count` + 1 of columns of `room` places; the new count is stored. 10 for a room or count that is
 // not the columns', and for cents outside -38400..38400; 12 with no place left.
-#[unsafe(no_mangle)]
-pub extern "C" fn telbijan_push_cents(
+pub fn telbijan_push_cents(
     kind: &mut [u8],
     cents: &mut [f64],
     numer: &mut [u32],
@@ -148,8 +138,7 @@ pub extern "C" fn telbijan_push_cents(
 }
 
 // One ratio more, kept as its cents, in the same way; 10 for a ratio outside 2^-900..2^900 too.
-#[unsafe(no_mangle)]
-pub extern "C" fn telbijan_push_ratio(
+pub fn telbijan_push_ratio(
     kind: &mut [u8],
     cents: &mut [f64],
     numer: &mut [u32],
@@ -170,8 +159,7 @@ pub extern "C" fn telbijan_push_ratio(
 }
 
 // One integer more, a fraction whose denominator is lacking, in the same way; 10 for 0.
-#[unsafe(no_mangle)]
-pub extern "C" fn telbijan_push_int(
+pub fn telbijan_push_int(
     kind: &mut [u8],
     cents: &mut [f64],
     numer: &mut [u32],
@@ -189,8 +177,7 @@ pub extern "C" fn telbijan_push_int(
 }
 
 // One fraction more, in the same way; 10 where either number is 0.
-#[unsafe(no_mangle)]
-pub extern "C" fn telbijan_push_fraction(
+pub fn telbijan_push_fraction(
     kind: &mut [u8],
     cents: &mut [f64],
     numer: &mut [u32],
@@ -214,8 +201,7 @@ pub extern "C" fn telbijan_push_fraction(
 // The scale of the items that were pushed: its sorted list goes to the first `count` + 1 places of the list, and the count of items
 // is stored; the items stay. 10 for a state or an item that cannot be used, 13 over 65,535 items, 18 where two or more items
 // have the period 1.0.
-#[unsafe(no_mangle)]
-pub extern "C" fn telbijan_build_scl(
+pub fn telbijan_build_scl(
     kind: &[u8],
     cents: &[f64],
     numer: &[u32],
@@ -238,8 +224,7 @@ pub extern "C" fn telbijan_build_scl(
 // The text of a scale, written into the lent bytes: the description as it is, the count, the items. The number of bytes is stored, and
 // bytes behind it keep their values. 10 for a table that cannot be used or a description that is not UTF-8, 12 where the text is
 // longer than the bytes: never where they are the description's length + 7 + 22 for each item.
-#[unsafe(no_mangle)]
-pub extern "C" fn telbijan_export_scl(
+pub fn telbijan_export_scl(
     description: &[u8],
     kind: &[u8],
     cents: &[f64],

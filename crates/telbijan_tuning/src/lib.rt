@@ -1,6 +1,6 @@
 // Pitches for C: of degrees and keys, over a scale's lent columns, and a root or a mapping beside them.
-mod middle;
-mod searches;
+pub mod middle;
+pub mod searches;
 
 ghost use Rattle.key.specs.Keys.{key};
 ghost use Rattle.tuning.specs.Run.{says_run};
@@ -16,8 +16,7 @@ use scl::Scl;
 use tuning::key_pitches::RunAnswer;
 
 // The period of a scale, the ratio of its last item, stored; of a scale without items that of place 0. 10 for items that cannot be used.
-#[unsafe(no_mangle)]
-pub extern "C" fn telbijan_period(
+pub fn telbijan_period(
     kind: &[u8],
     cents: &[f64],
     numer: &[u32],
@@ -32,8 +31,7 @@ pub extern "C" fn telbijan_period(
 }
 
 // The ratio of a degree to degree 0, stored: 10 for items that cannot be used, 18 where the ratio lies outside 2^-900..2^900.
-#[unsafe(no_mangle)]
-pub extern "C" fn telbijan_relative_pitch_of(
+pub fn telbijan_relative_pitch_of(
     kind: &[u8],
     cents: &[f64],
     numer: &[u32],
@@ -53,8 +51,7 @@ pub extern "C" fn telbijan_relative_pitch_of(
 }
 
 // The same of a degree in ascending order: 10 for items or a list that cannot be used, 18.
-#[unsafe(no_mangle)]
-pub extern "C" fn telbijan_sorted_relative_pitch_of(
+pub fn telbijan_sorted_relative_pitch_of(
     kind: &[u8],
     cents: &[f64],
     numer: &[u32],
@@ -88,8 +85,7 @@ pub extern "C" fn telbijan_sorted_relative_pitch_of(
 
 // The pitch of a degree in Hz, stored: 10 for items that cannot be used or a root's pitch outside 2^-10..2^20, 11 for the root offset
 // -2147483648, 18 where a pitch or ratio lies outside 2^-900..2^900.
-#[unsafe(no_mangle)]
-pub extern "C" fn telbijan_pitch_of(
+pub fn telbijan_pitch_of(
     kind: &[u8],
     cents: &[f64],
     numer: &[u32],
@@ -114,8 +110,7 @@ pub extern "C" fn telbijan_pitch_of(
 
 // The pitch of a key, whose degree is its distance from the reference key: 10, 11 where the distance passes 32 bits, 11 for the root
 // offset -2147483648, 18.
-#[unsafe(no_mangle)]
-pub extern "C" fn telbijan_pitch_of_key(
+pub fn telbijan_pitch_of_key(
     kind: &[u8],
     cents: &[f64],
     numer: &[u32],
@@ -139,8 +134,7 @@ pub extern "C" fn telbijan_pitch_of_key(
 }
 
 // The pitch of a degree in ascending order: 10 for the list too, 11 for the root offset -2147483648, 18.
-#[unsafe(no_mangle)]
-pub extern "C" fn telbijan_sorted_pitch_of(
+pub fn telbijan_sorted_pitch_of(
     kind: &[u8],
     cents: &[f64],
     numer: &[u32],
@@ -179,8 +173,7 @@ pub extern "C" fn telbijan_sorted_pitch_of(
 
 // The pitch of a key of a mapping, stored: 10 for tables or a root's pitch that cannot be used, 16 outside start..end, 11 where the
 // distance from the reference key passes 32 bits, 17 unmapped, 11 where the degree does, 11 for the root offset -2147483648, 18.
-#[unsafe(no_mangle)]
-pub extern "C" fn telbijan_maybe_pitch_of(
+pub fn telbijan_maybe_pitch_of(
     kind: &[u8],
     cents: &[f64],
     numer: &[u32],
@@ -210,8 +203,7 @@ pub extern "C" fn telbijan_maybe_pitch_of(
 }
 
 // The same of the key so many steps above the reference key: 11 where that key passes 32 bits, after 10.
-#[unsafe(no_mangle)]
-pub extern "C" fn telbijan_maybe_pitch_of_degree(
+pub fn telbijan_maybe_pitch_of_degree(
     kind: &[u8],
     cents: &[f64],
     numer: &[u32],
@@ -253,8 +245,7 @@ fn code_of_run(said: RunAnswer) -> u64
 // The pitches of `keys` keys of a mapping, from key `first` on, and beside each its refusal's number, 0 for a pitch: 10 for tables or a
 // root's pitch that cannot be used, 12 where a slice is shorter than the run. Else each key answers as telbijan_maybe_pitch_of does, and
 // 11 where there is no such key; a refused key's pitch stays as it was, and so do the places behind the run. The tables are tested once.
-#[unsafe(no_mangle)]
-pub extern "C" fn telbijan_pitches_of(
+pub fn telbijan_pitches_of(
     kind: &[u8],
     cents: &[f64],
     numer: &[u32],

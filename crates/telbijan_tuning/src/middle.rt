@@ -13,8 +13,7 @@ use scl::Scl;
 // the key's degree. 10 for tables or a root's pitch that cannot be used; of the key 16 outside start..end, 11 where its distance from the
 // middle key passes 32 bits, 17 unmapped, 11 where its degree does; of the reference key, which no range limits, 11 for its distance, 19
 // unmapped, 11 for its degree; 18.
-#[unsafe(no_mangle)]
-pub extern "C" fn telbijan_maybe_pitch_from_middle(
+pub fn telbijan_maybe_pitch_from_middle(
     kind: &[u8],
     cents: &[f64],
     numer: &[u32],
@@ -47,8 +46,7 @@ pub extern "C" fn telbijan_maybe_pitch_from_middle(
 // pitch: 10 for tables or a root's pitch that cannot be used, 12 where a slice is shorter than the run. Else each key answers as
 // telbijan_maybe_pitch_from_middle does, and 11 where there is no such key; a refused key's pitch stays as it was, and so do the places
 // behind the run. The tables are tested once.
-#[unsafe(no_mangle)]
-pub extern "C" fn telbijan_pitches_from_middle(
+pub fn telbijan_pitches_from_middle(
     kind: &[u8],
     cents: &[f64],
     numer: &[u32],

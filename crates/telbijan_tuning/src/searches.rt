@@ -47,8 +47,7 @@ fn store_key(answer: KeySearch, number: &mut i32, deviation: &mut f64) -> u64
 // list that cannot be used and for a ratio outside 2^-64..2^64; 18 in a scale of one item with period 1.0, and, in a list that was
 // neither built nor read, where a ratio that is computed on the way lies outside 2^-900..2^900; 11 where the degree passes 32 bits. Of
 // two that come equally near, within 0.999999, it is the lower one. A scale without items answers degree 0 with the ratio itself.
-#[unsafe(no_mangle)]
-pub extern "C" fn telbijan_find_by_relative_pitch(
+pub fn telbijan_find_by_relative_pitch(
     kind: &[u8],
     cents: &[f64],
     numer: &[u32],
@@ -83,8 +82,7 @@ pub extern "C" fn telbijan_find_by_relative_pitch(
 }
 
 // The same, the degree counted in ascending order.
-#[unsafe(no_mangle)]
-pub extern "C" fn telbijan_find_by_relative_pitch_sorted(
+pub fn telbijan_find_by_relative_pitch_sorted(
     kind: &[u8],
     cents: &[f64],
     numer: &[u32],
@@ -121,8 +119,7 @@ pub extern "C" fn telbijan_find_by_relative_pitch_sorted(
 // The degree whose pitch comes nearest to a pitch in Hz, and the deviation from it, both stored: 10 for tables, a root's pitch or a pitch
 // outside 2^-10..2^20 that cannot be used, 11 for the root offset -2147483648, 18 where the root's pitch lies outside 2^-900..2^900 or the
 // ratio from it up to the pitch outside 2^-64..2^64, and as for a ratio, 11 where the degree passes 32 bits.
-#[unsafe(no_mangle)]
-pub extern "C" fn telbijan_find_by_pitch(
+pub fn telbijan_find_by_pitch(
     kind: &[u8],
     cents: &[f64],
     numer: &[u32],
@@ -163,8 +160,7 @@ pub extern "C" fn telbijan_find_by_pitch(
 }
 
 // The same, the degree counted in ascending order.
-#[unsafe(no_mangle)]
-pub extern "C" fn telbijan_find_by_pitch_sorted(
+pub fn telbijan_find_by_pitch_sorted(
     kind: &[u8],
     cents: &[f64],
     numer: &[u32],
@@ -206,8 +202,7 @@ pub extern "C" fn telbijan_find_by_pitch_sorted(
 
 // The key whose pitch comes nearest, that degree above the reference key, in the same way; 11 where the key passes 32 bits too. Each key
 // counts as one degree: no mapping plays a part, so that a key which a mapping leaves out or gives another degree may be found.
-#[unsafe(no_mangle)]
-pub extern "C" fn telbijan_find_key_by_pitch(
+pub fn telbijan_find_key_by_pitch(
     kind: &[u8],
     cents: &[f64],
     numer: &[u32],

@@ -14,18 +14,16 @@ told : (c : After-i32_dr_u) → says_division c.i32_dr_u.result ≡ division_of 
 told c = rw (to_z-of_z c.ranges.numer) at c.i32_dr_u.ensures
 
 pub returns-in-Is : goal.returns-in-Is
-returns-in-Is c =
-    (
-      accepted says_division (told (goal.at.returns-in-Is c).After-i32_dr_u) c.in-Is.is refl,
-      stored_part says_division (told (goal.at.returns-in-Is c).After-i32_dr_u) c.in-Is.is (λ p. p.quotient) c.args.quotient.now refl
-          (to_z-of_z {w = w32} (search rules)),
-      stored_part says_division (told (goal.at.returns-in-Is c).After-i32_dr_u) c.in-Is.is (λ p. p.remainder) c.args.remainder.now refl refl,
-    )
+returns-in-Is c = (
+  accepted says_division (told (goal.at.returns-in-Is c).After-i32_dr_u) c.in-Is.is refl,
+  stored_part says_division (told (goal.at.returns-in-Is c).After-i32_dr_u) c.in-Is.is (λ p. p.quotient) c.args.quotient.now refl
+      (to_z-of_z {w = w32} (search rules)),
+  stored_part says_division (told (goal.at.returns-in-Is c).After-i32_dr_u) c.in-Is.is (λ p. p.remainder) c.args.remainder.now refl refl,
+)
 
 pub returns-in-Refused : goal.returns-in-Refused
-returns-in-Refused c =
-    (
-      refused says_division (told (goal.at.returns-in-Refused c).After-i32_dr_u) c.in-Refused.is _ refl c.code_of.ensures,
-      stays_part says_division (told (goal.at.returns-in-Refused c).After-i32_dr_u) c.in-Refused.is (λ p. p.quotient) _ c.args.quotient.now refl,
-      stays_part says_division (told (goal.at.returns-in-Refused c).After-i32_dr_u) c.in-Refused.is (λ p. p.remainder) _ c.args.remainder.now refl,
-    )
+returns-in-Refused c = (
+  refused says_division (told (goal.at.returns-in-Refused c).After-i32_dr_u) c.in-Refused.is _ refl c.code_of.ensures,
+  stays_part says_division (told (goal.at.returns-in-Refused c).After-i32_dr_u) c.in-Refused.is (λ p. p.quotient) _ c.args.quotient.now refl,
+  stays_part says_division (told (goal.at.returns-in-Refused c).After-i32_dr_u) c.in-Refused.is (λ p. p.remainder) _ c.args.remainder.now refl,
+)

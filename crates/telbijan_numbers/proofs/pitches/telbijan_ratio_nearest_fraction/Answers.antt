@@ -14,22 +14,20 @@ told : (c : After-nearest_fraction) → says_nearest c.nearest_fraction.result �
 told c = c.nearest_fraction.ensures
 
 pub returns-in-Is : goal.returns-in-Is
-returns-in-Is c =
-    (
-      accepted says_nearest (told (goal.at.returns-in-Is c).After-nearest_fraction) c.in-Is.is refl,
-      stored_part says_nearest (told (goal.at.returns-in-Is c).After-nearest_fraction) c.in-Is.is (λ f. f.numer) c.args.numer.now refl refl,
-      stored_part says_nearest (told (goal.at.returns-in-Is c).After-nearest_fraction) c.in-Is.is (λ f. f.denom) c.args.denom.now refl refl,
-      stored_part says_nearest (told (goal.at.returns-in-Is c).After-nearest_fraction) c.in-Is.is (λ f. f.deviation.0) c.args.deviation.now refl refl,
-      stored_part says_nearest (told (goal.at.returns-in-Is c).After-nearest_fraction) c.in-Is.is (λ f. f.num_octaves) c.args.octaves.now refl
-          (to_z-of_z {w = w32} (search rules)),
-    )
+returns-in-Is c = (
+  accepted says_nearest (told (goal.at.returns-in-Is c).After-nearest_fraction) c.in-Is.is refl,
+  stored_part says_nearest (told (goal.at.returns-in-Is c).After-nearest_fraction) c.in-Is.is (λ f. f.numer) c.args.numer.now refl refl,
+  stored_part says_nearest (told (goal.at.returns-in-Is c).After-nearest_fraction) c.in-Is.is (λ f. f.denom) c.args.denom.now refl refl,
+  stored_part says_nearest (told (goal.at.returns-in-Is c).After-nearest_fraction) c.in-Is.is (λ f. f.deviation.0) c.args.deviation.now refl refl,
+  stored_part says_nearest (told (goal.at.returns-in-Is c).After-nearest_fraction) c.in-Is.is (λ f. f.num_octaves) c.args.octaves.now refl
+      (to_z-of_z {w = w32} (search rules)),
+)
 
 pub returns-in-Refused : goal.returns-in-Refused
-returns-in-Refused c =
-    (
-      refused says_nearest (told (goal.at.returns-in-Refused c).After-nearest_fraction) c.in-Refused.is _ refl c.code_of.ensures,
-      stays_part says_nearest (told (goal.at.returns-in-Refused c).After-nearest_fraction) c.in-Refused.is (λ f. f.numer) _ c.args.numer.now refl,
-      stays_part says_nearest (told (goal.at.returns-in-Refused c).After-nearest_fraction) c.in-Refused.is (λ f. f.denom) _ c.args.denom.now refl,
-      stays_part says_nearest (told (goal.at.returns-in-Refused c).After-nearest_fraction) c.in-Refused.is (λ f. f.deviation.0) _ c.args.deviation.now refl,
-      stays_part says_nearest (told (goal.at.returns-in-Refused c).After-nearest_fraction) c.in-Refused.is (λ f. f.num_octaves) _ c.args.octaves.now refl,
-    )
+returns-in-Refused c = (
+  refused says_nearest (told (goal.at.returns-in-Refused c).After-nearest_fraction) c.in-Refused.is _ refl c.code_of.ensures,
+  stays_part says_nearest (told (goal.at.returns-in-Refused c).After-nearest_fraction) c.in-Refused.is (λ f. f.numer) _ c.args.numer.now refl,
+  stays_part says_nearest (told (goal.at.returns-in-Refused c).After-nearest_fraction) c.in-Refused.is (λ f. f.denom) _ c.args.denom.now refl,
+  stays_part says_nearest (told (goal.at.returns-in-Refused c).After-nearest_fraction) c.in-Refused.is (λ f. f.deviation.0) _ c.args.deviation.now refl,
+  stays_part says_nearest (told (goal.at.returns-in-Refused c).After-nearest_fraction) c.in-Refused.is (λ f. f.num_octaves) _ c.args.octaves.now refl,
+)

@@ -1,0 +1,68 @@
+// Scales that are computed, for C: segments of the harmonic series and rank-2 temperaments. They are written into a scale's seven lent columns.
+ghost use Rattle.harmonics.specs.Harmonics.{made_harmonics};
+ghost use Rattle.rank2.specs.Rank2.{made_rank2};
+ghost use Rattle.telbijan_answers.specs.Lent.{columns_before, columns_after, list_before, list_after};
+ghost use Rattle.telbijan_scales.specs.Calls.{CreateScale};
+ghost use Rattle.telbijan_scales.specs.Generators.{segment_with, divisions_with};
+
+// A scale from a segment of the harmonic series, its items and its sorted list written as a builder would, its count of items stored.
+// `otonal`: the harmonics start + 1 to start + size over start; else start + size over start + size - 1 down to start. `divided`: the
+// harmonics nearest to so many equal divisions of the segment. 10 for start 0, 12 where a column has no place for all items and place
+// 0, 18 for 0 divisions and where two or more items have the period 1.0.
+#[unsafe(no_mangle)]
+pub extern "C" fn telbijan_create_harmonics_scale(
+    otonal: bool,
+    start: u16,
+    size: u16,
+    divided: bool,
+    divisions: u16,
+    kind: &mut [u8],
+    cents: &mut [f64],
+    numer: &mut [u32],
+    denom: &mut [u32],
+    place: &mut [u32],
+    ratio: &mut [f64],
+    wraps: &mut [i32],
+    count: &mut u16,
+) -> u64
+    ensures { CreateScale
+        (made_harmonics (columns_before kind cents numer denom) (list_before place ratio wraps)
+        (segment_with otonal) start size (divisions_with divided divisions))
+        (columns_before kind cents numer denom) (list_before place ratio wraps) count.old
+        result (columns_after kind cents numer denom) (list_after place ratio wraps) count.new }
+{
+    telbijan_scales::generators::telbijan_create_harmonics_scale(
+        otonal, start, size, divided, divisions, kind, cents, numer, denom, place, ratio, wraps,
+        count,
+    )
+}
+
+// A scale from a rank-2 temperament: the period, and so many generations of the generator up and down, each within the period, in
+// ascending order; its items, in cents, and its sorted list written as a builder would, its count of items stored. 13 for over 65,535
+// items, 10 for a generator or a period outside 2^-32..2^32 or a period of 1.0, 12 where a column has no place for all items and place
+// 0, 18 where two or more items have the period 1.0.
+#[unsafe(no_mangle)]
+pub extern "C" fn telbijan_create_rank2_temperament_scale(
+    generator: f64,
+    positive: u16,
+    negative: u16,
+    period: f64,
+    kind: &mut [u8],
+    cents: &mut [f64],
+    numer: &mut [u32],
+    denom: &mut [u32],
+    place: &mut [u32],
+    ratio: &mut [f64],
+    wraps: &mut [i32],
+    count: &mut u16,
+) -> u64
+    ensures { CreateScale
+        (made_rank2 (columns_before kind cents numer denom) (list_before place ratio wraps) generator positive negative period)
+        (columns_before kind cents numer denom) (list_before place ratio wraps) count.old
+        result (columns_after kind cents numer denom) (list_after place ratio wraps) count.new }
+{
+    telbijan_scales::generators::telbijan_create_rank2_temperament_scale(
+        generator, positive, negative, period, kind, cents, numer, denom, place, ratio, wraps,
+        count,
+    )
+}

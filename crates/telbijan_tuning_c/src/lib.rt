@@ -1,0 +1,229 @@
+// Pitches for C: of degrees and keys, over a scale's lent columns, and a root or a mapping beside them.
+#![tactic(auto)]
+
+mod middle;
+mod searches;
+
+ghost use Rattle.key.specs.Keys.{key};
+ghost use Rattle.telbijan_answers.specs.Calls.{Stored};
+ghost use Rattle.telbijan_answers.specs.Lent.{columns_before, list_before};
+ghost use Rattle.telbijan_mappings.specs.Mappings.{root_with, mapping_with};
+ghost use Rattle.telbijan_tuning.specs.Calls.{PitchesOf};
+ghost use Rattle.telbijan_tuning.specs.Tunings.{period_said, relative_said, sorted_relative_said, pitch_said, key_pitch_said};
+ghost use Rattle.telbijan_tuning.specs.Tunings.{sorted_pitch_said, maybe_pitch_said, maybe_degree_pitch_said};
+
+// The period of a scale, the ratio of its last item, stored; of a scale without items that of place 0. 10 for items that cannot be used.
+#[unsafe(no_mangle)]
+pub extern "C" fn telbijan_period(
+    kind: &[u8],
+    cents: &[f64],
+    numer: &[u32],
+    denom: &[u32],
+    count: u16,
+    period: &mut f64,
+) -> u64
+    ensures { Stored (period_said count (columns_before kind cents numer denom)) period.old result period.new }
+{
+    telbijan_tuning::telbijan_period(kind, cents, numer, denom, count, period)
+}
+
+// The ratio of a degree to degree 0, stored: 10 for items that cannot be used, 18 where the ratio lies outside 2^-900..2^900.
+#[unsafe(no_mangle)]
+pub extern "C" fn telbijan_relative_pitch_of(
+    kind: &[u8],
+    cents: &[f64],
+    numer: &[u32],
+    denom: &[u32],
+    count: u16,
+    degree: i32,
+    relative: &mut f64,
+) -> u64
+    ensures { Stored (relative_said count (columns_before kind cents numer denom) degree)
+        relative.old result relative.new }
+{
+    telbijan_tuning::telbijan_relative_pitch_of(kind, cents, numer, denom, count, degree, relative)
+}
+
+// The same of a degree in ascending order: 10 for items or a list that cannot be used, 18.
+#[unsafe(no_mangle)]
+pub extern "C" fn telbijan_sorted_relative_pitch_of(
+    kind: &[u8],
+    cents: &[f64],
+    numer: &[u32],
+    denom: &[u32],
+    place: &[u32],
+    ratio: &[f64],
+    wraps: &[i32],
+    count: u16,
+    degree: i32,
+    relative: &mut f64,
+) -> u64
+    ensures { Stored (sorted_relative_said count (columns_before kind cents numer denom) (list_before place ratio wraps) degree)
+        relative.old result relative.new }
+{
+    telbijan_tuning::telbijan_sorted_relative_pitch_of(
+        kind, cents, numer, denom, place, ratio, wraps, count, degree, relative,
+    )
+}
+
+// The pitch of a degree in Hz, stored: 10 for items that cannot be used or a root's pitch outside 2^-10..2^20, 11 for the root offset
+// -2147483648, 18 where a pitch or ratio lies outside 2^-900..2^900.
+#[unsafe(no_mangle)]
+pub extern "C" fn telbijan_pitch_of(
+    kind: &[u8],
+    cents: &[f64],
+    numer: &[u32],
+    denom: &[u32],
+    count: u16,
+    reference: i32,
+    hz: f64,
+    offset: i32,
+    degree: i32,
+    pitch: &mut f64,
+) -> u64
+    ensures { Stored (pitch_said count (columns_before kind cents numer denom) (root_with reference hz offset) degree)
+        pitch.old result pitch.new }
+{
+    telbijan_tuning::telbijan_pitch_of(
+        kind, cents, numer, denom, count, reference, hz, offset, degree, pitch,
+    )
+}
+
+// The pitch of a key, whose degree is its distance from the reference key: 10, 11 where the distance passes 32 bits, 11 for the root
+// offset -2147483648, 18.
+#[unsafe(no_mangle)]
+pub extern "C" fn telbijan_pitch_of_key(
+    kind: &[u8],
+    cents: &[f64],
+    numer: &[u32],
+    denom: &[u32],
+    count: u16,
+    reference: i32,
+    hz: f64,
+    offset: i32,
+    number: i32,
+    pitch: &mut f64,
+) -> u64
+    ensures { Stored (key_pitch_said count (columns_before kind cents numer denom) (root_with reference hz offset) (key number))
+        pitch.old result pitch.new }
+{
+    telbijan_tuning::telbijan_pitch_of_key(
+        kind, cents, numer, denom, count, reference, hz, offset, number, pitch,
+    )
+}
+
+// The pitch of a degree in ascending order: 10 for the list too, 11 for the root offset -2147483648, 18.
+#[unsafe(no_mangle)]
+pub extern "C" fn telbijan_sorted_pitch_of(
+    kind: &[u8],
+    cents: &[f64],
+    numer: &[u32],
+    denom: &[u32],
+    place: &[u32],
+    ratio: &[f64],
+    wraps: &[i32],
+    count: u16,
+    reference: i32,
+    hz: f64,
+    offset: i32,
+    degree: i32,
+    pitch: &mut f64,
+) -> u64
+    ensures { Stored (sorted_pitch_said count (columns_before kind cents numer denom) (list_before place ratio wraps)
+        (root_with reference hz offset) degree) pitch.old result pitch.new }
+{
+    telbijan_tuning::telbijan_sorted_pitch_of(
+        kind, cents, numer, denom, place, ratio, wraps, count, reference, hz, offset, degree, pitch,
+    )
+}
+
+// The pitch of a key of a mapping, stored: 10 for tables or a root's pitch that cannot be used, 16 outside start..end, 11 where the
+// distance from the reference key passes 32 bits, 17 unmapped, 11 where the degree does, 11 for the root offset -2147483648, 18.
+#[unsafe(no_mangle)]
+pub extern "C" fn telbijan_maybe_pitch_of(
+    kind: &[u8],
+    cents: &[f64],
+    numer: &[u32],
+    denom: &[u32],
+    count: u16,
+    map: &[i32],
+    size: u16,
+    start: i32,
+    end: i32,
+    reference: i32,
+    hz: f64,
+    offset: i32,
+    octave: i16,
+    number: i32,
+    pitch: &mut f64,
+) -> u64
+    ensures { Stored (maybe_pitch_said count (columns_before kind cents numer denom)
+        (mapping_with size start end reference hz offset octave) map.now (key number))
+        pitch.old result pitch.new }
+{
+    telbijan_tuning::telbijan_maybe_pitch_of(
+        kind, cents, numer, denom, count, map, size, start, end, reference, hz, offset, octave,
+        number, pitch,
+    )
+}
+
+// The same of the key so many steps above the reference key: 11 where that key passes 32 bits, after 10.
+#[unsafe(no_mangle)]
+pub extern "C" fn telbijan_maybe_pitch_of_degree(
+    kind: &[u8],
+    cents: &[f64],
+    numer: &[u32],
+    denom: &[u32],
+    count: u16,
+    map: &[i32],
+    size: u16,
+    start: i32,
+    end: i32,
+    reference: i32,
+    hz: f64,
+    offset: i32,
+    octave: i16,
+    degree: i32,
+    pitch: &mut f64,
+) -> u64
+    ensures { Stored (maybe_degree_pitch_said count (columns_before kind cents numer denom)
+        (mapping_with size start end reference hz offset octave) map.now degree)
+        pitch.old result pitch.new }
+{
+    telbijan_tuning::telbijan_maybe_pitch_of_degree(
+        kind, cents, numer, denom, count, map, size, start, end, reference, hz, offset, octave,
+        degree, pitch,
+    )
+}
+
+// The pitches of `keys` keys of a mapping, from key `first` on, and beside each its refusal's number, 0 for a pitch: 10 for tables or a
+// root's pitch that cannot be used, 12 where a slice is shorter than the run. Else each key answers as telbijan_maybe_pitch_of does, and
+// 11 where there is no such key; a refused key's pitch stays as it was, and so do the places behind the run. The tables are tested once.
+#[unsafe(no_mangle)]
+pub extern "C" fn telbijan_pitches_of(
+    kind: &[u8],
+    cents: &[f64],
+    numer: &[u32],
+    denom: &[u32],
+    count: u16,
+    map: &[i32],
+    size: u16,
+    start: i32,
+    end: i32,
+    reference: i32,
+    hz: f64,
+    offset: i32,
+    octave: i16,
+    first: i32,
+    keys: u32,
+    pitches: &mut [f64],
+    numbers: &mut [u32],
+) -> u64
+    ensures { PitchesOf count (columns_before kind cents numer denom) (mapping_with size start end reference hz offset octave)
+        map.now first keys pitches.old numbers.old result pitches.new numbers.new }
+{
+    telbijan_tuning::telbijan_pitches_of(
+        kind, cents, numer, denom, count, map, size, start, end, reference, hz, offset, octave,
+        first, keys, pitches, numbers,
+    )
+}
