@@ -1,8 +1,5 @@
--- Columns lent again from a walk, and a list stored from them.
-pub mod Again
-pub mod Columns
+-- A list stored from columns.
 pub mod Stored
-pub mod Storing
 -- Reads and builds into a list.
 pub mod Builds
 pub mod Readings

@@ -65,6 +65,10 @@ sum_of s z (fin false i d) (fin false j e) v w =
   where
     cross : (s z a b d e : ℕ) → a ≡ s * d → b ≡ z * e → (a * e + b * d) * 1 ≡ (s + z) * (d * e)
     cross s z a b d e ea eb = rw (ea, eb) (mul-one (s * d * e + z * e * d) ∙ ap (λ (q : ℕ). s * d * e + q) (mul_right_comm z e d) ∙ rw (mul_assoc s d e, mul_assoc z d e) (sym (add-mul s z (d * e))))
+sum_of s z nan y v w = elim v [ ]
+sum_of s z (inf _) y v w = elim v [ ]
+sum_of s z (fin false i d) nan v w = elim w [ ]
+sum_of s z (fin false i d) (inf _) v w = elim w [ ]
 
 -- so a segment's whole interval is a ratio
 interval_reach : (start size : ℕ) → 0 < start → start < 2 ^ 16 → size < 2 ^ 16 → in_reach (interval_of start size) ≡ true

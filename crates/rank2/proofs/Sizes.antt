@@ -13,7 +13,7 @@ use lib.Ieee.Fits.{down_pos, up_pos}
 use Rattle.base.specs.Said.{pick}
 use Rattle.floats.specs.Floats.{abs, zero_f}
 use Rattle.floats.proofs.Between.{range_sized, sized_range}
-use Rattle.floats.proofs.Order.{Zero, Negative, nfin, negative}
+use Rattle.floats.proofs.Order.{Zero, Negative, nfin, negative, ninf}
 use Rattle.floats.proofs.Sized.{Sized, sized, size_of, times_le, round_sized}
 use Rattle.remainder.specs.Euclid.{rem_euclid}
 use Rattle.scl.specs.Items.{is_usable_cents}
@@ -78,6 +78,7 @@ gap n m i e d h l r =
 moved : {n : ℕ} {r y : Float} → n ≤ 2 ^ 53 → Negative r → Sized n r → Sized n y → Sized n (add binary64 r (abs y))
 unfolding abs
 moved {n} h (nfin m e p) v (sized t i d r) = gap n m i e d h (size_of v) r
+moved {n = n} {y = y} h ninf v _ = elim v [ ]
 
 pub bounded_sized : {n k : ℕ} (x y : Float) → n ≤ 2 ^ 53 → Sized k x → Sized n y → eq y zero_f ≡ false → Sized n (rem_euclid x y)
 unfolding of_bits

@@ -1,17 +1,15 @@
 -- What the functions of this crate say is a value or one of document 01's numbers, and of a read and a build also 25, so a result is 0
 -- exactly where a value is stored (`zero_accepted` of telbijan_answers). Assumes nothing.
-use mathlib.Core.Bool.{Bool, true, false, ◌&&◌}
+use mathlib.Core.Bool.{◌&&◌}
 use mathlib.Core.List.{List, [], ◌∷◌}
-use Prim.Native.Nat.{ℕ, ◌+◌, ◌≤◌}
+use Prim.Native.Nat.{ℕ}
 use native.Mathlib.Omega.{arith}
 use lib.Dec.{leb, ltb, lit≤}
 use lib.IntN.{ℤ, pos, ◌+ℤ◌, ◌-ℤ◌, ◌*ℤ◌}
 use lib.ListN.{length, get_or}
-use lib.Signed.{le_z}
-use lib.Ieee.{Float}
 use Rattle.base.specs.Integers.{floor_div, floor_mod, in_i32, held}
 use Rattle.base.specs.Numbers.{backwards_range}
-use Rattle.base.specs.Said.{Said, gives, Numbered, NumberedOr}
+use Rattle.base.specs.Said.{Numbered, NumberedOr}
 use Rattle.base.proofs.Said.{numbered_pick, numbered_then, or_pick}
 use Rattle.floats.specs.Ranges.{in_pitch}
 use Rattle.key.specs.declared.PianoKey.{PianoKey}

@@ -13,7 +13,6 @@ use Rattle.best.specs.Best.{Best}
 use Rattle.best.specs.declared.BestFraction.{BestFraction}
 use Rattle.best.proofs.Theorems.{none_best}
 use Rattle.telbijan_answers.specs.Details.{Undetailed}
-use Rattle.telbijan_answers.specs.Interface.{result, kept, field_of}
 use Rattle.telbijan_numbers.specs.Calls.{RatioBestFraction}
 
 -- what can be said: a value, 10 or 29, with detail 0

@@ -1,5 +1,4 @@
 -- `telbijan_i32_div_u` meets its contract: what `i32_div_u` answers, stored or coded. Assumes nothing.
-use borrow.Author.Rules.{rules}
 use mir.Facts.{to_z-of_z}
 use Rattle.integer_math.specs.Answers.{says_i32}
 use Rattle.telbijan_answers.specs.Interface.{kept}

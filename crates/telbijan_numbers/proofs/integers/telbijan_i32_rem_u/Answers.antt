@@ -1,5 +1,4 @@
 -- `telbijan_i32_rem_u` meets its contract: what `i32_rem_u` answers, stored or coded. Assumes nothing.
-use borrow.Author.Rules.{rules}
 use mir.Facts.{to_z-of_z}
 use Rattle.math.specs.Answers.{says_u32}
 use Rattle.telbijan_answers.specs.Interface.{kept}

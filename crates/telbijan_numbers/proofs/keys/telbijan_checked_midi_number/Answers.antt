@@ -1,5 +1,4 @@
 -- `telbijan_checked_midi_number` meets its contract: what `checked_midi_number` answers, stored or coded. Assumes nothing.
-use borrow.Author.Rules.{rules}
 use mir.Facts.{to_z-of_z}
 use Rattle.key.specs.Answers.{says_midi}
 use Rattle.telbijan_answers.specs.Interface.{kept}

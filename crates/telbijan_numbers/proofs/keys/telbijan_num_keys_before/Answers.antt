@@ -1,5 +1,4 @@
 -- `telbijan_num_keys_before` meets its contract: what `num_keys_before` answers, stored or coded. Assumes nothing.
-use borrow.Author.Rules.{rules}
 use mir.Facts.{to_z-of_z}
 use Rattle.integer_math.specs.Answers.{says_i32}
 use Rattle.telbijan_answers.specs.Interface.{kept}

@@ -1,5 +1,4 @@
 -- `telbijan_plus_steps` meets its contract: what `plus_steps` answers, stored or coded. Assumes nothing.
-use borrow.Author.Rules.{rules}
 use mir.Facts.{to_z-of_z}
 use Rattle.key.specs.Answers.{says_key}
 use Rattle.telbijan_answers.specs.Interface.{kept, field_of}

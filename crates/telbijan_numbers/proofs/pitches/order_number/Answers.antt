@@ -1,6 +1,5 @@
 -- `order_number` meets its contract, by cases. Assumes nothing.
 use mathlib.Core.Path.{ap, sym}
-use borrow.Author.Rules.{rules}
 use Rattle.telbijan_numbers.specs.Orders.{order_number}
 use Rattle.telbijan_numbers.proofs.pitches.order_number.Goals as goal
 

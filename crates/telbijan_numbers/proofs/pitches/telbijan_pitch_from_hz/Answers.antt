@@ -1,5 +1,4 @@
 -- `telbijan_pitch_from_hz` meets its contract: what `from_hz` answers, stored or coded. Assumes nothing.
-use borrow.Author.Rules.{rules}
 use Rattle.pitch.specs.Answers.{says_pitch}
 use Rattle.telbijan_answers.specs.Interface.{kept}
 use Rattle.telbijan_answers.proofs.Interface.{handed_on}

@@ -1,5 +1,4 @@
 -- `telbijan_pitch_times_ratio` meets its contract: what `times` answers, stored or coded. Assumes nothing.
-use borrow.Author.Rules.{rules}
 use Rattle.pitch.specs.Answers.{says_pitch}
 use Rattle.telbijan_answers.specs.Interface.{kept}
 use Rattle.telbijan_answers.proofs.Interface.{handed_on}

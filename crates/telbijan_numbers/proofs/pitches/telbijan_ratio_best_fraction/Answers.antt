@@ -1,6 +1,5 @@
 -- `telbijan_ratio_best_fraction` meets its contract: what `best_fraction` answers, stored or coded. Assumes nothing.
 use mathlib.Core.Path.{refl}
-use borrow.Author.Rules.{rules}
 use Rattle.best.specs.Answers.{says_best}
 use Rattle.telbijan_answers.proofs.Interface.{accepted, refused, stays_part, stored_part}
 use Rattle.telbijan_numbers.proofs.pitches.telbijan_ratio_best_fraction.Goals as goal

@@ -1,5 +1,4 @@
 -- `telbijan_ratio_divided_into_equal_steps` meets its contract: what `divided_into_equal_steps` answers, stored or coded. Assumes nothing.
-use borrow.Author.Rules.{rules}
 use Rattle.pitch.specs.Answers.{says_ratio}
 use Rattle.telbijan_answers.specs.Interface.{kept}
 use Rattle.telbijan_answers.proofs.Interface.{handed_on}

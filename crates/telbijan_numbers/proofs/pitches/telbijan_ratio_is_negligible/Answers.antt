@@ -1,5 +1,4 @@
 -- `telbijan_ratio_is_negligible` meets its contract: what `is_negligible` answers, stored or coded. Assumes nothing.
-use borrow.Author.Rules.{rules}
 use Rattle.pitch.specs.Answers.{says_bool}
 use Rattle.telbijan_answers.specs.Interface.{kept}
 use Rattle.telbijan_answers.proofs.Interface.{handed_on}

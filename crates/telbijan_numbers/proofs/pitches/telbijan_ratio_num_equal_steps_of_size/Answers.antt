@@ -1,5 +1,4 @@
 -- `telbijan_ratio_num_equal_steps_of_size` meets its contract: what `num_equal_steps_of_size` answers, stored or coded. Assumes nothing.
-use borrow.Author.Rules.{rules}
 use Rattle.floats.specs.Answers.{says_float}
 use Rattle.telbijan_answers.specs.Interface.{kept}
 use Rattle.telbijan_answers.proofs.Interface.{handed_on}

@@ -1,5 +1,4 @@
 -- `telbijan_ratio_repeated` meets its contract: what `repeated` answers, stored or coded. Assumes nothing.
-use borrow.Author.Rules.{rules}
 use Rattle.pitch.specs.Answers.{says_ratio}
 use Rattle.telbijan_answers.specs.Interface.{kept}
 use Rattle.telbijan_answers.proofs.Interface.{handed_on}

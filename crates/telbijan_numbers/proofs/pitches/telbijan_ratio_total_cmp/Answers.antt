@@ -1,6 +1,5 @@
 -- `telbijan_ratio_total_cmp` meets its contract: what `total_cmp` answers, stored as a number or coded. Assumes nothing.
 use mathlib.Core.Path.{◌≡◌, refl, ◌∙◌}
-use borrow.Author.Rules.{rules}
 use mir.Facts.{to_z-of_z}
 use mir.Syntax.{w32}
 use Rattle.pitch.specs.Answers.{says_order}

@@ -1,5 +1,4 @@
 -- `telbijan_exp2` meets its contract: what `exp2` answers, stored or coded. Assumes nothing.
-use borrow.Author.Rules.{rules}
 use Rattle.floats.specs.Answers.{says_float}
 use Rattle.telbijan_answers.specs.Interface.{kept}
 use Rattle.telbijan_answers.proofs.Interface.{handed_on}

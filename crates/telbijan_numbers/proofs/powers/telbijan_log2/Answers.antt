@@ -1,5 +1,4 @@
 -- `telbijan_log2` meets its contract: what `log2` answers, stored or coded. Assumes nothing.
-use borrow.Author.Rules.{rules}
 use Rattle.floats.specs.Answers.{says_float}
 use Rattle.telbijan_answers.specs.Interface.{kept}
 use Rattle.telbijan_answers.proofs.Interface.{handed_on}
