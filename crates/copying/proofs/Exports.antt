@@ -1,14 +1,13 @@
 -- A MAPPING THAT WAS READ CAN BE WRITTEN: its numbers are of their types, its last and middle key are keys, its pitch is usable,
 -- and so the bytes that its count asks for hold its export. Assumes nothing.
 use mathlib.Core.Path.{◌≡◌, ap, subst, ◌∙◌}
-use mathlib.Core.Bool.{true, ◌&&◌}
+use mathlib.Core.Bool.{true}
 use mathlib.Core.List.{List, [], ◌∷◌}
 use Prim.Native.Nat.{ℕ, zero, suc, ◌+◌, ◌-◌, ◌*◌, ◌^◌, ◌≤◌, ◌<◌}
 use native.Mathlib.Omega.{arith}
 use lib.Dec.{lit≤}
-use lib.IntN.{ℤ, pos, negsuc, ◌+ℤ◌, ◌-ℤ◌, +ℤ_comm, +ℤ-neg_ℤ_cancel, -ℤ-+ℤ_cancel}
+use lib.IntN.{ℤ, pos, ◌+ℤ◌, ◌-ℤ◌, +ℤ_comm, +ℤ-neg_ℤ_cancel, -ℤ-+ℤ_cancel}
 use lib.ListN.{length}
-use lib.Signed.{le_z}
 use borrow.Author.Tests.{lt-ltb, le-leb}
 use Rattle.base.specs.Integers.{in_i32}
 use Rattle.base.specs.Said.{gives}

@@ -97,12 +97,12 @@ module _ (count : ℕ) (t : ItemTable) (l : ListTable) (none : count ≡ 0) (u :
         let c = pick_given (in_search x.0) (search_of items es x.0) beyond_reach x.1.1 in
         record {
           root_at = r.0;
-          root_pitch_law = h.0;
+          sounding = h.0;
           ratio = x.0;
-          is_root_law = r.1.0;
+          root_given = r.1.0;
           is_pitch = h.1.0;
           is_ratio = x.1.0;
-          in_search_law = c.0;
+          searched = c.0;
           answer = same_value a (approximation x.0 (pos 0)) (sym f.1.1 ∙ ap (λ (s : Said Found). and_then s degree) (sym c.1) ∙ searched_none x.0);
         }
 
@@ -110,7 +110,7 @@ module _ (count : ℕ) (t : ItemTable) (l : ListTable) (none : count ≡ 0) (u :
     pub pitch_none_answers : (root : KbmRoot) (pitch : Float) (a : Approximation) → is_root root ≡ true → in_pitch pitch ≡ true → FindsNone items root pitch a
         → tested (is_scale count t l && (is_root root && in_pitch pitch)) (and_then (pitch_search_of items es root pitch) degree) ≡ gives a
     unfolding pitch_search_from pitch_search_of
-    pitch_none_answers root pitch a r p f = rw (its, list, r, p, f.is_root, f.is_pitch, f.is_ratio, f.in_search) (searched_none f.ratio ∙ ap gives (sym f.answer))
+    pitch_none_answers root pitch a r p f = rw (its, list, r, p, f.root_given, f.is_pitch, f.is_ratio, f.searched) (searched_none f.ratio ∙ ap gives (sym f.answer))
 
   -- ---- the calls
   pub find_by_relative_pitch_none : (x : Float) → in_search x ≡ true → tested (is_scale count t l && in_search x) (and_then (search_of items es x) (declared_of count)) ≡ gives (approximation x (pos 0))

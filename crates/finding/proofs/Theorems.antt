@@ -88,12 +88,12 @@ module _ (count : ℕ) (t : ItemTable) (l : ListTable) (some : 0 < count) (degre
       let held = quotient_held h.0 pitch x.0 x.1.0 in
       record {
         root_at = r.0;
-        root_pitch_law = h.0;
+        sounding = h.0;
         ratio = x.0;
-        is_root_law = r.1.0;
+        root_given = r.1.0;
         is_pitch = h.1.0;
         is_ratio = x.1.0;
-        in_search_law = c.0;
+        searched = c.0;
         finds = record { found = f.0; searched = search_says count t l (usable u).0 (usable u).1 x.0 some held (search_reach x.0 c.0) f.0 c.1; degree_is = f.1.1 };
       }
 

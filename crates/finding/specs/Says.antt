@@ -23,12 +23,12 @@ pub record Finds (items : List Item) (es : List Entry) (x : Float) (degree : Fou
 -- of a pitch: x is the ratio from the root's pitch up to it
 pub record FindsPitch (items : List Item) (es : List Entry) (root : KbmRoot) (pitch : Float) (degree : Found → Said Approximation) (a : Approximation) : Type 0 where
   pub root_at : ℤ
-  pub root_pitch_law : Float
+  pub sounding : Float
   pub ratio : Float
-  pub is_root_law : root_degree root ≡ gives root_at
-  pub is_pitch : root_pitch items root.pitch.0 root_at ≡ gives root_pitch_law
-  pub is_ratio : between_pitches root_pitch_law pitch ≡ gives ratio
-  pub in_search_law : in_search ratio ≡ true
+  pub root_given : root_degree root ≡ gives root_at
+  pub is_pitch : root_pitch items root.pitch.0 root_at ≡ gives sounding
+  pub is_ratio : between_pitches sounding pitch ≡ gives ratio
+  pub searched : in_search ratio ≡ true
   pub finds : Finds items es ratio degree a
 
 -- of a key: so many steps above the reference key as the found degree says, with its deviation
@@ -41,12 +41,12 @@ pub record FindsKey (count : ℕ) (items : List Item) (es : List Entry) (root : 
 -- of a pitch: the ratio from the root's pitch up to it
 pub record FindsNone (items : List Item) (root : KbmRoot) (pitch : Float) (a : Approximation) : Type 0 where
   pub root_at : ℤ
-  pub root_pitch_law : Float
+  pub sounding : Float
   pub ratio : Float
-  pub is_root_law : root_degree root ≡ gives root_at
-  pub is_pitch : root_pitch items root.pitch.0 root_at ≡ gives root_pitch_law
-  pub is_ratio : between_pitches root_pitch_law pitch ≡ gives ratio
-  pub in_search_law : in_search ratio ≡ true
+  pub root_given : root_degree root ≡ gives root_at
+  pub is_pitch : root_pitch items root.pitch.0 root_at ≡ gives sounding
+  pub is_ratio : between_pitches sounding pitch ≡ gives ratio
+  pub searched : in_search ratio ≡ true
   pub answer : a ≡ approximation ratio (pos 0)
 
 -- ---- which refusals are left, once tables, root and target are usable: a degree or key, 11 or 18

@@ -43,5 +43,5 @@ cast_none (inf true) h = refl
 cast_none (inf false) h = absurd (subst T h tt)
 cast_none (fin true m e) h = refl
 cast_none (fin false m e) h =
-    let z : m * up e ≡ 0 = omega (arith, ltb-false (0 * 1 * down e) (m * up e * 1) h, native.Mathlib.Nat.zero_mul (down e)) in
+    let z : m * up e ≡ 0 = omega (arith, ltb-false (0 * 1 * down e) (m * up e * 1) h, native.Mathlib.Nat.zero-mul (down e)) in
     rw (z, zero-div (down e))

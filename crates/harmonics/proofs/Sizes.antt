@@ -22,11 +22,11 @@ times_of s m j e (fin false i d) v =
     go : (s : Bool) → unlike s false ≡ s
     go true = refl
     go false = refl
-times_of s m j e nan v = elim v [ ]
-times_of s m j e (inf _) v = elim v [ ]
 
     cross : (a b j c d : ℕ) → b ≡ j * d → a * b * c ≡ a * j * (c * d)
     cross a b j c d h = rw h (simp (mul_assoc, mul_comm, native.Mathlib.Nat.mul_left_comm))
+times_of s m j e nan v = elim v [ ]
+times_of s m j e (inf _) v = elim v [ ]
 
 pub times : (s : Bool) (m : ℕ) (e : ℤ) (j : ℕ) → j ≤ 2 ^ 53 → mul binary64 (fin s m e) (float j) ≡ round binary64 s (m * up e * j) (down e)
 unfolding of_int

@@ -1,5 +1,5 @@
 -- No cents and no note is refused. Assumes nothing.
-use mathlib.Core.Path.{◌≡◌, refl, sym, ◌∙◌, ap, subst}
+use mathlib.Core.Path.{◌≡◌, sym, ◌∙◌, subst}
 use mathlib.Core.Bool.{Bool, true, false}
 use Prim.Native.Nat.{ℕ, ◌-◌, ◌*◌, ◌^◌, ◌≤◌, ◌<◌}
 use native.Mathlib.Omega.{arith}
@@ -16,7 +16,7 @@ use Rattle.floats.proofs.Ranges.{generator_says}
 use Rattle.floats.proofs.Sized.{Sized, sized, sized_neg, round_sized}
 use Rattle.explog.specs.Rules.{L, log_of}
 use Rattle.explog.proofs.Reach.{log_sized}
-use Rattle.pitch.specs.Ratios.{twelve_f, hundred_f, as_cents, from_cents}
+use Rattle.pitch.specs.Ratios.{twelve_f, hundred_f, as_cents}
 use Rattle.scl.specs.Items.{is_usable_cents}
 use Rattle.scl.proofs.Items.{cents_ratio}
 use Rattle.rank2.specs.Asked.{SomeCents}

@@ -1,20 +1,15 @@
 -- The highest note: it is the last one in ascending order. Assumes nothing.
 use mathlib.Core.Path.{◌≡◌, refl, sym, ◌∙◌, ap}
-use mathlib.Core.Bool.{Bool, true, false}
 use mathlib.Core.List.{List, [], ◌∷◌, ◌++◌}
 use Prim.Native.Nat.{ℕ, zero, suc, ◌+◌, ◌-◌, ◌≤◌, ◌<◌}
 use native.Mathlib.Omega.{arith}
 use native.Mathlib.Numerals.{add-one}
-use lib.Dec.{T}
 use lib.ListN.{length, take, set}
 use lib.Seq.{take-suc-set, take_all}
-use lib.Ieee.{Float, lt, of_bits}
-use lib.Ieee.Positive.{positive}
+use lib.Ieee.{Float, lt}
 use Rattle.base.specs.Said.{Said, gives, refuses, pick, and_then}
 use Rattle.base.proofs.Said.{same_value, no_value, no_refusal}
 use Rattle.floats.specs.Floats.{zero_f}
-use Rattle.sorting.specs.Order.{insert_by, sort_by}
-use Rattle.sorting.proofs.Order.{float_lel, float_asym, clash}
 use Rattle.rank2.specs.Notes.{ratios_from, highest_of, highest_from}
 
 -- ---- the loop

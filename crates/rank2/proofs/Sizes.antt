@@ -1,14 +1,13 @@
 -- How large products and remainders are. Assumes nothing.
-use mathlib.Core.Path.{◌≡◌, refl, sym, ◌∙◌, ap, subst}
+use mathlib.Core.Path.{◌≡◌, refl, ap, subst}
 use mathlib.Core.Bool.{Bool, true, false, cond, ◌&&◌}
-use Prim.Native.Nat.{ℕ, ◌+◌, ◌-◌, ◌*◌, ◌%◌, ◌^◌, ◌≤◌, ◌<◌}
+use Prim.Native.Nat.{ℕ, ◌-◌, ◌*◌, ◌%◌, ◌^◌, ◌≤◌, ◌<◌}
 use native.Mathlib.Nat.{le_trans, le_of_eq, le_of_lt, mul_comm, mul_assoc, mul_left_comm, mul-pos, mul-le-mul, mul-le-mul_right, mod-lt, zero-mul}
 use native.Mathlib.Omega.{arith}
 use lib.Dec.{T, ltb, lit≤}
 use lib.IntN.{ℤ, pos}
 use borrow.Author.Tests.{ne_eqb}
-use lib.Ieee.{Float, nan, inf, fin, binary64, up, down, round, sum, add, mul, rem, lt, le, eq, neg, unlike, of_bits}
-use lib.Ieee.Bits.{is_true}
+use lib.Ieee.{Float, fin, binary64, up, down, round, sum, add, mul, rem, lt, le, eq, neg, unlike, of_bits}
 use lib.Ieee.Fits.{down_pos, up_pos}
 use Rattle.base.specs.Said.{pick}
 use Rattle.floats.specs.Floats.{abs, zero_f}

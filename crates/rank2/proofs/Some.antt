@@ -1,8 +1,8 @@
 -- A period that is not 1.0 has cents that are not 0: a product with a whole number is zero only where the number is. Assumes nothing.
 use mathlib.Core.Path.{◌≡◌, refl, sym, ◌∙◌, ap, subst}
-use mathlib.Core.Bool.{Bool, true, false}
+use mathlib.Core.Bool.{true, false}
 use Prim.Native.Nat.{ℕ, zero, suc, ◌-◌, ◌*◌, ◌^◌, ◌≤◌, ◌<◌}
-use native.Mathlib.Nat.{le_trans, le_of_eq, mul-one, mul_comm, mul_assoc, mul-pos, mul-le-mul_left, mul-le-mul_right, zero-mul, pos_of_ne-zero, zero-lt-suc}
+use native.Mathlib.Nat.{le_trans, le_of_eq, mul-one, mul-pos, mul-le-mul_left, mul-le-mul_right, zero-mul, pos_of_ne-zero, zero-lt-suc}
 use native.Mathlib.Omega.{arith}
 use lib.Dec.{T, eqb, lit<, lit≤}
 use lib.IntN.{ℤ, pos, negsuc, ◌+ℤ◌, ◌-ℤ◌, ◌*ℤ◌}
@@ -10,7 +10,7 @@ use lib.Ieee.{Float, nan, inf, fin, binary64, fits, up, down, round, size, mul, 
 use lib.Ieee.Fits.{down_pos, up_pos, mul-fits, round-fits}
 use lib.Ieee.Bits.{is_true}
 use lib.Ieee.Order.{round_mono}
-use lib.Ieee.Positive.{positive, above, above_of_le}
+use lib.Ieee.Positive.{above, above_of_le}
 use borrow.Author.Tests.{ne_eqb}
 use Rattle.base.specs.Said.{gives}
 use Rattle.base.proofs.Said.{same_value}
@@ -60,7 +60,7 @@ some_product i d x q f (sized false m e l) h = (above_some (round binary64 false
 some_product i d x q f (sized true m e l) h =
     let p = pos_of_ne-zero (not_zero true m e h) in
     subst (λ (y : Float). eq y Zero ≡ false) (round_neg binary64 false (m * up e * (i * 2 ^ d)) (down e * 1))
-    (above_some (round binary64 false (m * up e * (i * 2 ^ d)) (down e * 1)) (product_above m i d e p q (lib.Ieee.Fits.neg_fits binary64 (fin true m e) (subst T (sym f) tt)))).1
+    (above_some (round binary64 false (m * up e * (i * 2 ^ d)) (down e * 1)) (product_above m i d e p q (lib.Ieee.Fits.neg-fits binary64 (fin true m e) (subst T (sym f) tt)))).1
 
 rounded : (z : ℤ) → fits binary64 (octaves_of z) ≡ true
 unfolding octaves_of

@@ -1,7 +1,6 @@
 -- What the notes ask of a period: usable cents that are not 0. Assumes nothing.
 use Rattle.std.specs.Prelude.{◌≡◌, true, false, Float}
-use Rattle.std.specs.Float.{binary64}
-use Rattle.std.specs.Float.Ieee.{eq, fits}
+use Rattle.std.specs.Float.Ieee.{eq}
 use Rattle.floats.specs.Floats.{zero_f}
 use Rattle.scl.specs.Items.{is_usable_cents}
 

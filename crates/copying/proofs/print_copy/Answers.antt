@@ -4,7 +4,6 @@ use mathlib.Core.Path.{refl}
 use native.Mathlib.Omega.{arith}
 use lib.ListN.{take}
 use Rattle.copying.proofs.Copies.{first_long, first_short, first_most, long_printed, short_printed}
-use borrow.Author.Rules.{rules}
 use Rattle.base.proofs.Clauses.{as_pair}
 use Rattle.base.proofs.Clauses.{value_and_out}
 use Rattle.copying.proofs.print_copy.Goals as goal

@@ -4,7 +4,6 @@ use mathlib.Core.Path.{sym, ap, ◌∙◌}
 use native.Mathlib.Omega.{arith}
 use Rattle.kbm.specs.Answers.{says_kbm}
 use Rattle.copying.proofs.Copies.{detail_fits, refusal_printed, export_given, export_printed}
-use borrow.Author.Rules.{rules}
 use Rattle.base.proofs.Clauses.{as_pair}
 use Rattle.base.proofs.Clauses.{value_and_out}
 use Rattle.copying.proofs.print_text.Goals as goal

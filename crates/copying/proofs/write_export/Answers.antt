@@ -3,7 +3,6 @@
 use mathlib.Core.Path.{sym, ap, ◌∙◌}
 use Rattle.writing.specs.Answers.{says_size}
 use Rattle.copying.proofs.Given.{given_size, given_bytes, given_always}
-use borrow.Author.Rules.{rules}
 use Rattle.base.proofs.Clauses.{value_and_out}
 use Rattle.copying.proofs.write_export.Goals as goal
 

@@ -6,7 +6,6 @@ use Rattle.copying.specs.Copy.{refused_text}
 use Rattle.writing.proofs.Lines.{number_short}
 use Rattle.writing.proofs.Room.{sets_over}
 use Rattle.copying.proofs.Texts.{refused_length, refused_short, refused_written}
-use borrow.Author.Rules.{rules}
 use Rattle.copying.proofs.write_refusal.Goals as goal
 
 pub write_number-detail_at-requires : goal.write_number-detail_at-requires

@@ -4,14 +4,13 @@ use mathlib.Core.Bool.{◌&&◌}
 use mathlib.Core.Path.{◌∙◌, ap, sym}
 use Rattle.base.specs.Said.{Said, and_then}
 use Rattle.floats.specs.Ranges.{in_pitch}
-use Rattle.sorted.specs.Lent.{ListTable, is_list, list_table}
-use Rattle.scl.specs.Table.{ItemTable, is_items, item_table}
+use Rattle.sorted.specs.Lent.{is_list, list_table}
+use Rattle.scl.specs.Table.{is_items, item_table}
 use Rattle.scl.proofs.Table.{both}
 use Rattle.kbm.specs.Root.{is_root}
 use Rattle.relative.specs.Scales.{is_scale}
 use Rattle.searching.specs.declared.Found.{Found}
 use Rattle.searching.specs.Degrees.{declared_of}
-use borrow.Author.Rules.{rules}
 use Rattle.finding.proofs.find_by_pitch.Goals as goal
 
 pub search_rooted-found-requires : goal.search_rooted-found-requires

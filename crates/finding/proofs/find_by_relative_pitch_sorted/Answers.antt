@@ -2,13 +2,12 @@
 -- Assumes nothing.
 use mathlib.Core.Path.{◌∙◌, ap, sym}
 use Rattle.base.specs.Said.{Said, and_then}
-use Rattle.sorted.specs.Lent.{ListTable, is_list, list_table}
-use Rattle.scl.specs.Table.{ItemTable, is_items, item_table}
+use Rattle.sorted.specs.Lent.{is_list, list_table}
+use Rattle.scl.specs.Table.{is_items, item_table}
 use Rattle.scl.proofs.Table.{both}
 use Rattle.searching.specs.declared.Found.{Found}
 use Rattle.searching.proofs.Within.{search_reach}
 use Rattle.searching.specs.Degrees.{ascending_of}
-use borrow.Author.Rules.{rules}
 use Rattle.finding.proofs.find_by_relative_pitch_sorted.Goals as goal
 
 pub search-found-requires : goal.search-found-requires

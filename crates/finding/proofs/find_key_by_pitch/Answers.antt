@@ -4,7 +4,6 @@ use mathlib.Core.Path.{◌∙◌, ap}
 use Rattle.base.specs.Said.{Said, and_then}
 use Rattle.searching.specs.Degrees.{key_of}
 use Rattle.searching.specs.declared.approximation.Approximation.{Approximation}
-use borrow.Author.Rules.{rules}
 use Rattle.finding.proofs.find_key_by_pitch.Goals as goal
 
 pub returns : goal.returns

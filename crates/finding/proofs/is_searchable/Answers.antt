@@ -1,7 +1,6 @@
 -- `is_searchable` meets its contract: all tests.
 -- Assumes nothing.
 use mathlib.Core.Path.{◌∙◌, sym}
-use borrow.Author.Rules.{rules}
 use Rattle.finding.proofs.is_searchable.Goals as goal
 
 pub returns-then-is_scale : goal.returns-then-is_scale

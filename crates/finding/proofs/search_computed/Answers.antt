@@ -2,7 +2,6 @@
 -- Assumes nothing.
 use mathlib.Core.Path.{◌∙◌, sym}
 use Rattle.searching.proofs.Within.{search_reach}
-use borrow.Author.Rules.{rules}
 use Rattle.finding.proofs.search_computed.Goals as goal
 
 pub search-requires : goal.search-requires

@@ -7,11 +7,10 @@ use Rattle.base.specs.Said.{Said, and_then}
 use Rattle.base.proofs.Said.{and_then_law}
 use Rattle.pitch.specs.Answers.{says_pitch, says_ratio}
 use Rattle.pitch.specs.Pitches.{between_pitches}
-use Rattle.sorted.specs.Lent.{ListTable, list_in, list_table}
-use Rattle.scl.specs.Table.{ItemTable, item_table, items_in}
+use Rattle.sorted.specs.Lent.{list_in, list_table}
+use Rattle.scl.specs.Table.{item_table, items_in}
 use Rattle.searching.specs.declared.Found.{Found}
 use Rattle.finding.specs.Find.{computed_search, pitch_search_from}
-use borrow.Author.Rules.{rules}
 use Rattle.finding.proofs.search_pitch.Goals as goal
 use Rattle.finding.proofs.search_pitch.Goals.{Start}
 

@@ -7,8 +7,8 @@ use mir.Syntax.{w32}
 use Rattle.base.specs.Said.{Said}
 use Rattle.base.proofs.Said.{and_then_law}
 use Rattle.integer_math.specs.Answers.{says_i32}
-use Rattle.sorted.specs.Lent.{ListTable, list_in, list_table}
-use Rattle.scl.specs.Table.{ItemTable, item_table, items_in}
+use Rattle.sorted.specs.Lent.{list_in, list_table}
+use Rattle.scl.specs.Table.{item_table, items_in}
 use Rattle.searching.specs.declared.Found.{Found}
 use Rattle.finding.specs.Find.{pitch_search_from, pitch_search_of}
 use borrow.Author.Rules.{rules}

@@ -18,7 +18,7 @@ pub returns-then-segment_start-eq0 : goal.returns-then-segment_start-eq0
 returns-then-segment_start-eq0 c =
     let t = item_table c.args.kind.now c.args.cents.now c.args.numer.now c.args.denom.now in
     let l = list_table c.args.place.now c.args.ratio.now c.args.wraps.now in
-    let x = all_refused t l (none_start t l c.args.segment-type c.args.segment-start c.args.segment-size c.args.neji-divisions c.if-segment_start-eq0.true) in
+    let x = all_refused t l (none_start t l c.args.segment_type c.args.segment_start c.args.segment_size c.args.neji_divisions c.if-segment_start-eq0.true) in
     record {
       value = x.0;
       table_after = x.1;
@@ -29,7 +29,7 @@ pub returns-then-room-n : goal.returns-then-room-n
 returns-then-room-n c =
     let t = item_table c.args.kind.now c.args.cents.now c.args.numer.now c.args.denom.now in
     let l = list_table c.args.place.now c.args.ratio.now c.args.wraps.now in
-    let x = all_refused t l (no_place t l c.args.segment-type c.args.segment-start c.args.segment-size c.args.neji-divisions (omega (arith, c.if-segment_start-eq0.false)) (omega (arith, c.room_of-room.ensures, c.count_of-n.ensures, c.if-room-n.true))) in
+    let x = all_refused t l (no_place t l c.args.segment_type c.args.segment_start c.args.segment_size c.args.neji_divisions (omega (arith, c.if-segment_start-eq0.false)) (omega (arith, c.room_of-room.ensures, c.count_of-n.ensures, c.if-room-n.true))) in
     record {
       value = x.0;
       table_after = x.1;
@@ -43,7 +43,7 @@ pub returns-in-Refused : goal.returns-in-Refused
 returns-in-Refused c =
     let t = item_table c.args.kind.now c.args.cents.now c.args.numer.now c.args.denom.now in
     let l = list_table c.args.place.now c.args.ratio.now c.args.wraps.now in
-    let x = all_refused t l (plan_refused t l c.args.segment-type c.args.segment-start c.args.segment-size c.args.neji-divisions (omega (arith, c.if-segment_start-eq0.false)) (omega (arith, c.well_formed)) (omega (arith, c.well_formed)) (omega (arith, c.count_of-n.ensures, c.count_of-n.type_inv)) (omega (arith, c.room_of-room.ensures, c.count_of-n.ensures, c.if-room-n.false)) (told says_steps c.plan.ensures c.in-Refused.is)) in
+    let x = all_refused t l (plan_refused t l c.args.segment_type c.args.segment_start c.args.segment_size c.args.neji_divisions (omega (arith, c.if-segment_start-eq0.false)) (omega (arith, c.well_formed)) (omega (arith, c.well_formed)) (omega (arith, c.count_of-n.ensures, c.count_of-n.type_inv)) (omega (arith, c.room_of-room.ensures, c.count_of-n.ensures, c.if-room-n.false)) (told says_steps c.plan.ensures c.in-Refused.is)) in
     record {
       value = x.0;
       table_after = x.1;
@@ -54,8 +54,8 @@ pub returns-in-Is : goal.returns-in-Is
 returns-in-Is c =
     let t = item_table c.args.kind.now c.args.cents.now c.args.numer.now c.args.denom.now in
     let l = list_table c.args.place.now c.args.ratio.now c.args.wraps.now in
-    let f = item_at c.args.segment-type c.args.segment-start c.args.segment-size c.in-Is.steps in
-    let x = plan_given t l c.args.segment-type c.args.segment-start c.args.segment-size c.args.neji-divisions (omega (arith, c.if-segment_start-eq0.false)) (omega (arith, c.well_formed)) (omega (arith, c.well_formed)) (omega (arith, c.count_of-n.ensures, c.count_of-n.type_inv)) (omega (arith, c.room_of-room.ensures, c.count_of-n.ensures, c.if-room-n.false)) (told says_steps c.plan.ensures c.in-Is.is)
+    let f = item_at c.args.segment_type c.args.segment_start c.args.segment_size c.in-Is.steps in
+    let x = plan_given t l c.args.segment_type c.args.segment_start c.args.segment_size c.args.neji_divisions (omega (arith, c.if-segment_start-eq0.false)) (omega (arith, c.well_formed)) (omega (arith, c.well_formed)) (omega (arith, c.count_of-n.ensures, c.count_of-n.type_inv)) (omega (arith, c.room_of-room.ensures, c.count_of-n.ensures, c.if-room-n.false)) (told says_steps c.plan.ensures c.in-Is.is)
     (c.write.ensures.value ∙ ap (λ (k : ℕ). counted (all_pushed t l (said_from f 1 k)).builder (list_of t l (said_from f 1 k))) c.count_of-n.ensures)
     (c.write.ensures.table_after ∙ ap (λ (k : ℕ). (all_pushed t l (said_from f 1 k)).table) c.count_of-n.ensures)
     (c.write.ensures.list_after ∙ ap (λ (k : ℕ). after_list (list_of t l (said_from f 1 k)) l) c.count_of-n.ensures) in

@@ -8,16 +8,16 @@ use Rattle.harmonics.proofs.Plans.{look_none, look_refused, look_given, last_usa
 use Rattle.harmonics.proofs.look.Goals as goal
 
 pub returns-then-n-eq0 : goal.returns-then-n-eq0
-returns-then-n-eq0 c = look_none c.args.segment-type c.args.start c.args.size c.requires.0 (omega (arith, c.well_formed)) (omega (arith, c.well_formed)) c.args.n (omega (arith, c.well_formed)) c.args.steps c.requires.1 c.if-n-eq0.true
+returns-then-n-eq0 c = look_none c.args.segment_type c.args.start c.args.size c.requires.0 (omega (arith, c.well_formed)) (omega (arith, c.well_formed)) c.args.n (omega (arith, c.well_formed)) c.args.steps c.requires.1 c.if-n-eq0.true
 
 pub is_beyond-requires : goal.is_beyond-requires
-is_beyond-requires c = last_usable c.args.segment-type c.args.start c.args.size c.requires.0 (omega (arith, c.well_formed)) (omega (arith, c.well_formed)) c.args.n (omega (arith, c.well_formed)) c.args.steps c.requires.1 (told says_fraction c.fraction_at.ensures c.in-Is.is)
+is_beyond-requires c = last_usable c.args.segment_type c.args.start c.args.size c.requires.0 (omega (arith, c.well_formed)) (omega (arith, c.well_formed)) c.args.n (omega (arith, c.well_formed)) c.args.steps c.requires.1 (told says_fraction c.fraction_at.ensures c.in-Is.is)
 
 pub returns-then-is_beyond : goal.returns-then-is_beyond
-returns-then-is_beyond c = sym (look_given c.args.segment-type c.args.start c.args.size c.requires.0 (omega (arith, c.well_formed)) (omega (arith, c.well_formed)) c.args.n (omega (arith, c.well_formed)) c.args.steps c.requires.1 (omega (arith, c.if-n-eq0.false)) (told says_fraction c.fraction_at.ensures c.in-Is.is) (sym c.if-is_beyond.true ∙ c.is_beyond.ensures))
+returns-then-is_beyond c = sym (look_given c.args.segment_type c.args.start c.args.size c.requires.0 (omega (arith, c.well_formed)) (omega (arith, c.well_formed)) c.args.n (omega (arith, c.well_formed)) c.args.steps c.requires.1 (omega (arith, c.if-n-eq0.false)) (told says_fraction c.fraction_at.ensures c.in-Is.is) (sym c.if-is_beyond.true ∙ c.is_beyond.ensures))
 
 pub returns-in-Refused : goal.returns-in-Refused
-returns-in-Refused c = look_refused c.args.segment-type c.args.start c.args.size c.requires.0 (omega (arith, c.well_formed)) (omega (arith, c.well_formed)) c.args.n (omega (arith, c.well_formed)) c.args.steps c.requires.1 (omega (arith, c.if-n-eq0.false)) (told says_fraction c.fraction_at.ensures c.in-Refused.is)
+returns-in-Refused c = look_refused c.args.segment_type c.args.start c.args.size c.requires.0 (omega (arith, c.well_formed)) (omega (arith, c.well_formed)) c.args.n (omega (arith, c.well_formed)) c.args.steps c.requires.1 (omega (arith, c.if-n-eq0.false)) (told says_fraction c.fraction_at.ensures c.in-Refused.is)
 
 pub returns-else-is_beyond : goal.returns-else-is_beyond
-returns-else-is_beyond c = sym (look_given c.args.segment-type c.args.start c.args.size c.requires.0 (omega (arith, c.well_formed)) (omega (arith, c.well_formed)) c.args.n (omega (arith, c.well_formed)) c.args.steps c.requires.1 (omega (arith, c.if-n-eq0.false)) (told says_fraction c.fraction_at.ensures c.in-Is.is) (sym c.if-is_beyond.false ∙ c.is_beyond.ensures))
+returns-else-is_beyond c = sym (look_given c.args.segment_type c.args.start c.args.size c.requires.0 (omega (arith, c.well_formed)) (omega (arith, c.well_formed)) c.args.n (omega (arith, c.well_formed)) c.args.steps c.requires.1 (omega (arith, c.if-n-eq0.false)) (told says_fraction c.fraction_at.ensures c.in-Is.is) (sym c.if-is_beyond.false ∙ c.is_beyond.ensures))

@@ -14,9 +14,9 @@ pub look-requires : goal.look-requires
 look-requires c = (c.requires, subst (λ (n : ℕ). StepsReach c.args.size n c.in-Is.steps) (sym c.count_of.ensures) (steps_reach c.args.start c.args.size c.args.divisions _ (sym (told says_steps c.steps_of.ensures c.in-Is.is))))
 
 pub returns-in-Refused : goal.returns-in-Refused
-returns-in-Refused c = and_then_law says_steps (looked c.args.segment-type c.args.start c.args.size (segment_count c.args.size c.args.divisions)) c.steps_of.ensures c.in-Refused.is
+returns-in-Refused c = and_then_law says_steps (looked c.args.segment_type c.args.start c.args.size (segment_count c.args.size c.args.divisions)) c.steps_of.ensures c.in-Refused.is
 
 pub returns-in-Is : goal.returns-in-Is
 returns-in-Is c =
-    c.look.ensures ∙ ap (λ (n : ℕ). looked c.args.segment-type c.args.start c.args.size n c.in-Is.steps) c.count_of.ensures
-    ∙ and_then_law says_steps (looked c.args.segment-type c.args.start c.args.size (segment_count c.args.size c.args.divisions)) c.steps_of.ensures c.in-Is.is
+    c.look.ensures ∙ ap (λ (n : ℕ). looked c.args.segment_type c.args.start c.args.size n c.in-Is.steps) c.count_of.ensures
+    ∙ and_then_law says_steps (looked c.args.segment_type c.args.start c.args.size (segment_count c.args.size c.args.divisions)) c.steps_of.ensures c.in-Is.is

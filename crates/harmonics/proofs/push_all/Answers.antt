@@ -14,7 +14,7 @@ loop-i-init c = (omega arith, kept_all _, none_pushed _ _ _)
 
 pub loop-i-preserved : goal.loop-i-preserved
 loop-i-preserved c =
-    let f = item_at c.args.segment-type c.args.start c.args.size c.args.steps in
+    let f = item_at c.args.segment_type c.args.start c.args.size c.args.steps in
     (omega (arith, c.loop-i-test.true), kept_on (said_kept (beside c.loop-i.builder (item_table c.loop-i.kind c.loop-i.cents c.loop-i.numer c.loop-i.denom)) (f (c.loop-i.i + 1)) c.push_at-builder.ensures) c.loop-i.invariant.1, one_pushed f c.args.n c.loop-i.i (beside c.loop-i.builder (item_table c.loop-i.kind c.loop-i.cents c.loop-i.numer c.loop-i.denom)) c.loop-i-test.true c.push_at-builder.ensures ∙ c.loop-i.invariant.2)
 
 pub shape_of-kind : goal.shape_of-kind
@@ -30,4 +30,4 @@ pub shape_of-denom : goal.shape_of-denom
 shape_of-denom c = c.loop-i.invariant.1.denoms
 
 pub returns : goal.returns
-returns c = sym (all_pushed (item_at c.args.segment-type c.args.start c.args.size c.args.steps) c.args.n c.loop-i.i c.loop-i.invariant.0 c.loop-i-test.false) ∙ c.loop-i.invariant.2
+returns c = sym (all_pushed (item_at c.args.segment_type c.args.start c.args.size c.args.steps) c.args.n c.loop-i.i c.loop-i.invariant.0 c.loop-i-test.false) ∙ c.loop-i.invariant.2

@@ -54,7 +54,7 @@ over m e n (fin false i d) v p =
 
     some : (i : ℕ) → i * up d ≡ n * down d → i ≡ 0 → ⊥
     some i y z =
-        let q : i * up d ≡ 0 = ap (λ (j : ℕ). j * up d) z ∙ native.Mathlib.Nat.zero_mul (up d) in
+        let q : i * up d ≡ 0 = ap (λ (j : ℕ). j * up d) z ∙ native.Mathlib.Nat.zero-mul (up d) in
         let r : 0 < n * down d = mul-pos p (down_pos d) in
         omega (arith, q, r, y)
 

@@ -15,11 +15,11 @@ pub degrees : DegreeSamples
 unfolding sorted_of search_of chosen_of nearest_of held le lt eq neg add sub mul div rem round size of_bits of_fields odd climb span of_int to_signed trunc abs t_of p_of b_of y_of root root_from E L floor_of times_power power_of log_of log_at octaves_of
 degrees = record {
   downward_sorted = refl;
-  downward_found_law = refl;
+  downward_finds = refl;
   downward_declared = refl;
   downward_ascending = refl;
   thirds_sorted = refl;
-  thirds_found_law = refl;
+  thirds_finds = refl;
   thirds_declared = refl;
   thirds_ascending = refl;
   below_tolerance = refl;

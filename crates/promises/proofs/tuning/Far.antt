@@ -147,7 +147,7 @@ module _ (items : List Item) (root : KbmRoot) (d : ℤ) (reach : in_reach root.p
       }
 
   not_given : Steps → FarPitch items root d → ⊥
-  not_given s (FarPitch.root_degree z e f) = let same = same_value z at (sym e ∙ turned) in no_value (sym (far_refused items at p (i at) (subst (FarDegree items) same f)) ∙ s.root_is)
+  not_given s (FarPitch.of_root_degree z e f) = let same = same_value z at (sym e ∙ turned) in no_value (sym (far_refused items at p (i at) (subst (FarDegree items) same f)) ∙ s.root_is)
   not_given s (FarPitch.quotient z r e f h) =
       let same = same_value z at (sym e ∙ turned) in
       let by = same_value r s.below (sym (subst (λ (y : ℤ). relative_pitch_of items y ≡ gives r) same f) ∙ s.root_is) in
@@ -179,7 +179,7 @@ module _ (items : List Item) (root : KbmRoot) (d : ℤ) (reach : in_reach root.p
 
       go : ReachedOrBeyond (relative_pitch_of items at) → FarPitch items root d
       go (ReachedOrBeyond.reached r rr f) = by r f rr (in_reach (div binary64 hz r)) refl
-      go (ReachedOrBeyond.beyond f) = FarPitch.root_degree at turned (refused_far items at p (i at) f)
+      go (ReachedOrBeyond.beyond f) = FarPitch.of_root_degree at turned (refused_far items at p (i at) f)
 
   -- 18 exactly for these causes, where 18 is the one refusal left
   pub pitch_far : ReachedOrBeyond (pitch_of items root d) → (pitch_of items root d ≡ refuses beyond_reach 0) ↔ FarPitch items root d

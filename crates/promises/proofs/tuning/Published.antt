@@ -166,8 +166,8 @@ module _ (items : List Item) (kbm : Kbm) (map : List ℤ) (o : is_root kbm.root 
   by_key : {A : Type 0} (s : Said ℤ) → (scale_degree_from_middle kbm map k ≡ s) ↔ A → Has (at_middle kbm) es k s ↔ A
   by_key s e = Iff.trans (Iff.symm (middle_has kbm map k t s)) e
 
-  by_reference_law : {A : Type 0} (s : Said ℤ) → (reference_degree kbm es ≡ s) ↔ A → ReferenceHas kbm es s ↔ A
-  by_reference_law s e = Iff.trans (Iff.symm (reference_has kbm es s)) e
+  counted_by_reference : {A : Type 0} (s : Said ℤ) → (reference_degree kbm es ≡ s) ↔ A → ReferenceHas kbm es s ↔ A
+  counted_by_reference s e = Iff.trans (Iff.symm (reference_has kbm es s)) e
 
   key_sounds : (d : ℤ) → Has (at_middle kbm) es k (gives d) ↔ SoundsWithin m k.0 d
   key_sounds d = by_key (gives d) (asked.degree d)
@@ -182,13 +182,13 @@ module _ (items : List Item) (kbm : Kbm) (map : List ℤ) (o : is_root kbm.root 
   key_silent = by_key (refuses unmapped_key 0) asked.silent
 
   root_sounds : (r : ℤ) → ReferenceHas kbm es (gives r) ↔ ReferenceSounds m r
-  root_sounds r = by_reference_law (gives r) ((reference_answers kbm a same).degree r)
+  root_sounds r = counted_by_reference (gives r) ((reference_answers kbm a same).degree r)
 
   root_silent : ReferenceHas kbm es (refuses reference_unmapped 0) ↔ ReferenceSilent m
-  root_silent = by_reference_law (refuses reference_unmapped 0) (reference_answers kbm a same).silent
+  root_silent = counted_by_reference (refuses reference_unmapped 0) (reference_answers kbm a same).silent
 
   root_past : ReferenceHas kbm es (refuses overflow 0) ↔ ReferencePast m
-  root_past = by_reference_law (refuses overflow 0) (reference_answers kbm a same).past
+  root_past = counted_by_reference (refuses overflow 0) (reference_answers kbm a same).past
 
   -- what the call says is as published, and back
   there : {s : Said Float} → Here s → There s

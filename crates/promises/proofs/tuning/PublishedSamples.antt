@@ -30,10 +30,10 @@ unfolding pitch_from root_pitch relative_pitch_of periods_of place_of degree_at 
     climb odd of_bits of_fields of_int t_of p_of b_of y_of root root_from E L floor_of times_power power_of log_of log_at octaves_of
 exact = refl
 
-by_reference_law : maybe_pitch_of three exact_kbm exact_table (key (pos 69)) ≡ gives by_reference
+counted_by_reference : maybe_pitch_of three exact_kbm exact_table (key (pos 69)) ≡ gives by_reference
 unfolding pitch_of pitch_from root_pitch relative_pitch_of periods_of place_of degree_at are_entries entries_of held le lt eq neg mul div round size
     span climb odd of_bits of_fields of_int t_of p_of b_of y_of root root_from E L floor_of times_power power_of log_of log_at octaves_of
-by_reference_law = refl
+counted_by_reference = refl
 
 rounded : maybe_pitch_from_middle seven rounded_kbm rounded_table (key (pos 61)) ≡ gives just_below
 unfolding pitch_from root_pitch relative_pitch_of periods_of place_of degree_at are_entries entries_of held le lt eq neg mul div round size span
@@ -46,7 +46,7 @@ reference_samples pitch =
     record {
       exact_degree = record { near = refl; held = refl; sounds = two_octaves };
       exact = exact;
-      by_reference_law = by_reference_law;
+      counted_by_reference = counted_by_reference;
       rounded_degree = record { near = refl; held = refl; sounds = one_entry };
       rounded = rounded;
       silent_degree = record { near = refl; silent = none };

@@ -71,12 +71,12 @@ near_cents n = and_then (from_cents (round binary64 false n 10000)) (nearest_of 
 pub record DegreeSamples : Type 0 where
   -- "override of the period's entry" for a period below 1; 0.9 has the declared degree 1 and the ascending one 3
   pub downward_sorted : sorted_of downward ≡ gives downward_list
-  pub downward_found_law : search_of downward downward_list (round binary64 false 9 10) ≡ gives downward_found
+  pub downward_finds : search_of downward downward_list (round binary64 false 9 10) ≡ gives downward_found
   pub downward_declared : declared_of 2 downward_found ≡ gives (approximation downward_far (pos 1))
   pub downward_ascending : ascending_of 2 downward_found ≡ gives (approximation downward_far (pos 3))
   -- the lowest ratio stays and not the first declared, so that 5/3 has the declared degree -10; the ascending one is 2
   pub thirds_sorted : sorted_of thirds ≡ gives thirds_list
-  pub thirds_found_law : search_of thirds thirds_list (round binary64 false 5 3) ≡ gives thirds_found
+  pub thirds_finds : search_of thirds thirds_list (round binary64 false 5 3) ≡ gives thirds_found
   pub thirds_declared : declared_of 3 thirds_found ≡ gives (approximation thirds_far (neg_ℤ (pos 10)))
   pub thirds_ascending : ascending_of 3 thirds_found ≡ gives (approximation thirds_far (pos 2))
   -- 50.0008 cents are near degree 0, 50.0009 cents near degree 1; the deviations are 1.0293027122822307 and 0.9715324462147065

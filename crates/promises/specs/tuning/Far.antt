@@ -29,7 +29,7 @@ pub data FarDegree (items : List Item) (d : ℤ) : Type 0 where
 -- a pitch: the relative pitch of the root's degree or of the degree asked for; or the reference pitch over the first, or what that is
 -- times the second, leaves 2^-900..2^900
 pub data FarPitch (items : List Item) (root : KbmRoot) (d : ℤ) : Type 0 where
-  root_degree_law : (at : ℤ) → root_degree root ≡ gives at → FarDegree items at → FarPitch items root d
+  of_root_degree : (at : ℤ) → root_degree root ≡ gives at → FarDegree items at → FarPitch items root d
   quotient : (at : ℤ) (r : Float) → root_degree root ≡ gives at → relative_pitch_of items at ≡ gives r → in_reach (div binary64 root.pitch.0 r) ≡ false → FarPitch items root d
   degree : FarDegree items d → FarPitch items root d
   product : (at : ℤ) (hz r : Float) → root_degree root ≡ gives at → root_pitch items root.pitch.0 at ≡ gives hz → relative_pitch_of items d ≡ gives r

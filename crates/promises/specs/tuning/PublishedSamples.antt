@@ -54,7 +54,7 @@ pub record ReferenceSamples (pitch : Pitch) : Type 0 where
   pub exact_degree : ReferenceSounds (P.published_of exact_kbm (table_of 3 exact_table)) (pos 7)
   pub exact : maybe_pitch_from_middle three exact_kbm exact_table (key (pos 69)) ≡ gives concert
   -- by 01 it has degree 0, and the degree 7 sounds 440 Hz
-  pub by_reference_law : maybe_pitch_of three exact_kbm exact_table (key (pos 69)) ≡ gives by_reference
+  pub counted_by_reference : maybe_pitch_of three exact_kbm exact_table (key (pos 69)) ≡ gives by_reference
   -- key 61 is an entry above the middle key: degree 1, and 440 / 1.4 * 1.4 is not 440
   pub rounded_degree : ReferenceSounds (P.published_of rounded_kbm (table_of 2 rounded_table)) (pos 1)
   pub rounded : maybe_pitch_from_middle seven rounded_kbm rounded_table (key (pos 61)) ≡ gives just_below

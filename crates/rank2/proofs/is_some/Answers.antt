@@ -4,7 +4,6 @@ use mathlib.Core.Path.{refl}
 use Rattle.floats.specs.Answers.{says_float}
 use Rattle.scl_tables.proofs.Answered.{told}
 use Rattle.rank2.proofs.Calls.{some_octaves, no_octaves}
-use borrow.Author.Rules.{rules}
 use Rattle.rank2.proofs.is_some.Goals as goal
 
 pub returns-in-Is : goal.returns-in-Is

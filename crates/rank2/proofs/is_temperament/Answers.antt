@@ -1,7 +1,6 @@
 -- `is_temperament` meets its contract: the three tests one after the other.
 -- Assumes nothing.
 use Rattle.rank2.proofs.Calls.{no_generator, no_period, a_period}
-use borrow.Author.Rules.{rules}
 use Rattle.rank2.proofs.is_temperament.Goals as goal
 
 pub returns-then-is_in_generator-2 : goal.returns-then-is_in_generator-2

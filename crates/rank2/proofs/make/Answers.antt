@@ -7,7 +7,6 @@ use Rattle.scl.specs.Table.{item_table}
 use Rattle.sorted.specs.Lent.{list_table}
 use Rattle.scl_tables.proofs.Room.{room_within}
 use Rattle.generate.proofs.Made.{all_refused}
-use borrow.Author.Rules.{rules}
 use Rattle.rank2.specs.Notes.{pitch_at}
 use Rattle.rank2.proofs.Values.{values_of}
 use Rattle.rank2.proofs.Calls.{make_beyond, make_all}
@@ -17,8 +16,8 @@ pub returns-then-is_beyond : goal.returns-then-is_beyond
 returns-then-is_beyond c =
     let t = item_table c.args.kind.now c.args.cents.now c.args.numer.now c.args.denom.now in
     let l = list_table c.args.place.now c.args.ratio.now c.args.wraps.now in
-    let v = values_of c.args.period c.args.generator-cents c.args.period_cents (record { within = c.requires.2; held = c.well_formed.0.1 }) c.requires.3 c.requires.4 c.args.positive c.args.n (omega (arith, c.well_formed)) in
-    let x = all_refused t l (make_beyond (pitch_at c.args.period c.args.generator-cents c.args.period_cents c.args.positive) c.args.n v c.requires.0 t l (omega (arith, c.well_formed)) c.requires.1 (ap gives (sym c.if-is_beyond.true) ∙ c.is_beyond.ensures)) in
+    let v = values_of c.args.period c.args.generator_cents c.args.period_cents (record { within = c.requires.2; held = c.well_formed.0.1 }) c.requires.3 c.requires.4 c.args.positive c.args.n (omega (arith, c.well_formed)) in
+    let x = all_refused t l (make_beyond (pitch_at c.args.period c.args.generator_cents c.args.period_cents c.args.positive) c.args.n v c.requires.0 t l (omega (arith, c.well_formed)) c.requires.1 (ap gives (sym c.if-is_beyond.true) ∙ c.is_beyond.ensures)) in
     record {
       value = x.0;
       table_after = x.1;
@@ -52,8 +51,8 @@ pub returns : goal.returns
 returns c =
     let t = item_table c.args.kind.now c.args.cents.now c.args.numer.now c.args.denom.now in
     let l = list_table c.args.place.now c.args.ratio.now c.args.wraps.now in
-    let v = values_of c.args.period c.args.generator-cents c.args.period_cents (record { within = c.requires.2; held = c.well_formed.0.1 }) c.requires.3 c.requires.4 c.args.positive c.args.n (omega (arith, c.well_formed)) in
-    let x = make_all (pitch_at c.args.period c.args.generator-cents c.args.period_cents c.args.positive) c.args.n v c.requires.0 t l (omega (arith, c.well_formed)) c.requires.1 (ap gives (sym c.if-is_beyond.false) ∙ c.is_beyond.ensures) c.place_notes.ensures.1 c.place_notes.ensures.0 c.run.ensures.value c.run.ensures.table_after c.run.ensures.list_after in
+    let v = values_of c.args.period c.args.generator_cents c.args.period_cents (record { within = c.requires.2; held = c.well_formed.0.1 }) c.requires.3 c.requires.4 c.args.positive c.args.n (omega (arith, c.well_formed)) in
+    let x = make_all (pitch_at c.args.period c.args.generator_cents c.args.period_cents c.args.positive) c.args.n v c.requires.0 t l (omega (arith, c.well_formed)) c.requires.1 (ap gives (sym c.if-is_beyond.false) ∙ c.is_beyond.ensures) c.place_notes.ensures.1 c.place_notes.ensures.0 c.run.ensures.value c.run.ensures.table_after c.run.ensures.list_after in
     record {
       value = x.0;
       table_after = x.1;

@@ -31,6 +31,6 @@ returns c =
     let lr : length c.sort_notes.new.ratio ≡ length (take c.args.n c.args.ratio.now) = search rules in
     let lw : length c.sort_notes.new.wraps ≡ length (take c.args.n c.args.wraps.now) = search rules in
     let r = length-take-le c.args.n c.args.ratio.now c.requires.2 in (
-      taken_part c.args.n c.sort_notes.new.ratio _ (lr ∙ r) (c.sort_notes.ensures ∙ ap (ascending_ratios (pitch_at c.args.period c.args.generator-cents c.args.period_cents c.args.positive)) r),
+      taken_part c.args.n c.sort_notes.new.ratio _ (lr ∙ r) (c.sort_notes.ensures ∙ ap (ascending_ratios (pitch_at c.args.period c.args.generator_cents c.args.period_cents c.args.positive)) r),
       behind_parts c.args.n (list_table c.args.place.now c.args.ratio.now c.args.wraps.now) c.sort_notes.new.place c.sort_notes.new.ratio c.sort_notes.new.wraps lp lr lw (lp ∙ length-take-le c.args.n c.args.place.now c.requires.1) (lr ∙ r) (lw ∙ length-take-le c.args.n c.args.wraps.now c.requires.3),
     )

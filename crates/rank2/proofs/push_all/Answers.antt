@@ -1,16 +1,11 @@
 -- `push_all` meets its contract. The invariant: the pushes that are left make of the state what all pushes make of the first one.
 -- Assumes nothing.
-use mathlib.Core.Path.{◌≡◌, refl, sym, ◌∙◌}
-use borrow.Author.Rules.{rules}
-use Prim.Native.Nat.{◌≤◌, ◌-◌}
+use mathlib.Core.Path.{refl, sym, ◌∙◌}
 use native.Mathlib.Omega.{arith}
-use lib.ListN.{length, take, drop}
 use Rattle.scl.specs.Table.{item_table}
 use Rattle.scl_build.specs.Builder.{beside}
-use Rattle.generate.proofs.Kept.{Kept, kept_all, kept_on}
-use Rattle.rank2.specs.Steps.{after_ratios}
+use Rattle.generate.proofs.Kept.{kept_all, kept_on}
 use Rattle.rank2.proofs.Pushes.{ratio_kept, one_pushed, all_pushed}
-use borrow.Author.Rules.{rules}
 use Rattle.rank2.proofs.push_all.Goals as goal
 
 pub loop-i-init : goal.loop-i-init

@@ -4,7 +4,6 @@ use Rattle.scl.specs.Table.{item_table}
 use Rattle.scl_build.specs.Answers.{says_builder}
 use Rattle.scl_tables.proofs.Answered.{told}
 use Rattle.rank2.proofs.Pushes.{push_given, push_kept}
-use borrow.Author.Rules.{rules}
 use Rattle.rank2.proofs.pushed.Goals as goal
 
 pub returns-in-Is : goal.returns-in-Is

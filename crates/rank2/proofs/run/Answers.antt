@@ -4,7 +4,6 @@ use Rattle.scl.specs.Table.{item_table}
 use Rattle.sorted.specs.Lent.{list_table}
 use Rattle.rank2.proofs.Calls.{ran_left}
 use mathlib.Core.Path.{◌∙◌}
-use borrow.Author.Rules.{rules}
 use Rattle.rank2.proofs.run.Goals as goal
 
 pub shape_of-kind : goal.shape_of-kind

@@ -14,7 +14,9 @@ cut c = c.truncating_f64_to_u64.ensures ∙ cast_under (is_positive c.args.x c.i
 
 pub truncating_f64_to_u64-requires : goal.truncating_f64_to_u64-requires
 unfolding of_bits
-truncating_f64_to_u64-requires c = cast_asks (is_positive c.args.x c.if-x.true) c.if-x-2.true
+truncating_f64_to_u64-requires c =
+    let within = cast_asks (is_positive c.args.x c.if-x.true) c.if-x-2.true in
+    record { lower_bound = within.0; upper_bound = within.1 }
 
 pub overflow_cast-result : goal.overflow_cast-result
 overflow_cast-result c = omega (arith, cut c, to_unsigned-lt 32 c.args.x)

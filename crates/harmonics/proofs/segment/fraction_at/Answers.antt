@@ -8,15 +8,15 @@ use Rattle.harmonics.specs.Segment.{near_at, fraction_at}
 use Rattle.harmonics.proofs.segment.fraction_at.Goals as goal
 
 pub returns-in-Whole : goal.returns-in-Whole
-returns-in-Whole c = ap gives c.whole_at.ensures ∙ ap (λ s. fraction_at c.args.segment-type c.args.start c.args.size s c.args.j) (sym c.in-Whole.is)
+returns-in-Whole c = ap gives c.whole_at.ensures ∙ ap (λ s. fraction_at c.args.segment_type c.args.start c.args.size s c.args.j) (sym c.in-Whole.is)
 
 pub returns-in-Is : goal.returns-in-Is
 returns-in-Is c =
     ap gives c.near_at.ensures
-    ∙ and_then_law says_ratio (λ ratio. gives (near_at c.args.segment-type c.args.start c.args.size ratio)) c.repeated.ensures c.in-Is.is
-    ∙ ap (λ s. fraction_at c.args.segment-type c.args.start c.args.size s c.args.j) (sym c.in-Equal.is)
+    ∙ and_then_law says_ratio (λ ratio. gives (near_at c.args.segment_type c.args.start c.args.size ratio)) c.repeated.ensures c.in-Is.is
+    ∙ ap (λ s. fraction_at c.args.segment_type c.args.start c.args.size s c.args.j) (sym c.in-Equal.is)
 
 pub returns-in-Refused : goal.returns-in-Refused
 returns-in-Refused c =
-    and_then_law says_ratio (λ ratio. gives (near_at c.args.segment-type c.args.start c.args.size ratio)) c.repeated.ensures c.in-Refused.is
-    ∙ ap (λ s. fraction_at c.args.segment-type c.args.start c.args.size s c.args.j) (sym c.in-Equal.is)
+    and_then_law says_ratio (λ ratio. gives (near_at c.args.segment_type c.args.start c.args.size ratio)) c.repeated.ensures c.in-Refused.is
+    ∙ ap (λ s. fraction_at c.args.segment_type c.args.start c.args.size s c.args.j) (sym c.in-Equal.is)

@@ -1,8 +1,7 @@
 -- `cents_of` meets its contract: as_cents, which is never refused.
 -- Assumes nothing.
-use mathlib.Core.Path.{◌≡◌, sym, ◌∙◌, ap}
+use mathlib.Core.Path.{sym, ◌∙◌, ap}
 use Rattle.floats.specs.Answers.{says_float}
-use borrow.Author.Rules.{rules}
 use Rattle.rank2.proofs.Given.{cents_given, cents_never}
 use Rattle.rank2.proofs.notes.cents_of.Goals as goal
 

@@ -1,17 +1,14 @@
 -- `fill` meets its contract. The invariant: the first i places hold the first i pitch values.
 -- Assumes nothing.
-use borrow.Author.Rules.{rules}
-use mathlib.Core.Path.{◌≡◌, refl, sym, ◌∙◌, ap}
-use Prim.Native.Nat.{◌≤◌, ◌-◌}
+use mathlib.Core.Path.{refl, ◌∙◌}
 use native.Mathlib.Omega.{arith}
-use lib.ListN.{length, take, length-set}
-use Rattle.base.specs.Said.{gives}
-use Rattle.rank2.specs.Notes.{pitch_at, ratios_from}
+use lib.ListN.{length-set}
+use Rattle.rank2.specs.Notes.{pitch_at}
 use Rattle.rank2.proofs.Heights.{none_filled, one_filled, all_filled}
 use Rattle.rank2.proofs.notes.fill.Goals as goal
 
 pub loop-i-init : goal.loop-i-init
-loop-i-init c = (refl, omega arith, c.requires.0, none_filled (pitch_at c.args.period c.args.generator-cents c.args.period_cents c.args.positive) c.args.ratio.now)
+loop-i-init c = (refl, omega arith, c.requires.0, none_filled (pitch_at c.args.period c.args.generator_cents c.args.period_cents c.args.positive) c.args.ratio.now)
 
 pub overflow_cast-i : goal.overflow_cast-i
 overflow_cast-i c = omega (arith, c.loop-i.invariant.0, c.loop-i.invariant.2, c.loop-i-test.true)
@@ -20,10 +17,10 @@ pub pitch_at-requires : goal.pitch_at-requires
 pitch_at-requires c = (c.requires.1, c.requires.2, c.requires.3)
 
 pub loop-i-preserved : goal.loop-i-preserved
-loop-i-preserved c = (length-set c.loop-i.ratio _ _ ∙ c.loop-i.invariant.0, omega (arith, c.loop-i.invariant.0, c.loop-i-test.true), c.loop-i.invariant.2, one_filled (pitch_at c.args.period c.args.generator-cents c.args.period_cents c.args.positive) c.loop-i.ratio c.loop-i.i c.loop-i-test.true c.loop-i.invariant.3 c.pitch_at.ensures.0)
+loop-i-preserved c = (length-set c.loop-i.ratio _ _ ∙ c.loop-i.invariant.0, omega (arith, c.loop-i.invariant.0, c.loop-i-test.true), c.loop-i.invariant.2, one_filled (pitch_at c.args.period c.args.generator_cents c.args.period_cents c.args.positive) c.loop-i.ratio c.loop-i.i c.loop-i-test.true c.loop-i.invariant.3 c.pitch_at.ensures.0)
 
 pub shape_of-ratio : goal.shape_of-ratio
 shape_of-ratio c = c.loop-i.invariant.0
 
 pub returns : goal.returns
-returns c = all_filled (pitch_at c.args.period c.args.generator-cents c.args.period_cents c.args.positive) c.loop-i.ratio c.loop-i.i _ c.loop-i.invariant.1 c.loop-i.invariant.0 c.loop-i-test.false c.loop-i.invariant.3
+returns c = all_filled (pitch_at c.args.period c.args.generator_cents c.args.period_cents c.args.positive) c.loop-i.ratio c.loop-i.i _ c.loop-i.invariant.1 c.loop-i.invariant.0 c.loop-i-test.false c.loop-i.invariant.3

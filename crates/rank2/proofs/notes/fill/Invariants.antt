@@ -1,13 +1,10 @@
 -- `fill` meets its contract. The invariant: the first i places hold the first i pitch values.
 -- Assumes nothing.
-use borrow.Author.Rules.{rules}
-use mathlib.Core.Path.{◌≡◌, refl, sym, ◌∙◌, ap}
+use mathlib.Core.Path.{◌≡◌}
 use Prim.Native.Nat.{◌≤◌, ◌-◌}
-use native.Mathlib.Omega.{arith}
-use lib.ListN.{length, take, length-set}
+use lib.ListN.{length, take}
 use Rattle.base.specs.Said.{gives}
 use Rattle.rank2.specs.Notes.{pitch_at, ratios_from}
-use Rattle.rank2.proofs.Heights.{none_filled, one_filled, all_filled}
 use Rattle.rank2.proofs.notes.fill.Given as goal
 
 abbrev pub invariant-loop-i : goal.invariant-loop-i

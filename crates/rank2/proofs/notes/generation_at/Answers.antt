@@ -1,6 +1,5 @@
 -- `generation_at` meets its contract: up, then down.
 -- Assumes nothing.
-use borrow.Author.Rules.{rules}
 use Rattle.rank2.proofs.Given.{generation_up, generation_down}
 use Rattle.rank2.proofs.notes.generation_at.Goals as goal
 

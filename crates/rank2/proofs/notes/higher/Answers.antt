@@ -1,6 +1,6 @@
 -- `higher` meets its contract, either way.
 -- Assumes nothing.
-use mathlib.Core.Path.{◌≡◌, sym, ◌∙◌, ap}
+use mathlib.Core.Path.{sym, ap}
 use mathlib.Core.Bool.{Bool}
 use Rattle.base.specs.Said.{pick}
 use Rattle.rank2.proofs.notes.higher.Goals as goal

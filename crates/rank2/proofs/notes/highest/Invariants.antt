@@ -1,13 +1,9 @@
 -- `highest` meets its contract. The invariant: of the pitch values from i on, top is the highest.
 -- Assumes nothing.
-use borrow.Author.Rules.{rules}
-use mathlib.Core.Path.{◌≡◌, sym, ◌∙◌, ap}
+use mathlib.Core.Path.{◌≡◌}
 use Prim.Native.Nat.{◌≤◌, ◌-◌}
-use native.Mathlib.Omega.{arith}
-use lib.Ieee.{of_bits}
 use Rattle.base.specs.Said.{gives}
 use Rattle.rank2.specs.Notes.{pitch_at, highest_from}
-use Rattle.rank2.proofs.Heights.{none_higher, one_higher, all_higher}
 use Rattle.rank2.proofs.notes.highest.Given as goal
 
 abbrev pub invariant-loop-i : goal.invariant-loop-i
