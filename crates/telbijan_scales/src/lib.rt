@@ -7,7 +7,7 @@ ghost use Rattle.scl.specs.declared.Item.TheVariants.{Cents, Fraction};
 ghost use Rattle.scl_build.specs.Answers.{says_builder};
 ghost use Rattle.scl_read.specs.Reader.{says_read};
 ghost use Rattle.telbijan_answers.specs.Calls.{Stored, StoredPart};
-ghost use Rattle.telbijan_answers.specs.Lent.{columns_before, columns_after, list_before, list_after};
+ghost use Rattle.telbijan_answers.specs.Lent.{columns_before, columns_old, columns_after, list_before, list_old, list_after};
 ghost use Rattle.telbijan_scales.specs.Calls.{ItemAsRatio, read_with, ReadScl, NewScl, PushItem, PushRatio, BuildScl, ExportScl};
 
 use pitch::Ratio;
@@ -60,7 +60,7 @@ pub fn telbijan_read_scl(
     start: &mut usize,
     end: &mut usize,
 ) -> u64
-    ensures { ReadScl text.now (columns_before kind cents numer denom) (list_before place ratio wraps)
+    ensures { ReadScl text.now (columns_old kind cents numer denom) (list_old place ratio wraps)
         (read_with count.old start.old end.old)
         result (columns_after kind cents numer denom) (list_after place ratio wraps)
         (read_with count.new start.new end.new) }
@@ -95,7 +95,7 @@ pub fn telbijan_new_scl(
     wraps: &[i32],
     room: &mut usize,
 ) -> u64
-    ensures { NewScl (columns_before kind cents numer denom) (list_before place ratio wraps) room.old
+    ensures { NewScl (columns_old kind cents numer denom) (list_before place ratio wraps) room.old
         result (columns_after kind cents numer denom) room.new }
 {
     store_room(
@@ -130,7 +130,7 @@ pub fn telbijan_push_cents(
     value: f64,
     after: &mut usize,
 ) -> u64
-    ensures { PushItem (Cents value) (columns_before kind cents numer denom) room count after.old
+    ensures { PushItem (Cents value) (columns_old kind cents numer denom) room count after.old
         result (columns_after kind cents numer denom) after.new }
 {
     let builder = SclBuilder { room, count };
@@ -148,7 +148,7 @@ pub fn telbijan_push_ratio(
     value: f64,
     after: &mut usize,
 ) -> u64
-    ensures { PushRatio value (columns_before kind cents numer denom) room count after.old
+    ensures { PushRatio value (columns_old kind cents numer denom) room count after.old
         result (columns_after kind cents numer denom) after.new }
 {
     let builder = SclBuilder { room, count };
@@ -169,7 +169,7 @@ pub fn telbijan_push_int(
     value: u32,
     after: &mut usize,
 ) -> u64
-    ensures { PushItem (Fraction value Lacking) (columns_before kind cents numer denom) room count after.old
+    ensures { PushItem (Fraction value Lacking) (columns_old kind cents numer denom) room count after.old
         result (columns_after kind cents numer denom) after.new }
 {
     let builder = SclBuilder { room, count };
@@ -188,7 +188,7 @@ pub fn telbijan_push_fraction(
     below: u32,
     after: &mut usize,
 ) -> u64
-    ensures { PushItem (Fraction above (Given below)) (columns_before kind cents numer denom) room count after.old
+    ensures { PushItem (Fraction above (Given below)) (columns_old kind cents numer denom) room count after.old
         result (columns_after kind cents numer denom) after.new }
 {
     let builder = SclBuilder { room, count };
@@ -213,7 +213,7 @@ pub fn telbijan_build_scl(
     count: usize,
     items: &mut u16,
 ) -> u64
-    ensures { BuildScl (columns_before kind cents numer denom) (list_before place ratio wraps) room count items.old
+    ensures { BuildScl (columns_before kind cents numer denom) (list_old place ratio wraps) room count items.old
         result (list_after place ratio wraps) items.new }
 {
     let builder = SclBuilder { room, count };

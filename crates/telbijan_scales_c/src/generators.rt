@@ -1,7 +1,7 @@
 // Scales that are computed, for C: segments of the harmonic series and rank-2 temperaments. They are written into a scale's seven lent columns.
 ghost use Rattle.harmonics.specs.Harmonics.{made_harmonics};
 ghost use Rattle.rank2.specs.Rank2.{made_rank2};
-ghost use Rattle.telbijan_answers.specs.Lent.{columns_before, columns_after, list_before, list_after};
+ghost use Rattle.telbijan_answers.specs.Lent.{columns_old, columns_after, list_old, list_after};
 ghost use Rattle.telbijan_scales.specs.Calls.{CreateScale};
 ghost use Rattle.telbijan_scales.specs.Generators.{segment_with, divisions_with};
 
@@ -26,9 +26,9 @@ pub extern "C" fn telbijan_create_harmonics_scale(
     count: &mut u16,
 ) -> u64
     ensures { CreateScale
-        (made_harmonics (columns_before kind cents numer denom) (list_before place ratio wraps)
+        (made_harmonics (columns_old kind cents numer denom) (list_old place ratio wraps)
         (segment_with otonal) start size (divisions_with divided divisions))
-        (columns_before kind cents numer denom) (list_before place ratio wraps) count.old
+        (columns_old kind cents numer denom) (list_old place ratio wraps) count.old
         result (columns_after kind cents numer denom) (list_after place ratio wraps) count.new }
 {
     telbijan_scales::generators::telbijan_create_harmonics_scale(
@@ -57,8 +57,8 @@ pub extern "C" fn telbijan_create_rank2_temperament_scale(
     count: &mut u16,
 ) -> u64
     ensures { CreateScale
-        (made_rank2 (columns_before kind cents numer denom) (list_before place ratio wraps) generator positive negative period)
-        (columns_before kind cents numer denom) (list_before place ratio wraps) count.old
+        (made_rank2 (columns_old kind cents numer denom) (list_old place ratio wraps) generator positive negative period)
+        (columns_old kind cents numer denom) (list_old place ratio wraps) count.old
         result (columns_after kind cents numer denom) (list_after place ratio wraps) count.new }
 {
     telbijan_scales::generators::telbijan_create_rank2_temperament_scale(

@@ -6,7 +6,7 @@ mod generators;
 ghost use Rattle.scl.specs.Table.{item_of};
 ghost use Rattle.scl.specs.declared.Denom.TheVariants.{Given, Lacking};
 ghost use Rattle.scl.specs.declared.Item.TheVariants.{Cents, Fraction};
-ghost use Rattle.telbijan_answers.specs.Lent.{columns_before, columns_after, list_before, list_after};
+ghost use Rattle.telbijan_answers.specs.Lent.{columns_before, columns_old, columns_after, list_before, list_old, list_after};
 ghost use Rattle.telbijan_scales.specs.Calls.{ItemAsRatio, read_with, ReadScl, NewScl, PushItem, PushRatio, BuildScl, ExportScl};
 
 // The ratio of an item, stored: 10 for an item that cannot be used, one of an unknown kind too.
@@ -41,7 +41,7 @@ pub extern "C" fn telbijan_read_scl(
     start: &mut usize,
     end: &mut usize,
 ) -> u64
-    ensures { ReadScl text.now (columns_before kind cents numer denom) (list_before place ratio wraps)
+    ensures { ReadScl text.now (columns_old kind cents numer denom) (list_old place ratio wraps)
         (read_with count.old start.old end.old)
         result (columns_after kind cents numer denom) (list_after place ratio wraps)
         (read_with count.new start.new end.new) }
@@ -64,7 +64,7 @@ pub extern "C" fn telbijan_new_scl(
     wraps: &[i32],
     room: &mut usize,
 ) -> u64
-    ensures { NewScl (columns_before kind cents numer denom) (list_before place ratio wraps) room.old
+    ensures { NewScl (columns_old kind cents numer denom) (list_before place ratio wraps) room.old
         result (columns_after kind cents numer denom) room.new }
 {
     telbijan_scales::telbijan_new_scl(kind, cents, numer, denom, place, ratio, wraps, room)
@@ -83,7 +83,7 @@ pub extern "C" fn telbijan_push_cents(
     value: f64,
     after: &mut usize,
 ) -> u64
-    ensures { PushItem (Cents value) (columns_before kind cents numer denom) room count after.old
+    ensures { PushItem (Cents value) (columns_old kind cents numer denom) room count after.old
         result (columns_after kind cents numer denom) after.new }
 {
     telbijan_scales::telbijan_push_cents(kind, cents, numer, denom, room, count, value, after)
@@ -101,7 +101,7 @@ pub extern "C" fn telbijan_push_ratio(
     value: f64,
     after: &mut usize,
 ) -> u64
-    ensures { PushRatio value (columns_before kind cents numer denom) room count after.old
+    ensures { PushRatio value (columns_old kind cents numer denom) room count after.old
         result (columns_after kind cents numer denom) after.new }
 {
     telbijan_scales::telbijan_push_ratio(kind, cents, numer, denom, room, count, value, after)
@@ -119,7 +119,7 @@ pub extern "C" fn telbijan_push_int(
     value: u32,
     after: &mut usize,
 ) -> u64
-    ensures { PushItem (Fraction value Lacking) (columns_before kind cents numer denom) room count after.old
+    ensures { PushItem (Fraction value Lacking) (columns_old kind cents numer denom) room count after.old
         result (columns_after kind cents numer denom) after.new }
 {
     telbijan_scales::telbijan_push_int(kind, cents, numer, denom, room, count, value, after)
@@ -138,7 +138,7 @@ pub extern "C" fn telbijan_push_fraction(
     below: u32,
     after: &mut usize,
 ) -> u64
-    ensures { PushItem (Fraction above (Given below)) (columns_before kind cents numer denom) room count after.old
+    ensures { PushItem (Fraction above (Given below)) (columns_old kind cents numer denom) room count after.old
         result (columns_after kind cents numer denom) after.new }
 {
     telbijan_scales::telbijan_push_fraction(
@@ -162,7 +162,7 @@ pub extern "C" fn telbijan_build_scl(
     count: usize,
     items: &mut u16,
 ) -> u64
-    ensures { BuildScl (columns_before kind cents numer denom) (list_before place ratio wraps) room count items.old
+    ensures { BuildScl (columns_before kind cents numer denom) (list_old place ratio wraps) room count items.old
         result (list_after place ratio wraps) items.new }
 {
     telbijan_scales::telbijan_build_scl(

@@ -1,7 +1,7 @@
 -- SAMPLES OF THE SEARCHES THAT THE CALLS ANSWER WITH, on lent columns: they tell the calls apart whose answers are easily exchanged, the
 -- declared degree, the ascending one and the key. The scale of -300. and -1200. cents, a period below 1, at the ratio 0.9 and at 396 Hz
 -- over a root of 440 Hz at key 69. Assumes nothing.
-use Rattle.std.specs.Prelude.{◌≡◌, true, false, List, [], ◌∷◌, ℕ, ℤ, pos, negsuc, Float}
+use Rattle.std.specs.Prelude.{◌≡◌, true, false, [], ◌∷◌, ℤ, pos, negsuc}
 use Rattle.std.specs.Float.{fin, binary64}
 use Rattle.std.specs.Float.Ieee.{round}
 use Rattle.base.specs.Said.{Said, gives}

@@ -8,7 +8,7 @@ use native.Mathlib.Decide.{dec_le}
 use native.Mathlib.Omega.{arith}
 use lib.Dec.{lit<, lit≤}
 use lib.IntN.{ℤ}
-use lib.Ieee.{Float, fin, binary64, up, down, round, fits, add, mul, div, of_int}
+use lib.Ieee.{Float, fin, binary64, up, down, round, fits, add, mul, div, of_int, inf, nan}
 use lib.Ieee.Back.{round_whole}
 use lib.Ieee.Bits.{is_true}
 use lib.Ieee.Exact.{HasValue}
@@ -57,6 +57,8 @@ over m e n (fin false i d) v p =
         let q : i * up d ≡ 0 = ap (λ (j : ℕ). j * up d) z ∙ native.Mathlib.Nat.zero-mul (up d) in
         let r : 0 < n * down d = mul-pos p (down_pos d) in
         omega (arith, q, r, y)
+over m e n nan v p = elim v [ ]
+over m e n (inf _) v p = elim v [ ]
 
 part_of : (m : ℕ) (e : ℤ) (n : ℕ) → 0 < n → n ≤ 2 ^ 53 → div binary64 (fin false m e) (float n) ≡ round binary64 false (m * up e) (down e * n)
 unfolding of_int

@@ -10,7 +10,7 @@ use native.Mathlib.Omega.{arith}
 use lib.Arith.{digits_div}
 use lib.Dec.{lit<, lit≤, le→leb}
 use lib.IntN.{ℤ, pos}
-use lib.Ieee.{Float, fin, binary64, up, down, round, size, neg, mul, div, le, lt, eq, of_int, of_bits, to_unsigned, in_float}
+use lib.Ieee.{Float, fin, binary64, up, down, round, size, neg, mul, div, le, lt, eq, of_int, of_bits, to_unsigned, in_float, inf, nan}
 use lib.Ieee.Back.{round_whole, unsigned_back}
 use lib.Ieee.Exact.{HasValue}
 use lib.Ieee.Fits.{down_pos}
@@ -93,6 +93,8 @@ harmonic_whole k h (fin false m e) v = rw (floor_up k m e v.1, floor_down k m e 
     go : (b : Bool) → to_unsigned 32 (pick b (round binary64 false k 1) (round binary64 false k 1)) ≡ k
     go true = back
     go false = back
+harmonic_whole k h nan v = elim v [ ]
+harmonic_whole k h (inf _) v = elim v [ ]
 
 -- ---- a number over itself
 self_over : (k : ℕ) → 0 < k → k < 2 ^ 16 → (x w : Float) → HasValue x false k 1 → HasValue w false k 1 → div binary64 x w ≡ One

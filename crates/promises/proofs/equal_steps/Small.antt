@@ -9,7 +9,7 @@ use native.Mathlib.Omega.{arith}
 use lib.Dec.{T, eqb, lit<, lit≤}
 use lib.Pow.{pow_pos, pow-add, pow_mono, pow-lt}
 use lib.IntN.{ℤ}
-use lib.Ieee.{Float, fin, binary64, up, down, round, fits, le}
+use lib.Ieee.{Float, fin, binary64, up, down, round, fits, le, inf, nan}
 use lib.Ieee.Exact.{HasValue, round_exact}
 use lib.Ieee.Fits.{down_pos}
 use lib.Ieee.Order.{round_mono}
@@ -48,6 +48,10 @@ under_part i g (fin false m e) (fin false k d) v w t =
     (le_trans (le_of_eq (mul_right_comm (m * up e) (2 ^ i) (down d)))
     (le_trans (mul-le-mul_right (2 ^ i) (le_pos m k e d t)) (le_of_eq (mul_right_comm (k * up d) (down e) (2 ^ i) ∙ ap (λ (z : ℕ). z * down e) (w.1 ∙ one-mul (down d)) ∙ mul_comm (down d) (down e)))))
     (down_pos d))
+under_part i g nan hi v w t = elim v [ ]
+under_part i g (inf _) hi v w t = elim v [ ]
+under_part i g (fin false m e) nan v w t = elim w [ ]
+under_part i g (fin false m e) (inf _) v w t = elim w [ ]
 
 sized_finite : {n : ℕ} {x : Float} → Sized n x → T (finite x)
 sized_finite (sized s m e h) = tt

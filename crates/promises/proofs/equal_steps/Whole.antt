@@ -8,7 +8,7 @@ use Prim.Native.Nat.{ℕ, ◌+◌, ◌-◌, ◌*◌, ◌^◌, ◌≤◌, ◌<◌
 use native.Mathlib.Nat.{mul-one, mul_assoc, mul-pos}
 use native.Mathlib.Omega.{arith}
 use lib.Dec.{T, lit<}
-use lib.Ieee.{Float, fin, binary64, up, down, round, size, div, le, lt, eq, of_int, of_bits}
+use lib.Ieee.{Float, fin, binary64, up, down, round, size, div, le, lt, eq, of_int, of_bits, inf, nan}
 use lib.Ieee.Back.{round_whole}
 use lib.Ieee.Exact.{HasValue}
 use lib.Ieee.Fits.{down_pos}
@@ -41,6 +41,8 @@ quotient a b (fin true m e) w v u p = absurd (true≢false v.0)
 quotient a b (fin false m e) w v u p =
     let y : m * up e ≡ a * down e = sym (mul-one (m * up e)) ∙ v.1 in
     over m e b w u p ∙ round_same binary64 false (m * up e) (down e * b) a b (mul-pos (down_pos e) p) p (ap (λ (z : ℕ). z * b) y ∙ mul_assoc a (down e) b)
+quotient a b nan w v u p = elim v [ ]
+quotient a b (inf _) w v u p = elim v [ ]
 
 above_one : T (le (round binary64 false 65537 65536) one_f) → ⊥
 unfolding le lt eq round size of_bits

@@ -28,6 +28,7 @@ not_white c l h (inr (inr (inr (inr (inr (inr (inr (inl a)))))))) = omega (arith
 not_white c l h (inr (inr (inr (inr (inr (inr (inr (inr (inl a))))))))) = omega (arith, a)
 not_white c l h (inr (inr (inr (inr (inr (inr (inr (inr (inr (inl a)))))))))) = omega (arith, a)
 not_white c l h (inr (inr (inr (inr (inr (inr (inr (inr (inr (inr (inl a))))))))))) = omega (arith, a)
+not_white c l h (inr (inr (inr (inr (inr (inr (inr (inr (inr (inr (inr x11))))))))))) = elim x11 [ ]
 
 -- no byte that splits is plain
 not_split : (b : ℕ) → Plain b → Splits b → ⊥
@@ -36,6 +37,7 @@ not_split b p (inr (inl a)) = omega (arith, a, p)
 not_split b p (inr (inr (inl a))) = omega (arith, a, p)
 not_split b p (inr (inr (inr (inl a)))) = omega (arith, a, p)
 not_split b p (inr (inr (inr (inr (inl a))))) = omega (arith, a, p)
+not_split b p (inr (inr (inr (inr (inr x5))))) = elim x5 [ ]
 
 -- a blank is White_Space, and splits
 pub blank_white : (b : ℕ) → P.Blank b → WhiteSpace b

@@ -101,10 +101,10 @@ back_entries [] h e = tt
 back_entries (i ∷ is) h e = let u = both (is_usable i) (are_usable is) h in (back_item i u.0 e.0, back_entries is u.1 e.1)
 
 -- the words that lines of words have, and no others
-pub words_of : (ts : List (List ℕ)) → Words scale (selves ts) (words_of ts)
+pub words_of_law : (ts : List (List ℕ)) → Words scale (selves ts) (words_of ts)
 unfolding words_of selves
-words_of [] = tt
-words_of (t ∷ ts) = (refl, words_of ts)
+words_of_law [] = tt
+words_of_law (t ∷ ts) = (refl, words_of_law ts)
 
 pub only_words : (ts : List (List ℕ)) (ws : List ContentLine) → Words scale (selves ts) ws → ws ≡ words_of ts
 unfolding words_of selves

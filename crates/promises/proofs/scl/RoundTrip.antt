@@ -35,7 +35,7 @@ use Rattle.text.proofs.LineLanguage.{one_strict_text}
 use Rattle.writing.proofs.Plain.{selves}
 use Rattle.writing.proofs.Printed.{size_reads}
 use Rattle.promises.specs.scl.Again.{Described, ItemsBack, ComesBack}
-use Rattle.promises.proofs.scl.ItemsBack.{words_of, entries_back, back_entries, words_of, only_words}
+use Rattle.promises.proofs.scl.ItemsBack.{words_of, entries_back, back_entries, words_of_law, only_words}
 use Rattle.promises.proofs.scl.Described.{text_described, token_of, export_says, export_says_law}
 
 -- ---- OVER THE LANGUAGE
@@ -54,7 +54,7 @@ module _ (d : List ℕ) (is : List Item) (list : List Entry) where
         lines = record {
           first = record { whole = d; token = token_of d } ∷ record { whole = whole_text (pos (length is)); token = whole_text (pos (length is)) } ∷ [];
           rest = words_of (item_texts is);
-          words = (refl, (refl, words_of (item_texts is)));
+          words = (refl, (refl, words_of_law (item_texts is)));
           values = (refl, (size_reads (2 ^ 16) (length is) (omega (arith, l)) (lit< tt), tt));
           entries = entries_back is f h c.cents;
         };
