@@ -66,6 +66,7 @@ fn say<P: Eprint>(rt: &P, failure: Failure) -> io::Result<()> {
     }
 }
 
+// Copies standard input to standard output; where either fails, says so.
 fn main(rt: HostRuntime) {
     if let Err(failure) = copy(&mut rt.stdin(), &mut rt.stdout()) {
         let _ = say(&rt, failure);

@@ -68,6 +68,7 @@ fn print_files<R: Files, W: Write, E: Write>(
     finish(err, print_table(out, counting, mapping, sounds));
 }
 
+// Prints the table of the two files that the arguments name, or how they are to be given.
 fn main(rt: HostRuntime) {
     let mut err = rt.stderr();
     let Named::Is(counting) = counting::chosen(&rt, counting::arg_count(&rt)) else {

@@ -32,6 +32,7 @@ fn answer<W: Write>(sink: &mut W, line: &[u8]) -> io::Result<()> {
     }
 }
 
+// The answer of a line on mappings.
 fn answer_mapping<W: Write>(sink: &mut W, call: usize, line: &[u8]) -> io::Result<()> {
     match call {
         46 => mappings::say_degree(sink, kbm::Counting::Reference, line),
@@ -46,6 +47,7 @@ fn answer_mapping<W: Write>(sink: &mut W, call: usize, line: &[u8]) -> io::Resul
     }
 }
 
+// The answer of each line of a list, and a line end after each.
 fn answer_all<W: Write>(sink: &mut W, list: &[u8]) -> io::Result<()> {
     let mut at: usize = 0;
     while at < list.len() {
@@ -60,6 +62,7 @@ fn answer_all<W: Write>(sink: &mut W, list: &[u8]) -> io::Result<()> {
     Ok(())
 }
 
+// Answers the questions of standard input on standard output.
 fn main(rt: HostRuntime) -> io::Result<()> {
     let mut list = frozen::room();
     let n = say::questions(&mut rt.stdin(), &mut list)?;

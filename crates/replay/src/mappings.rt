@@ -21,6 +21,7 @@ pub fn first(map: &[i32], places: usize) -> &[i32] {
     map
 }
 
+// The same, lent to be written.
 pub fn first_mut(map: &mut [i32], places: usize) -> &mut [i32] {
     if places <= map.len() {
         return &mut map[..places];
@@ -28,7 +29,7 @@ pub fn first_mut(map: &mut [i32], places: usize) -> &mut [i32] {
     map
 }
 
-// The root of three fields from field 3 on, or from field 6 on.
+// The root of three fields from field 3 on.
 pub fn root_at_3(line: &[u8]) -> KbmRoot {
     KbmRoot {
         reference: PianoKey(given::int(line, 3)),
@@ -37,6 +38,7 @@ pub fn root_at_3(line: &[u8]) -> KbmRoot {
     }
 }
 
+// The root of three fields from field 6 on.
 fn root_at_6(line: &[u8]) -> KbmRoot {
     KbmRoot {
         reference: PianoKey(given::int(line, 6)),
@@ -56,6 +58,7 @@ fn mapping(line: &[u8]) -> Kbm {
     }
 }
 
+// Reference key, pitch and offset.
 fn say_root<W: Write>(sink: &mut W, root: KbmRoot) -> io::Result<()> {
     let reference = root.reference;
     let pitch = root.pitch;
@@ -64,6 +67,7 @@ fn say_root<W: Write>(sink: &mut W, root: KbmRoot) -> io::Result<()> {
     say::int(sink, root.offset)
 }
 
+// Count, start and end.
 fn say_range<W: Write>(sink: &mut W, kbm: Kbm) -> io::Result<()> {
     let start = kbm.start;
     let end = kbm.end;
@@ -72,6 +76,7 @@ fn say_range<W: Write>(sink: &mut W, kbm: Kbm) -> io::Result<()> {
     say::int(sink, end.0)
 }
 
+// A mapping, or a refusal.
 pub fn say_mapping<W: Write>(sink: &mut W, answer: KbmAnswer) -> io::Result<()> {
     match answer {
         KbmAnswer::Is(kbm) => {
@@ -83,6 +88,7 @@ pub fn say_mapping<W: Write>(sink: &mut W, answer: KbmAnswer) -> io::Result<()> 
     }
 }
 
+// The degree of a key in either counting, or a refusal.
 fn degree(counting: Counting, kbm: Kbm, map: &[i32], key: PianoKey) -> DegreeAnswer {
     match counting {
         Counting::Reference => kbm::scale_degree_of(kbm, map, key),
@@ -131,6 +137,7 @@ pub fn say_export<W: Write>(sink: &mut W, line: &[u8]) -> io::Result<()> {
     say::bytes(sink, frozen::first(&out, room))
 }
 
+// The number of bytes written, or a refusal.
 fn say_size<W: Write>(sink: &mut W, answer: SizeAnswer) -> io::Result<()> {
     match answer {
         SizeAnswer::Is(written) => say::size(sink, written),

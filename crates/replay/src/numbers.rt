@@ -6,6 +6,7 @@ use math::{DivisionAnswer, U32Answer};
 use std::io;
 use std::io::Write;
 
+// An integer, or a refusal.
 fn say_i32<W: Write>(sink: &mut W, answer: I32Answer) -> io::Result<()> {
     match answer {
         I32Answer::Is(z) => say::int(sink, z),
@@ -13,6 +14,7 @@ fn say_i32<W: Write>(sink: &mut W, answer: I32Answer) -> io::Result<()> {
     }
 }
 
+// A natural number, or a refusal.
 fn say_u32<W: Write>(sink: &mut W, answer: U32Answer) -> io::Result<()> {
     match answer {
         U32Answer::Is(n) => say::natural(sink, n),
@@ -31,10 +33,12 @@ fn say_division<W: Write>(sink: &mut W, answer: DivisionAnswer) -> io::Result<()
     }
 }
 
+// A key's number.
 fn say_number<W: Write>(sink: &mut W, key: PianoKey) -> io::Result<()> {
     say::int(sink, key.0)
 }
 
+// A key, or a refusal.
 fn say_key<W: Write>(sink: &mut W, answer: KeyAnswer) -> io::Result<()> {
     match answer {
         KeyAnswer::Is(key) => say_number(sink, key),
@@ -42,6 +46,7 @@ fn say_key<W: Write>(sink: &mut W, answer: KeyAnswer) -> io::Result<()> {
     }
 }
 
+// A MIDI number, or a refusal.
 fn say_midi<W: Write>(sink: &mut W, answer: MidiAnswer) -> io::Result<()> {
     match answer {
         MidiAnswer::Is(number) => say::natural(sink, number as u32),

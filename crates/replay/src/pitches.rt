@@ -7,6 +7,7 @@ use pitch::{BoolAnswer, Order, OrderAnswer, Pitch, PitchAnswer, Ratio, RatioAnsw
 use std::io;
 use std::io::Write;
 
+// A number, or a refusal.
 fn say_float<W: Write>(sink: &mut W, answer: FloatAnswer) -> io::Result<()> {
     match answer {
         FloatAnswer::Is(x) => say::float(sink, x),
@@ -14,6 +15,7 @@ fn say_float<W: Write>(sink: &mut W, answer: FloatAnswer) -> io::Result<()> {
     }
 }
 
+// A ratio, or a refusal.
 fn say_ratio<W: Write>(sink: &mut W, answer: RatioAnswer) -> io::Result<()> {
     match answer {
         RatioAnswer::Is(ratio) => say::float(sink, ratio.0),
@@ -21,6 +23,7 @@ fn say_ratio<W: Write>(sink: &mut W, answer: RatioAnswer) -> io::Result<()> {
     }
 }
 
+// A pitch, or a refusal.
 fn say_pitch<W: Write>(sink: &mut W, answer: PitchAnswer) -> io::Result<()> {
     match answer {
         PitchAnswer::Is(pitch) => say::float(sink, pitch.0),
@@ -45,6 +48,7 @@ fn number_of(order: Order) -> i32 {
     }
 }
 
+// An order as a number, or a refusal.
 fn say_order<W: Write>(sink: &mut W, answer: OrderAnswer) -> io::Result<()> {
     match answer {
         OrderAnswer::Is(order) => say::int(sink, number_of(order)),
@@ -61,6 +65,7 @@ fn say_fraction<W: Write>(sink: &mut W, found: NearestFraction) -> io::Result<()
     say::int(sink, found.num_octaves)
 }
 
+// The nearest fraction, or a refusal.
 fn say_nearest<W: Write>(sink: &mut W, answer: NearestAnswer) -> io::Result<()> {
     match answer {
         NearestAnswer::Is(found) => say_fraction(sink, found),
@@ -76,6 +81,7 @@ fn say_best_fraction<W: Write>(sink: &mut W, found: BestFraction) -> io::Result<
     say::float(sink, deviation.0)
 }
 
+// The nearest fraction of all, or a refusal.
 fn say_best<W: Write>(sink: &mut W, answer: BestAnswer) -> io::Result<()> {
     match answer {
         BestAnswer::Is(found) => say_best_fraction(sink, found),

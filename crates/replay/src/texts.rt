@@ -56,6 +56,7 @@ fn say_integer<W: Write>(sink: &mut W, call: usize, text: &[u8]) -> io::Result<(
     say::float(sink, std::num::nearest_i64_to_f64(number))
 }
 
+// What a call reads of a text.
 fn say_of<W: Write>(sink: &mut W, call: usize, text: &[u8], line: &[u8]) -> io::Result<()> {
     match call {
         36 => say_line(sink, text, given::size(line, 3)),

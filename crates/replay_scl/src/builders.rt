@@ -31,6 +31,7 @@ struct Step {
     below: u32,
 }
 
+// The items before any step.
 fn lent() -> Items {
     let kind = [9u8; 16];
     let cents = [2.0; 16];
@@ -44,6 +45,7 @@ fn lent() -> Items {
     }
 }
 
+// The step of four fields from a field on.
 fn asked(line: &[u8], at: usize) -> Step {
     Step {
         sort: given::natural(line, at),
@@ -53,6 +55,7 @@ fn asked(line: &[u8], at: usize) -> Step {
     }
 }
 
+// A new builder on these items.
 fn new(items: Items) -> Stepped {
     let mut kind = items.kind;
     let mut cents = items.cents;
@@ -73,6 +76,7 @@ fn new(items: Items) -> Stepped {
     Stepped { items, said }
 }
 
+// The items after a push of cents.
 fn push_cents(items: Items, builder: SclBuilder, x: f64) -> Stepped {
     let mut kind = items.kind;
     let mut cents = items.cents;
@@ -88,6 +92,7 @@ fn push_cents(items: Items, builder: SclBuilder, x: f64) -> Stepped {
     Stepped { items, said }
 }
 
+// The items after a push of a ratio.
 fn push_ratio(items: Items, builder: SclBuilder, x: f64) -> Stepped {
     let mut kind = items.kind;
     let mut cents = items.cents;
@@ -103,6 +108,7 @@ fn push_ratio(items: Items, builder: SclBuilder, x: f64) -> Stepped {
     Stepped { items, said }
 }
 
+// The items after a push of an integer.
 fn push_int(items: Items, builder: SclBuilder, x: u32) -> Stepped {
     let mut kind = items.kind;
     let mut cents = items.cents;
@@ -118,6 +124,7 @@ fn push_int(items: Items, builder: SclBuilder, x: u32) -> Stepped {
     Stepped { items, said }
 }
 
+// The items after a push of a fraction.
 fn push_fraction(items: Items, builder: SclBuilder, above: u32, below: u32) -> Stepped {
     let mut kind = items.kind;
     let mut cents = items.cents;
@@ -239,6 +246,7 @@ pub fn say_push<W: Write>(sink: &mut W, line: &[u8]) -> io::Result<()> {
     say_items(sink, items)
 }
 
+// The items, beside entries that no call has written.
 fn say_items<W: Write>(sink: &mut W, items: Items) -> io::Result<()> {
     let kind = items.kind;
     let cents = items.cents;

@@ -18,14 +18,17 @@ pub struct Building {
     pub list: [SortedEntry; 8],
 }
 
+// An answer and the list after it.
 fn read_pair(answer: SclReadAnswer, list: [SortedEntry; 8]) -> Reading {
     Reading { answer, list }
 }
 
+// A build's answer and the list after it.
 fn built_pair(answer: SclAnswer, list: [SortedEntry; 8]) -> Building {
     Building { answer, list }
 }
 
+// `read_entries` on a list.
 pub fn read<'i>(
     text: &[u8],
     kind: &'i mut [u8],
@@ -44,6 +47,7 @@ pub fn read<'i>(
     read_pair(answer, l)
 }
 
+// `build_entries` on a list.
 pub fn build<'i>(
     state: SclBuilder,
     kind: &'i [u8],
@@ -62,6 +66,7 @@ pub fn build<'i>(
     built_pair(answer, l)
 }
 
+// `find_in_entries` on a list.
 pub fn find<'i>(
     scl: Scl,
     kind: &'i [u8],

@@ -16,6 +16,7 @@ const OLD: SortedEntry = SortedEntry {
     wraps: 8,
 };
 
+// Every place of a list.
 fn say_list<W: Write>(sink: &mut W, list: [SortedEntry; 8]) -> io::Result<()> {
     for e in list {
         say::entry(sink, e.place, e.ratio, e.wraps)?;
@@ -112,6 +113,7 @@ fn say_after<'i, W: Write>(
     }
 }
 
+// What a line asks for of a text: the read first.
 fn say_of<W: Write>(sink: &mut W, call: usize, text: &[u8], line: &[u8]) -> io::Result<()> {
     let mut kind = [9u8; 16];
     let mut cents = [2.0; 16];

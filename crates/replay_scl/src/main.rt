@@ -30,6 +30,7 @@ fn say_item<W: Write>(sink: &mut W, line: &[u8]) -> io::Result<()> {
     say_ratio(sink, item.as_ratio())
 }
 
+// A ratio, or a refusal.
 fn say_ratio<W: Write>(sink: &mut W, answer: RatioAnswer) -> io::Result<()> {
     match answer {
         RatioAnswer::Is(ratio) => say::float(sink, ratio.0),
@@ -46,6 +47,7 @@ fn say_scale<W: Write>(sink: &mut W, read: SclRead) -> io::Result<()> {
     say::size(sink, description.end)
 }
 
+// A scale that was read, or a refusal.
 fn say_answer<W: Write>(sink: &mut W, answer: SclReadAnswer) -> io::Result<()> {
     match answer {
         SclReadAnswer::Is(read) => say_scale(sink, read),
@@ -53,6 +55,7 @@ fn say_answer<W: Write>(sink: &mut W, answer: SclReadAnswer) -> io::Result<()> {
     }
 }
 
+// The read of a text, then the places.
 fn say_read_of<W: Write>(sink: &mut W, text: &[u8]) -> io::Result<()> {
     let mut kind = [9u8; 16];
     let mut cents = [2.0; 16];
@@ -77,6 +80,7 @@ fn say_read<W: Write>(sink: &mut W, line: &[u8]) -> io::Result<()> {
     say_read_of(sink, frozen::first(&text, length))
 }
 
+// The number of bytes written, or a refusal.
 fn say_size<W: Write>(sink: &mut W, answer: SizeAnswer) -> io::Result<()> {
     match answer {
         SizeAnswer::Is(written) => say::size(sink, written),
@@ -158,6 +162,7 @@ fn answer<W: Write>(sink: &mut W, line: &[u8]) -> io::Result<()> {
     }
 }
 
+// The answer of each line of a list, and a line end after each.
 fn answer_all<W: Write>(sink: &mut W, list: &[u8]) -> io::Result<()> {
     let mut at: usize = 0;
     while at < list.len() {
@@ -172,6 +177,7 @@ fn answer_all<W: Write>(sink: &mut W, list: &[u8]) -> io::Result<()> {
     Ok(())
 }
 
+// Answers the questions of standard input on standard output.
 fn main(rt: HostRuntime) -> io::Result<()> {
     let mut list = frozen::room();
     let n = say::questions(&mut rt.stdin(), &mut list)?;

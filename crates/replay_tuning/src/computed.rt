@@ -6,6 +6,7 @@ use pitch::Ratio;
 use std::io;
 use std::io::Write;
 
+// Whether a segment is of the overtones or the undertones.
 fn sort(line: &[u8]) -> SegmentType {
     if given::flag(line, 2) {
         return SegmentType::Otonal;
@@ -13,6 +14,7 @@ fn sort(line: &[u8]) -> SegmentType {
     SegmentType::Utonal
 }
 
+// Into how many steps a segment is divided, if it is.
 fn divisions(line: &[u8]) -> Divisions {
     if given::flag(line, 5) {
         return Divisions::Into(given::count(line, 6));
@@ -20,6 +22,7 @@ fn divisions(line: &[u8]) -> Divisions {
     Divisions::Lacking
 }
 
+// `harmonics ..`.
 pub fn say_segment<W: Write>(sink: &mut W, line: &[u8]) -> io::Result<()> {
     let mut kind = [9u8; 16];
     let mut cents = [2.0; 16];
@@ -47,6 +50,7 @@ pub fn say_segment<W: Write>(sink: &mut W, line: &[u8]) -> io::Result<()> {
     say::places(sink, &kind, &cents, &numer, &denom, &place, &ratio, &wraps)
 }
 
+// `rank2 ..`.
 pub fn say_temperament<W: Write>(sink: &mut W, line: &[u8]) -> io::Result<()> {
     let mut kind = [9u8; 16];
     let mut cents = [2.0; 16];

@@ -11,6 +11,7 @@ mod computed;
 mod mapped;
 mod scaled;
 
+// A ratio, or a refusal.
 fn say_ratio<W: Write>(sink: &mut W, answer: RatioAnswer) -> io::Result<()> {
     match answer {
         RatioAnswer::Is(ratio) => say::float(sink, ratio.0),
@@ -18,6 +19,7 @@ fn say_ratio<W: Write>(sink: &mut W, answer: RatioAnswer) -> io::Result<()> {
     }
 }
 
+// A pitch, or a refusal.
 fn say_pitch<W: Write>(sink: &mut W, answer: PitchAnswer) -> io::Result<()> {
     match answer {
         PitchAnswer::Is(pitch) => say::float(sink, pitch.0),
@@ -60,6 +62,7 @@ fn answer<W: Write>(sink: &mut W, line: &[u8]) -> io::Result<()> {
     }
 }
 
+// The answer of each line of a list, and a line end after each.
 fn answer_all<W: Write>(sink: &mut W, list: &[u8]) -> io::Result<()> {
     let mut at: usize = 0;
     while at < list.len() {
@@ -74,6 +77,7 @@ fn answer_all<W: Write>(sink: &mut W, list: &[u8]) -> io::Result<()> {
     Ok(())
 }
 
+// Answers the questions of standard input on standard output.
 fn main(rt: HostRuntime) -> io::Result<()> {
     let mut list = frozen::room();
     let n = say::questions(&mut rt.stdin(), &mut list)?;

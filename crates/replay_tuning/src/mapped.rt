@@ -8,6 +8,7 @@ use std::io;
 use std::io::Write;
 use tuning::key_pitches::RunAnswer;
 
+// The mapping of a line.
 fn mapping(line: &[u8]) -> Kbm {
     Kbm {
         root: crate::scaled::root(line),
@@ -32,6 +33,7 @@ fn entries(line: &[u8]) -> [i32; 8] {
     ]
 }
 
+// That a run is done, or a refusal.
 fn say_done<W: Write>(sink: &mut W, answer: RunAnswer) -> io::Result<()> {
     match answer {
         RunAnswer::Done => say::word(sink, b"done"),
@@ -48,6 +50,7 @@ fn say_sounds<W: Write>(sink: &mut W, hz: &[f64; 8], numbers: &[u32; 8]) -> io::
     Ok(())
 }
 
+// A run in either counting, then its places.
 fn say_run<W: Write>(
     sink: &mut W,
     k: &[u8],
@@ -123,6 +126,7 @@ fn say_pitch<W: Write>(
     crate::say_pitch(sink, said)
 }
 
+// What a line asks for of a scale and its mapping.
 fn say_of<W: Write>(
     sink: &mut W,
     k: &[u8],

@@ -17,6 +17,7 @@ pub fn root(line: &[u8]) -> KbmRoot {
     }
 }
 
+// A key and its deviation, or a refusal.
 fn say_key<W: Write>(sink: &mut W, answer: KeySearch) -> io::Result<()> {
     match answer {
         KeySearch::Key(found) => {
@@ -130,6 +131,7 @@ fn say_search<W: Write>(
     }
 }
 
+// What a line asks for of a scale.
 fn say_of<W: Write>(
     sink: &mut W,
     k: &[u8],
@@ -149,6 +151,7 @@ fn say_of<W: Write>(
     }
 }
 
+// Pitches and searches in the scale of a line.
 pub fn say_scaled<W: Write>(sink: &mut W, call: usize, line: &[u8]) -> io::Result<()> {
     let places = given::size(line, 8);
     let kind = columns::bytes(9, places, line, 9, 7);
