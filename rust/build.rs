@@ -18,7 +18,12 @@ fn main() {
 fn built() -> PathBuf {
     let root = PathBuf::from(std::env::var_os("CARGO_MANIFEST_DIR").unwrap()).join("..");
     let archive = root.join("target/native/libtelbijan.a");
-    println!("cargo:rerun-if-changed={}", root.join("crates").display());
+    println!("cargo:rerun-if-changed={}", root.join("crates.txt").display());
+    for each in std::fs::read_dir(root.join("crates")).unwrap().flatten() {
+        for part in ["src", "specs", "proofs"].map(|part| each.path().join(part)).iter().filter(|part| part.is_dir()) {
+            println!("cargo:rerun-if-changed={}", part.display());
+        }
+    }
     let done = Command::new(root.join("tools/archive")).arg(&archive).status();
     if !done.is_ok_and(|status| status.success()) {
         assert!(archive.exists(), "the archive could not be built: run tools/archive, or set TELBIJAN_LIB_DIR");

@@ -26,8 +26,8 @@ import unicodedata
 
 from library import has, is_library, mounts, origin
 
-PLAIN = re.compile(r"#?[A-Za-z0-9_μΛℕℤ₀-₉'?-]+(?:\+[A-Za-z0-9_μΛℕℤ₀-₉'?-]+)*")
-SIGNS = set("→≡∷ℕλ∙≤κℤ𝓤×μ‵⊥δν⊎𝓣↦⊛←↔»«𝓜Λ≢ℓ∵𝓡𝓖γ⋆∗⊢⇛Γτ″σ₀₁₂₃₄₅₆₇₈₉◌")
+PLAIN = re.compile(r"#?[A-Za-z0-9_ℕℤ₀-₉'?-]+(?:\+[A-Za-z0-9_ℕℤ₀-₉'?-]+)*")
+SIGNS = set("→≡∷ℕλ∙≤ℤ×⊥⊎↦←↔»«≢τσ₀₁₂₃₄₅₆₇₈₉◌")
 
 # where src/ and specs/ have the logic's words from
 HOMES = {name: module for module, names in {
