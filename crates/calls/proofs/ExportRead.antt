@@ -1,5 +1,5 @@
 -- C EXPORTS A MAPPING, AND READS THE TEXT: telbijan_export_kbm, then telbijan_read_kbm on just the bytes that it wrote. Assumes nothing.
-use mathlib.Core.Path.{◌≡◌, sym, ◌∙◌, ap, subst}
+use mathlib.Core.Path.{◌≡◌, sym, ◌∙◌, ap}
 use mathlib.Core.List.{List}
 use mathlib.Core.Logic.{◌↔◌}
 use Prim.Native.Nat.{ℕ, ◌≤◌}

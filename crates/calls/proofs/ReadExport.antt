@@ -1,15 +1,15 @@
 -- C READS A SCALE FILE, AND EXPORTS WHAT IT READ: telbijan_read_scl, then telbijan_export_scl of the columns that it left, under the
 -- description that it found in the text. That is UTF-8 and one line, and so the export never answers 10. Assumes nothing.
-use mathlib.Core.Path.{◌≡◌, refl, sym, ◌∙◌, ap}
-use mathlib.Core.Bool.{Bool, true, false, ◌&&◌}
+use mathlib.Core.Path.{◌≡◌, refl, ◌∙◌, ap}
+use mathlib.Core.Bool.{Bool, true, false}
 use mathlib.Core.List.{List}
 use mathlib.Core.Logic.{◌⊎◌, inl, inr}
-use Prim.Native.Nat.{ℕ, ◌+◌, ◌*◌, ◌≤◌}
+use Prim.Native.Nat.{ℕ}
 use native.Mathlib.Omega.{arith}
 use lib.Dec.{leb}
 use lib.ListN.{length}
 use Rattle.base.specs.Numbers.{unusable, no_room}
-use Rattle.base.specs.Said.{Said, gives, refuses, pick}
+use Rattle.base.specs.Said.{gives, refuses, pick}
 use Rattle.scl.specs.Table.{ItemTable, is_items}
 use Rattle.scl.specs.declared.Scl.{Scl}
 use Rattle.scl_read.specs.declared.SclRead.{SclRead}
