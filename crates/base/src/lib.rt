@@ -1,5 +1,6 @@
 // What every other crate shares: the numbers that answer, and a refusal. Document 01, "Numbers that answer"; 19, 25 and 29 are of
 // document 02.
+#![tactic(auto)]
 
 // 1: a line is not UTF-8; the detail is the line.
 pub const NOT_UTF8: u32 = 1;

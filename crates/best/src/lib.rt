@@ -4,6 +4,8 @@
 // denominator, with the best on either side kept. All others lie beyond one that was passed, so that of 65,535 numerators and as many
 // denominators each is met once at most. Of the two that are left the nearer one is the answer, by whole numbers. The ratio is
 // m * 2^k / 2^1074, with 53 digits in m, as `floats::unpack` has it.
+#![tactic(auto)]
+
 ghost use Rattle.std.specs.Prelude.{◌≡◌, true, ◌&&◌, ◌||◌, ◌+◌, ◌*◌, ◌/◌, ◌^◌, ◌≤◌, ◌<◌, leb, ltb, eqb};
 ghost use Rattle.floats.specs.Ranges.{in_search};
 ghost use Rattle.best.specs.Best.{Best};

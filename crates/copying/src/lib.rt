@@ -1,5 +1,7 @@
 // What the program `kbmcopy` does between reading and writing: a mapping's text to its export's, or to the line that refuses it.
 // Document 01, "Writing".
+#![tactic(auto)]
+
 ghost use Rattle.std.specs.Prelude.{◌≡◌, ◌^◌, ◌≤◌, ◌<◌, length, take};
 ghost use Rattle.std.proofs.lemmas.List.Edits.{sets};
 ghost use Rattle.base.specs.Said.{gives};

@@ -1,5 +1,7 @@
 // Decimals in: document 01, "Lines". A scan (crate `numerals`) says what a text writes, `is_supported` alone says which numerals
 // are taken, and only then is one given its value.
+#![tactic(auto)]
+
 ghost use Rattle.std.specs.Prelude.{◌≡◌, ◌^◌, ◌<◌, ◌≤◌, false};
 ghost use Rattle.std.specs.Float.Ieee as Ieee;
 ghost use Rattle.std.specs.Float.{binary64};

@@ -2,6 +2,8 @@
 //
 // Such a call lends the columns too. They count in the room, and are left as the column call leaves them; the slice of structs then
 // holds the same entries from its first place on, and what stood behind them stays. A refused call writes nothing.
+#![tactic(auto)]
+
 pub mod search;
 
 ghost use Rattle.std.specs.Prelude.{◌≡◌, ◌≤◌, ◌<◌, length};

@@ -1,4 +1,6 @@
 // E and L: the power of two and its logarithm, by whole numbers, the same on every machine. Document 01, "Logarithm and power".
+#![tactic(auto)]
+
 mod exp_near;
 mod log_near;
 

@@ -3,6 +3,8 @@
 //
 // Every call tests the tables lent to it, the root and the ratio or pitch first (10); then come 11 for the root offset, 18, 11 for
 // the degree, 11 for the key.
+#![tactic(auto)]
+
 ghost use Rattle.std.specs.Prelude.{◌≡◌, true, ◌&&◌};
 ghost use Rattle.base.specs.Said.{and_then};
 ghost use Rattle.floats.specs.Ranges.{in_search, in_pitch};

@@ -1,5 +1,7 @@
 // Decimals of an f64: its exact value with 0 to 4 places, to the nearest, a tie to the even one, as whole numbers. Document 01,
 // "Writing".
+#![tactic(auto)]
+
 ghost use Rattle.std.specs.Prelude.{◌≡◌, ◌+◌, ◌*◌, ◌/◌, ◌%◌, ◌^◌, ◌<◌, ◌≤◌};
 ghost use Rattle.std.specs.Float.Ieee.Nearest.{closest};
 ghost use Rattle.fixed.specs.Cuts.{cut_at};

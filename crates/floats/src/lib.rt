@@ -1,5 +1,7 @@
 // What the library does to an f64 besides adding, multiplying and dividing: whole parts as Rust's std has them, the ranges that
 // document 01 names, and an f64 taken apart. Remainders are in the crate `remainder`, nearest values in `rounding`.
+#![tactic(auto)]
+
 ghost use Rattle.std.specs.Prelude.{◌≡◌, T};
 ghost use Rattle.std.specs.Float.Ieee.Scale.{finite};
 ghost use Rattle.floats.specs.Floats.{abs, trunc, floor, count};

@@ -1,4 +1,6 @@
 // The nearest fraction within an odd limit, as the Rust's walk finds it: not the best of all. Document 01, "Scales and searches".
+#![tactic(auto)]
+
 ghost use Rattle.std.specs.Prelude.{◌≡◌, ◌+◌};
 ghost use Rattle.fraction.specs.Answers.{says_nearest};
 ghost use Rattle.fraction.specs.NearestFraction.{float_of, both_over, both_within, improved, passed, turn_at, turn_of, widest, turns, walked, best_for, without_octaves, reduced_nearest, nearest_fraction};

@@ -5,6 +5,8 @@
 // it stands on the second E and L, `rules` where the Rust has no such answer. A float is 16 hex digits of its bits, or `nan`; bytes
 // are their hex digits, or `-` for none. An answer is the name of the call and the fields of its answer (the crate `say`). A line that is
 // no question of a call that the program has is answered by `?`, which no frozen answer is.
+#![tactic(auto)]
+
 pub mod columns;
 pub mod given;
 mod kinds;

@@ -2,6 +2,8 @@
 // The generators are in the crates `harmonics` and `rank2`.
 //
 // An inner crate: a table with no place is the generators' business.
+#![tactic(auto)]
+
 ghost use Rattle.std.specs.Prelude.{◌≡◌};
 ghost use Rattle.scl.specs.Table.{item_table};
 ghost use Rattle.sorted.specs.Lent.{list_table};

@@ -2,6 +2,8 @@
 //
 // The items are pushed into a builder beside the lent tables, as the Rust does it; the caller has the description. Whether 18 arises
 // is known from the last item, before anything is written. `create_harmonics_scale(Otonal, 9, 7, Lacking, ..)` is 10/9, .., 16/9.
+#![tactic(auto)]
+
 pub mod segment;
 
 ghost use Rattle.std.specs.Prelude.{◌≡◌, ◌<◌};

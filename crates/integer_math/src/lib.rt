@@ -1,5 +1,7 @@
 // Whole numbers of 32 bits that the library's own crates compute with. Not one of document 01's calls: a division here
 // asks for a denominator above 0.
+#![tactic(auto)]
+
 ghost use Rattle.std.specs.Prelude.{◌≡◌, ◌<◌, ◌+ℤ◌, ◌-ℤ◌};
 ghost use Rattle.std.specs.Int.Signed.{mag};
 ghost use Rattle.base.specs.Integers.{floor_div, floor_mod, held};

@@ -1,5 +1,7 @@
 // Integers of a text, at every width and sign. Document 01, "Lines": optional `+` (`-` only for signed types), then one or
 // more digits, within the type. Each reader takes the part of the text that is the token; an empty one is no integer.
+#![tactic(auto)]
+
 ghost use Rattle.std.specs.Prelude.{◌≡◌, ◌+◌, ◌-◌, ◌*◌, ◌^◌, ◌≤◌, ◌<◌, length, drop, true, false};
 ghost use Rattle.integers.specs.Integer.{magnitude_of, plus, minus, read_int, read_signed, whole_of, u16_of, u32_of, i16_of, i32_of};
 

@@ -2,6 +2,8 @@
 //
 // A mapping is a value, `Kbm`, and a lent table of `count` entries: in the table a number from -32768 to 32767 is a degree,
 // `UNMAPPED` is no degree, and any other number is unusable (10).
+#![tactic(auto)]
+
 ghost use Rattle.std.specs.Prelude.{◌≡◌, true, ◌+ℤ◌, ◌-ℤ◌, ◌*ℤ◌};
 ghost use Rattle.base.specs.Integers.{held};
 ghost use Rattle.integer_math.specs.Answers.{says_i32};

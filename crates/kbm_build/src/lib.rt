@@ -3,6 +3,8 @@
 // The state goes by value. It fits a table of `room` places, of which it has filled `count`; with any other table it is
 // refused (10). A refused push leaves the table as it was. `new(root, &map)`, then `push_mapped_key(&mut map, 0)`, then
 // `formal_octave(12)`, then `build(&map)` is a mapping of one entry, 0, for keys 0..127.
+#![tactic(auto)]
+
 ghost use Rattle.std.specs.Prelude.{◌≡◌};
 ghost use Rattle.kbm.specs.Answers.{says_kbm};
 ghost use Rattle.kbm.specs.declared.Entry.TheVariants.{Mapped, Unmapped};

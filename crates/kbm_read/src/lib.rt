@@ -1,6 +1,8 @@
 // The reader of keyboard mappings. Document 01, "Lines" and "Mapping"; the Rust's `import_kbm`.
 //
 // A first pass goes over the lines and finds the mapping or the first fault; a second, which cannot fail, writes the entries.
+#![tactic(auto)]
+
 mod line;
 
 ghost use Rattle.std.specs.Prelude.{◌≡◌, ℕ, ◌-◌, ◌≤◌, length};

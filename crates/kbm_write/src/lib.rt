@@ -1,4 +1,6 @@
 // Keyboard mappings out: the text of a mapping, the Rust's `KbmExport`. Document 01, "Writing".
+#![tactic(auto)]
+
 ghost use Rattle.std.specs.Prelude.{◌≡◌, true, ◌+◌, ◌≤◌, length};
 ghost use Rattle.std.proofs.lemmas.List.Edits.{sets};
 ghost use Rattle.base.specs.Tables.{after};

@@ -1,4 +1,6 @@
 // Keys of a keyboard, and degrees of a scale: numbers that stay apart. The Rust's key.rs; document 01, "What is taken", 2.
+#![tactic(auto)]
+
 ghost use Rattle.std.specs.Prelude.{◌≡◌};
 ghost use Rattle.integer_math.specs.Answers.{says_i32};
 ghost use Rattle.key.specs.Answers.{says_key, says_midi};

@@ -1,4 +1,6 @@
 // What a line of the program `keytable` is made of: numbers with three decimals, and how far a pitch lies above another in cents.
+#![tactic(auto)]
+
 ghost use Rattle.std.specs.Prelude.{◌≡◌, false};
 ghost use Rattle.base.specs.Said.{pick};
 ghost use Rattle.floats.specs.Answers.{says_float};

@@ -1,4 +1,6 @@
 // A guess at the logarithm of y / 2^62. Nothing rests on it but speed: who uses it tests it.
+#![tactic(auto)]
+
 mod table;
 
 ghost use Rattle.std.specs.Prelude.{◌^◌, ◌<◌};

@@ -1,4 +1,6 @@
 // Powers of two whose exponents have few bits, from tables over the bits of h.
+#![tactic(auto)]
+
 ghost use Rattle.std.specs.Prelude.{◌≡◌, ℕ, ◌/◌, ◌%◌, ◌^◌};
 ghost use Rattle.log_roots.specs.Roots.{Rooted};
 

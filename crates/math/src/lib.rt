@@ -1,4 +1,6 @@
 // The Rust's math.rs; document 01, "What is taken", 1.
+#![tactic(auto)]
+
 ghost use Rattle.std.specs.Prelude.{◌≡◌};
 ghost use Rattle.integer_math.specs.Answers.{says_i32};
 ghost use Rattle.math.specs.Answers.{says_u32, says_division};

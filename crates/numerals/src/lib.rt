@@ -1,5 +1,7 @@
 // Rust's f64 text, taken apart: which numeral a text writes, with its digits counted, or none. Document 01, "Lines". Which
 // numerals are taken, and what they are worth, is said in the crate `decimals`.
+#![tactic(auto)]
+
 ghost use Rattle.std.specs.Prelude.{◌≡◌, ◌^◌, ◌<◌, ◌≤◌, length, drop};
 ghost use Rattle.numerals.specs.Scan.{grown_by, counted_by, run_at, lowered, spelled, after_sign, after_dot, mark_at, exponent_at, ended_at, word_at, minus_first, number_at, scan_of};
 

@@ -1,5 +1,7 @@
 // Pitches in Hz and ratios of two of them: numbers that stay apart. The Rust's pitch.rs; document 01, "Logarithm and power".
 // A given pitch or ratio outside 2^-900..2^900 is refused by 10, a computed one by 18 at its step.
+#![tactic(auto)]
+
 use base::Refusal;
 
 mod measures;

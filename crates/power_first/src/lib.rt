@@ -1,4 +1,6 @@
 // P after E's first steps, from a table over the highest bits of b.
+#![tactic(auto)]
+
 ghost use Rattle.std.specs.Prelude.{◌≡◌, ℕ, ◌+◌, ◌/◌, ◌%◌, ◌^◌, ◌<◌};
 ghost use Rattle.powers.specs.Inner.{Power};
 

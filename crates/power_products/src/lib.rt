@@ -1,4 +1,6 @@
 // Products of what E's middle steps multiply by, from tables over the bits of b.
+#![tactic(auto)]
+
 ghost use Rattle.std.specs.Prelude.{◌≡◌, ℕ, ◌/◌, ◌%◌, ◌^◌};
 ghost use Rattle.power_parts.specs.Parts.{Part};
 

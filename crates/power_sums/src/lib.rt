@@ -1,4 +1,6 @@
 // Sums of what the factors of E's last steps have beyond 2^62, from tables over the bits of b.
+#![tactic(auto)]
+
 ghost use Rattle.std.specs.Prelude.{◌≡◌, ℕ, ◌/◌, ◌%◌, ◌^◌};
 ghost use Rattle.power_parts.specs.Parts.{Rise};
 

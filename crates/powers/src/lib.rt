@@ -1,4 +1,6 @@
 // The steps of E and of L, one by one, as document 01 gives them ("Logarithm and power"): P, and B.
+#![tactic(auto)]
+
 mod table;
 
 ghost use Rattle.std.specs.Prelude.{◌≡◌, ◌^◌, ◌≤◌, ◌<◌};

@@ -1,5 +1,7 @@
 // Numbers out: decimals with 0 to 4 places (crate `fixed`), and integers, into lent bytes. Document 01, "Writing"; the optional
 // plus is request W3's.
+#![tactic(auto)]
+
 ghost use Rattle.std.specs.Prelude.{◌≡◌, ◌+◌, ◌^◌, ◌<◌, ◌≤◌, T, pos, nat_abs, length};
 ghost use Rattle.std.proofs.lemmas.List.Edits.{sets};
 ghost use Rattle.printing.specs.PrintText.{limited, digits_of, width_of, sign_text, point_text, parts_text, text_of, integer_text, whole_text, placed, written};

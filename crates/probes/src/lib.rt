@@ -1,4 +1,6 @@
 // Inner functions that only the comparison with the Rust calls. Nothing here is part of the interface.
+#![tactic(auto)]
+
 pub mod texts;
 
 ghost use Rattle.std.specs.Prelude.{◌≡◌};

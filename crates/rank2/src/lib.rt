@@ -3,6 +3,8 @@
 // The notes are pushed in ascending order into a builder beside the lent tables, as the Rust does it; the caller has the description.
 // Whether 18 arises is known from the highest note, before anything is written. From then on the list's columns, which the build
 // writes anew, serve to bring the notes in order. `create_rank2_temperament_scale(Ratio(1.5), 6, 0, Ratio(2.0), ..)` is the Lydian scale.
+#![tactic(auto)]
+
 mod notes;
 
 ghost use Rattle.std.specs.Prelude.{◌≡◌, true, not, ◌≤◌, ◌<◌, length, take};

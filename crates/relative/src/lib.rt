@@ -3,6 +3,8 @@
 //
 // A scale is lent as columns: items (`kind`, `cents`, `numer`, `denom`) and the sorted list (`place`, `ratio`, `wraps`), beside an `Scl`
 // with the count of its items, place 0 not among them. A call tests all tables lent to it first (10).
+#![tactic(auto)]
+
 pub mod rooted;
 
 ghost use Rattle.std.specs.Prelude.{◌≡◌, true, ◌≤◌, get_or};

@@ -1,5 +1,7 @@
 // Rust's `%` on f64, by whole numbers: exact, and the same on every machine. The language's own would call C's `fmod`. On it,
 // std's euclidean division.
+#![tactic(auto)]
+
 ghost use Rattle.std.specs.Prelude.{◌≡◌, ◌*◌, ◌%◌, ◌^◌, ◌<◌, ◌≤◌, T, false};
 ghost use Rattle.std.specs.Float.Ieee as Ieee;
 ghost use Rattle.std.specs.Float.{binary64};

@@ -3,6 +3,8 @@
 // Items stand in four lent columns, place for place. The kind says what an item is: `CENTS` the number in `cents`, `FRACTION` the
 // fraction `numer` / `denom`, `WHOLE` the integer `numer`; any other kind is unusable (10). What a kind does not use is stored as 0.
 // Place 0 holds the implicit 0.0 cents, item j stands at place j, and a scale of `count` items has `count` + 1 places.
+#![tactic(auto)]
+
 ghost use Rattle.std.specs.Prelude.{◌≡◌, true, ◌≤◌, ◌<◌, length, take, get_or};
 ghost use Rattle.std.specs.Float.{nan};
 ghost use Rattle.pitch.specs.Answers.{says_ratio};

@@ -3,6 +3,8 @@
 // The state goes by value. It fits columns of `room` places or more, of which it has filled place 0 and `count` after it; with any
 // shorter column it is refused (10). A refused call writes nothing. `new(.., &place, &ratio, &wraps)`, then `push_fraction(.., 3, 2)`
 // and `push_int(.., 2)`, then `build(.., &mut place, &mut ratio, &mut wraps)` is a scale of two items, 3/2 and 2, with its sorted list.
+#![tactic(auto)]
+
 ghost use Rattle.std.specs.Prelude.{◌≡◌, ◌&&◌, leb, ltb};
 ghost use Rattle.scl.specs.Answers.{says_scl};
 ghost use Rattle.scl.specs.Table.{item_table};

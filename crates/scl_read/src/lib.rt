@@ -2,6 +2,8 @@
 //
 // A first pass goes over the lines and finds the scale or the first fault; a second, which cannot fail, writes the items, and the
 // sorted list is built of them; a third, to the first line with content, finds the description (`description_of`).
+#![tactic(auto)]
+
 mod item;
 mod line;
 

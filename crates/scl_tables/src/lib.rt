@@ -2,6 +2,8 @@
 // `push_pitch_value` and `SclBuilder::build`; document 01, "Scales and searches".
 //
 // An inner crate: what it asks of the tables, the builder, the reader and the generators have made sure of.
+#![tactic(auto)]
+
 pub mod reduction;
 
 ghost use Rattle.std.specs.Prelude.{◌≡◌, true, ◌<◌, ◌≤◌, ◌-◌, min, pos, length, get_or, set};

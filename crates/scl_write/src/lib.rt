@@ -1,4 +1,6 @@
 // Scales out: the text of a scale, the Rust's `SclExport`. Document 01, "Writing".
+#![tactic(auto)]
+
 ghost use Rattle.std.specs.Prelude.{◌≡◌, true, ◌+◌, ◌≤◌, length};
 ghost use Rattle.std.proofs.lemmas.List.Edits.{sets};
 ghost use Rattle.base.specs.Tables.{after};

@@ -2,6 +2,8 @@
 // Document 01, "Scales and searches".
 //
 // An inner crate: its callers have tested the lent tables and the ratio.
+#![tactic(auto)]
+
 pub mod approximation;
 
 ghost use Rattle.std.specs.Prelude.{◌≡◌, true, ◌&&◌, ◌≤◌, ◌<◌, get_or};

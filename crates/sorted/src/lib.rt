@@ -2,6 +2,8 @@
 // search starts. Document 01, "Scales and searches".
 //
 // An inner crate: what `number`, `arrange` and `first_not_below` ask of their columns, their callers have made sure of.
+#![tactic(auto)]
+
 ghost use Rattle.std.specs.Prelude.{◌≡◌, ◌&&◌, ◌≤◌, ◌<◌, length, get_or, set, take, pos, T, leb, ltb};
 ghost use Rattle.std.specs.Float.{nan};
 ghost use Rattle.std.specs.Float.Ieee.Positive.{positive};

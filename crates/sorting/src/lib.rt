@@ -2,6 +2,8 @@
 // memory; one pass over a list that is in order. Document 01, "Scales and searches".
 //
 // An inner crate: what it asks of its columns, its callers have made sure of.
+#![tactic(auto)]
+
 ghost use Rattle.std.specs.Prelude.{◌≡◌, ◌+◌, ◌*◌, ◌≤◌, ◌<◌, length, pos};
 ghost use Rattle.std.specs.Float.{nan};
 ghost use Rattle.sorting.specs.Entries.{zip, Columns};

@@ -1,5 +1,7 @@
 // How the interface for C answers: the result is 0, or detail * 256 + number of a refusal; a value is stored where the caller lent
 // room for it, and a refusal leaves that room as it was.
+#![tactic(auto)]
+
 ghost use Rattle.std.specs.Prelude.{◌≡◌};
 ghost use Rattle.floats.specs.Answers.{says_float};
 ghost use Rattle.kbm.specs.Answers.{says_degree};

@@ -1,4 +1,6 @@
 // Keyboard mappings for C: a lent table of entries, and beside it the mapping's numbers. An entry is a degree from -32768 to 32767, or -2147483648 for none.
+#![tactic(auto)]
+
 ghost use Rattle.std.specs.Prelude.{◌≡◌};
 ghost use Rattle.key.specs.Keys.{key};
 ghost use Rattle.kbm.specs.Root.{root_of};

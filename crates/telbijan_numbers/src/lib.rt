@@ -1,4 +1,6 @@
 // Whole numbers, keys, powers, ratios and pitches for C: include/telbijan.h declares the functions.
+#![tactic(auto)]
+
 pub mod integers;
 pub mod keys;
 pub mod pitches;

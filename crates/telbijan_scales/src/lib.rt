@@ -1,4 +1,6 @@
 // Scales for C: seven lent columns, the items' four and the sorted list's three, and beside them the count of items.
+#![tactic(auto)]
+
 pub mod generators;
 
 ghost use Rattle.scl.specs.Table.{item_of};

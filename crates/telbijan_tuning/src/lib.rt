@@ -1,4 +1,6 @@
 // Pitches for C: of degrees and keys, over a scale's lent columns, and a root or a mapping beside them.
+#![tactic(auto)]
+
 pub mod middle;
 pub mod searches;
 

@@ -3,6 +3,8 @@
 //
 // Every call tests the tables lent to it and the root first (10); then come the key's refusals, 11 for the root offset (or those of the
 // reference key), 18.
+#![tactic(auto)]
+
 pub mod key_pitches;
 
 ghost use Rattle.std.specs.Prelude.{◌≡◌, true, ◌&&◌};

@@ -1,4 +1,6 @@
 // Whether a line is UTF-8. Document 01, "Lines": each line, comment or not, must be UTF-8.
+#![tactic(auto)]
+
 pub mod eights;
 
 ghost use Rattle.std.specs.Prelude.{◌≡◌};

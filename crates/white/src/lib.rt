@@ -1,4 +1,6 @@
 // White space at both ends of a line. Document 01, "Lines": a line is trimmed of Unicode White_Space at both ends.
+#![tactic(auto)]
+
 ghost use Rattle.std.specs.Prelude.{◌≡◌, reverse, ℕ, ◌-◌, ◌≤◌, ◌<◌, length, take, drop, get_or};
 ghost use Rattle.white.specs.Trim.{white1, white2, white3, general, white_width, front, back, run};
 

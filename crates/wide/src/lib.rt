@@ -1,4 +1,6 @@
 // Products of two 64-bit numbers, wider than 64 bits: their upper half and their lower.
+#![tactic(auto)]
+
 ghost use Rattle.std.specs.Prelude.{◌≡◌, ◌*◌, ◌/◌, ◌%◌, ◌^◌, ◌<◌};
 
 // 2^32: a number of 64 bits is two halves, upper * HALF + lower.

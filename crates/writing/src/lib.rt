@@ -1,4 +1,6 @@
 // Texts out, line by line, into lent bytes: what the exports of mappings and of scales share. Document 01, "Writing".
+#![tactic(auto)]
+
 ghost use Rattle.std.specs.Prelude.{◌≡◌, false, ◌+◌, ◌≤◌, ◌<◌, T, length, set};
 ghost use Rattle.std.proofs.lemmas.List.Edits.{sets};
 ghost use Rattle.printing.specs.PrintText.{limited, text_of, whole_text};

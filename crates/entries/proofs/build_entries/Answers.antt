@@ -17,6 +17,6 @@ returns c =
       built.ensures.0,
       built.ensures.1,
       c.store_list.ensures
-      ∙ ap (λ (i : ℕ). over old (first_of i (list_table built.new.place built.new.ratio built.new.wraps))) c.stored_of-n.ensures
-      ∙ built.ensures.2.stored old,
+          ∙ ap (λ (i : ℕ). over old (first_of i (list_table built.new.place built.new.ratio built.new.wraps))) c.stored_of-n.ensures
+          ∙ built.ensures.2.stored old,
     )

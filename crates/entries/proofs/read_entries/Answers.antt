@@ -18,6 +18,6 @@ returns c =
       read.ensures.1,
       read.ensures.2,
       c.store_list.ensures
-      ∙ ap (λ (i : ℕ). over old (first_of i (list_table read.new.place read.new.ratio read.new.wraps))) c.stored_of_read-n.ensures
-      ∙ read.ensures.3.stored old,
+          ∙ ap (λ (i : ℕ). over old (first_of i (list_table read.new.place read.new.ratio read.new.wraps))) c.stored_of_read-n.ensures
+          ∙ read.ensures.3.stored old,
     )

@@ -31,14 +31,13 @@ pub loop-at-smaller : goal.loop-at-smaller
 loop-at-smaller c = omega arith
 
 pub loop-at-preserved : goal.loop-at-preserved
-loop-at-preserved c =
-    (
-      omega arith,
-      omega (arith, c.counted-significant.ensures, counted_le c.loop-at.number c.wide-d.result c.loop-at.significant),
-      rw c.grown-number.ensures (grown_small c.loop-at.number c.wide-d.result c.loop-at.invariant.2 (omega arith)),
-      rw (c.grown-number.ensures, c.counted-significant.ensures, c.wide-d.ensures)
-          (c.loop-at.invariant.3 ∙ run_step _ _ _ _ c.loop-at-test.true (digit_yes _ c.if-b-lt48.false c.if-b-gt57.false)),
-    )
+loop-at-preserved c = (
+  omega arith,
+  omega (arith, c.counted-significant.ensures, counted_le c.loop-at.number c.wide-d.result c.loop-at.significant),
+  rw c.grown-number.ensures (grown_small c.loop-at.number c.wide-d.result c.loop-at.invariant.2 (omega arith)),
+  rw (c.grown-number.ensures, c.counted-significant.ensures, c.wide-d.ensures)
+      (c.loop-at.invariant.3 ∙ run_step _ _ _ _ c.loop-at-test.true (digit_yes _ c.if-b-lt48.false c.if-b-gt57.false)),
+)
 
 pub returns : goal.returns
 returns c = sym (c.loop-at.invariant.3 ∙ run_end _ _ _ _ c.loop-at-test.false)

@@ -42,13 +42,12 @@ pub loop-left-smaller : goal.loop-left-smaller
 loop-left-smaller c = omega arith
 
 pub loop-left-preserved : goal.loop-left-preserved
-loop-left-preserved c =
-    (
-      omega arith,
-      simp length-set c.loop-left.invariant.1,
-      omega arith,
-      step_digits c.args.n c.pow10-p.result c.loop-left.left c.loop-left.i c.loop-left.out c.loop-left-test.true c.pow10-p.ensures ∙ c.loop-left.invariant.3,
-    )
+loop-left-preserved c = (
+  omega arith,
+  simp length-set c.loop-left.invariant.1,
+  omega arith,
+  step_digits c.args.n c.pow10-p.result c.loop-left.left c.loop-left.i c.loop-left.out c.loop-left-test.true c.pow10-p.ensures ∙ c.loop-left.invariant.3,
+)
 
 pub shape_of-out : goal.shape_of-out
 shape_of-out c = c.loop-left.invariant.1

@@ -51,9 +51,9 @@ loop-q-preserved c =
 pub returns : goal.returns
 returns c =
     record {
-  exact = c.loop-q.invariant.0;
-  small = c.loop-q.invariant.1;
-  low = c.loop-q-test.false;
-  high = c.loop-q.invariant.2;
-  few = omega arith;
-}
+      exact = c.loop-q.invariant.0;
+      small = c.loop-q.invariant.1;
+      low = c.loop-q-test.false;
+      high = c.loop-q.invariant.2;
+      few = omega arith;
+    }

@@ -37,8 +37,7 @@ loop-at-smaller c = let t = the_turn (goal.at.loop-at-smaller c).After-read_line
 
 pub loop-at-preserved : goal.loop-at-preserved
 loop-at-preserved c =
-    let t = the_turn (goal.at.loop-at-preserved c).After-read_line-says in
-    (
+    let t = the_turn (goal.at.loop-at-preserved c).After-read_line-says in (
       t.stays,
       omega arith,
       c.loop-at.invariant.2 ∙ walk_turn (take_meaning _) finished _ _ says_step t.first c.take_line-step.ensures c.in-Is.is,

@@ -34,12 +34,11 @@ pub loop-i-smaller : goal.loop-i-smaller
 loop-i-smaller c = omega arith
 
 pub loop-i-preserved : goal.loop-i-preserved
-loop-i-preserved c =
-    (
-      omega arith,
-      omega (arith, counted c, left_length c.args.count (item_table c.args.kind.now c.args.cents.now c.args.numer.now c.args.denom.now) c.requires.0 c.loop-i.i c.loop-i-test.true),
-      omega (arith, c.item_length-total.ensures.1),
-    )
+loop-i-preserved c = (
+  omega arith,
+  omega (arith, counted c, left_length c.args.count (item_table c.args.kind.now c.args.cents.now c.args.numer.now c.args.denom.now) c.requires.0 c.loop-i.i c.loop-i-test.true),
+  omega (arith, c.item_length-total.ensures.1),
+)
 
 pub returns : goal.returns
 returns c =

@@ -21,11 +21,11 @@ loop-k-preserved c =
     let in_k : c.loop-k.k < length c.loop-k.place = omega (arith, c.loop-k.invariant.ratios, c.loop-k-test.true) in
     elim c.if-is_near.branch [
       | then-is_near w ↦
-        rw (w.place-is, w.ratio-is, w.wraps-is, w.q-is, w.copy_entry.ensures.0, w.copy_entry.ensures.1, w.copy_entry.ensures.2)
-        (pass_repeat c.loop-k.invariant in_k (sym c.is_near.ensures ∙ w.if-is_near.true))
+          rw (w.place-is, w.ratio-is, w.wraps-is, w.q-is, w.copy_entry.ensures.0, w.copy_entry.ensures.1, w.copy_entry.ensures.2)
+          (pass_repeat c.loop-k.invariant in_k (sym c.is_near.ensures ∙ w.if-is_near.true))
       | else-is_near w ↦
-        rw (w.place-is, w.ratio-is, w.wraps-is, w.q-is)
-        (pass_new c.loop-k.invariant in_k (sym c.is_near.ensures ∙ w.if-is_near.false))
+          rw (w.place-is, w.ratio-is, w.wraps-is, w.q-is)
+          (pass_new c.loop-k.invariant in_k (sym c.is_near.ensures ∙ w.if-is_near.false))
     ]
 
 pub returns : goal.returns

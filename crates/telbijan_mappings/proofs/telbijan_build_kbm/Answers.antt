@@ -16,18 +16,16 @@ told c =
     rw (c.octave_of.ensures, to_z-of_z c.ranges.start, to_z-of_z c.ranges.end, to_z-of_z c.ranges.reference, to_z-of_z c.ranges.offset, to_z-of_z c.ranges.octave) at c.build.ensures
 
 pub returns-in-Is : goal.returns-in-Is
-returns-in-Is c =
-    (
-      accepted says_kbm (told (goal.at.returns-in-Is c).After-build) c.in-Is.is refl,
-      stored_part says_kbm (told (goal.at.returns-in-Is c).After-build) c.in-Is.is (λ k. k.count) c.args.entries.now refl refl,
-      stored_part says_kbm (told (goal.at.returns-in-Is c).After-build) c.in-Is.is (λ k. k.octave) c.args.formal.now refl
-          (to_z-of_z {w = w16} (search rules)),
-    )
+returns-in-Is c = (
+  accepted says_kbm (told (goal.at.returns-in-Is c).After-build) c.in-Is.is refl,
+  stored_part says_kbm (told (goal.at.returns-in-Is c).After-build) c.in-Is.is (λ k. k.count) c.args.entries.now refl refl,
+  stored_part says_kbm (told (goal.at.returns-in-Is c).After-build) c.in-Is.is (λ k. k.octave) c.args.formal.now refl
+      (to_z-of_z {w = w16} (search rules)),
+)
 
 pub returns-in-Refused : goal.returns-in-Refused
-returns-in-Refused c =
-    (
-      refused says_kbm (told (goal.at.returns-in-Refused c).After-build) c.in-Refused.is _ refl c.code_of.ensures,
-      stays_part says_kbm (told (goal.at.returns-in-Refused c).After-build) c.in-Refused.is (λ k. k.count) _ c.args.entries.now refl,
-      stays_part says_kbm (told (goal.at.returns-in-Refused c).After-build) c.in-Refused.is (λ k. k.octave) _ c.args.formal.now refl,
-    )
+returns-in-Refused c = (
+  refused says_kbm (told (goal.at.returns-in-Refused c).After-build) c.in-Refused.is _ refl c.code_of.ensures,
+  stays_part says_kbm (told (goal.at.returns-in-Refused c).After-build) c.in-Refused.is (λ k. k.count) _ c.args.entries.now refl,
+  stays_part says_kbm (told (goal.at.returns-in-Refused c).After-build) c.in-Refused.is (λ k. k.octave) _ c.args.formal.now refl,
+)

@@ -17,17 +17,15 @@ told_table : (c : After-push_mapped_key) → c.push_mapped_key.new.map ≡ after
 told_table c = rw (c.pushing.ensures, to_z-of_z c.ranges.degree) at c.push_mapped_key.ensures.1
 
 pub returns-in-Is : goal.returns-in-Is
-returns-in-Is c =
-    (
-      accepted says_builder (told (goal.at.returns-in-Is c).After-push_mapped_key) c.in-Is.is refl,
-      told_table (goal.at.returns-in-Is c).After-push_mapped_key,
-      stored_part says_builder (told (goal.at.returns-in-Is c).After-push_mapped_key) c.in-Is.is (λ b. b.count) c.args.after.now refl refl,
-    )
+returns-in-Is c = (
+  accepted says_builder (told (goal.at.returns-in-Is c).After-push_mapped_key) c.in-Is.is refl,
+  told_table (goal.at.returns-in-Is c).After-push_mapped_key,
+  stored_part says_builder (told (goal.at.returns-in-Is c).After-push_mapped_key) c.in-Is.is (λ b. b.count) c.args.after.now refl refl,
+)
 
 pub returns-in-Refused : goal.returns-in-Refused
-returns-in-Refused c =
-    (
-      refused says_builder (told (goal.at.returns-in-Refused c).After-push_mapped_key) c.in-Refused.is _ refl c.code_of.ensures,
-      told_table (goal.at.returns-in-Refused c).After-push_mapped_key,
-      stays_part says_builder (told (goal.at.returns-in-Refused c).After-push_mapped_key) c.in-Refused.is (λ b. b.count) _ c.args.after.now refl,
-    )
+returns-in-Refused c = (
+  refused says_builder (told (goal.at.returns-in-Refused c).After-push_mapped_key) c.in-Refused.is _ refl c.code_of.ensures,
+  told_table (goal.at.returns-in-Refused c).After-push_mapped_key,
+  stays_part says_builder (told (goal.at.returns-in-Refused c).After-push_mapped_key) c.in-Refused.is (λ b. b.count) _ c.args.after.now refl,
+)

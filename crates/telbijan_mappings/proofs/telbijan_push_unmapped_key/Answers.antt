@@ -16,17 +16,15 @@ told_table : (c : After-push_unmapped_key) → c.push_unmapped_key.new.map ≡ a
 told_table c = rw c.pushing.ensures at c.push_unmapped_key.ensures.1
 
 pub returns-in-Is : goal.returns-in-Is
-returns-in-Is c =
-    (
-      accepted says_builder (told (goal.at.returns-in-Is c).After-push_unmapped_key) c.in-Is.is refl,
-      told_table (goal.at.returns-in-Is c).After-push_unmapped_key,
-      stored_part says_builder (told (goal.at.returns-in-Is c).After-push_unmapped_key) c.in-Is.is (λ b. b.count) c.args.after.now refl refl,
-    )
+returns-in-Is c = (
+  accepted says_builder (told (goal.at.returns-in-Is c).After-push_unmapped_key) c.in-Is.is refl,
+  told_table (goal.at.returns-in-Is c).After-push_unmapped_key,
+  stored_part says_builder (told (goal.at.returns-in-Is c).After-push_unmapped_key) c.in-Is.is (λ b. b.count) c.args.after.now refl refl,
+)
 
 pub returns-in-Refused : goal.returns-in-Refused
-returns-in-Refused c =
-    (
-      refused says_builder (told (goal.at.returns-in-Refused c).After-push_unmapped_key) c.in-Refused.is _ refl c.code_of.ensures,
-      told_table (goal.at.returns-in-Refused c).After-push_unmapped_key,
-      stays_part says_builder (told (goal.at.returns-in-Refused c).After-push_unmapped_key) c.in-Refused.is (λ b. b.count) _ c.args.after.now refl,
-    )
+returns-in-Refused c = (
+  refused says_builder (told (goal.at.returns-in-Refused c).After-push_unmapped_key) c.in-Refused.is _ refl c.code_of.ensures,
+  told_table (goal.at.returns-in-Refused c).After-push_unmapped_key,
+  stays_part says_builder (told (goal.at.returns-in-Refused c).After-push_unmapped_key) c.in-Refused.is (λ b. b.count) _ c.args.after.now refl,
+)

@@ -17,21 +17,19 @@ told : (c : After-read_kbm) → says_kbm c.read_kbm.result ≡ read_of (length c
 told c = c.read_kbm.ensures.0
 
 pub returns-in-Is : goal.returns-in-Is
-returns-in-Is c =
-    (
-      accepted says_kbm (told (goal.at.returns-in-Is c).After-read_kbm) c.in-Is.is refl,
-      c.read_kbm.ensures.1,
-      stored says_kbm (told (goal.at.returns-in-Is c).After-read_kbm) c.in-Is.is (mapping_with c.args.count.now c.args.start.now c.args.end.now c.args.reference.now c.args.hz.now
-    c.args.offset.now c.args.octave.now) refl
-          (same_numbers refl (to_z-of_z {w = w32} (search rules)) (to_z-of_z {w = w32} (search rules)) (to_z-of_z {w = w32} (search rules)) refl
-          (to_z-of_z {w = w32} (search rules)) (to_z-of_z {w = w16} (search rules))),
-    )
+returns-in-Is c = (
+  accepted says_kbm (told (goal.at.returns-in-Is c).After-read_kbm) c.in-Is.is refl,
+  c.read_kbm.ensures.1,
+  stored says_kbm (told (goal.at.returns-in-Is c).After-read_kbm) c.in-Is.is (mapping_with c.args.count.now c.args.start.now c.args.end.now c.args.reference.now c.args.hz.now
+      c.args.offset.now c.args.octave.now) refl
+      (same_numbers refl (to_z-of_z {w = w32} (search rules)) (to_z-of_z {w = w32} (search rules)) (to_z-of_z {w = w32} (search rules)) refl
+      (to_z-of_z {w = w32} (search rules)) (to_z-of_z {w = w16} (search rules))),
+)
 
 pub returns-in-Refused : goal.returns-in-Refused
-returns-in-Refused c =
-    (
-      refused says_kbm (told (goal.at.returns-in-Refused c).After-read_kbm) c.in-Refused.is _ refl c.code_of.ensures,
-      c.read_kbm.ensures.1,
-      stays says_kbm (told (goal.at.returns-in-Refused c).After-read_kbm) c.in-Refused.is _ (mapping_with c.args.count.now c.args.start.now c.args.end.now c.args.reference.now c.args.hz.now
-    c.args.offset.now c.args.octave.now) refl,
-    )
+returns-in-Refused c = (
+  refused says_kbm (told (goal.at.returns-in-Refused c).After-read_kbm) c.in-Refused.is _ refl c.code_of.ensures,
+  c.read_kbm.ensures.1,
+  stays says_kbm (told (goal.at.returns-in-Refused c).After-read_kbm) c.in-Refused.is _ (mapping_with c.args.count.now c.args.start.now c.args.end.now c.args.reference.now c.args.hz.now
+      c.args.offset.now c.args.octave.now) refl,
+)

@@ -24,13 +24,12 @@ pub loop-i-smaller-then-st-eq0 : goal.loop-i-smaller-then-st-eq0
 loop-i-smaller-then-st-eq0 c = omega arith
 
 pub loop-i-preserved-then-st-eq0 : goal.loop-i-preserved-then-st-eq0
-loop-i-preserved-then-st-eq0 c =
-    (
-      passed_end c.pass-i-then-st-eq0.ensures (omega arith),
-      c.loop-i.invariant.1
-          ∙ run_turn _ _ _ c.loop-i-test.true c.advance.ensures c.in-Go.is
-          ∙ run_pass c.in-Go.t c.if-st-eq0.true c.pass-i-then-st-eq0.ensures,
-    )
+loop-i-preserved-then-st-eq0 c = (
+  passed_end c.pass-i-then-st-eq0.ensures (omega arith),
+  c.loop-i.invariant.1
+      ∙ run_turn _ _ _ c.loop-i-test.true c.advance.ensures c.in-Go.is
+      ∙ run_pass c.in-Go.t c.if-st-eq0.true c.pass-i-then-st-eq0.ensures,
+)
 
 pub loop-i-smaller : goal.loop-i-smaller
 loop-i-smaller c = omega arith

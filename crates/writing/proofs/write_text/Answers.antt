@@ -34,12 +34,11 @@ pub loop-i-smaller : goal.loop-i-smaller
 loop-i-smaller c = omega arith
 
 pub loop-i-preserved : goal.loop-i-preserved
-loop-i-preserved c =
-    (
-      omega arith,
-      simp length-set c.loop-i.invariant.1,
-      rw (sym (add_assoc c.args.at c.loop-i.i 1)) (byte_sets c.args.text.now c.loop-i.i c.loop-i.out (c.args.at + c.loop-i.i) (omega arith) ∙ c.loop-i.invariant.2),
-    )
+loop-i-preserved c = (
+  omega arith,
+  simp length-set c.loop-i.invariant.1,
+  rw (sym (add_assoc c.args.at c.loop-i.i 1)) (byte_sets c.args.text.now c.loop-i.i c.loop-i.out (c.args.at + c.loop-i.i) (omega arith) ∙ c.loop-i.invariant.2),
+)
 
 pub overflow_add-out-2 : goal.overflow_add-out-2
 overflow_add-out-2 c = omega (arith, room (goal.at.overflow_add-out-2 c).Start)

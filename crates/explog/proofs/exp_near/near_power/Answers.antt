@@ -10,21 +10,19 @@ pub mul_shift62-head-requires : goal.mul_shift62-head-requires
 mul_shift62-head-requires c = (power_below _ _ _ (lit≤ tt) c.first_steps.ensures, part_below _ _ _ _ (lit≤ tt) c.product_1.ensures)
 
 pub mul_shift62-body-requires : goal.mul_shift62-body-requires
-mul_shift62-body-requires c =
-    (
-      first_below _ _ _ (lit≤ tt) c.first_steps.ensures _ _ _ (lit≤ tt) c.product_1.ensures c.mul_shift62-head.ensures,
-      pair_below _ _ _ (lit≤ tt) c.first_steps.ensures _ _ _ (lit≤ tt) c.product_1.ensures c.mul_shift62-head.ensures _ _ _ _ _ (lit≤ tt) (lit≤ tt) c.product_2.ensures
-          c.product_3.ensures c.mul_shift62-tail.ensures,
-    )
+mul_shift62-body-requires c = (
+  first_below _ _ _ (lit≤ tt) c.first_steps.ensures _ _ _ (lit≤ tt) c.product_1.ensures c.mul_shift62-head.ensures,
+  pair_below _ _ _ (lit≤ tt) c.first_steps.ensures _ _ _ (lit≤ tt) c.product_1.ensures c.mul_shift62-head.ensures _ _ _ _ _ (lit≤ tt) (lit≤ tt) c.product_2.ensures
+      c.product_3.ensures c.mul_shift62-tail.ensures,
+)
 
 pub mul_shift62-requires : goal.mul_shift62-requires
-mul_shift62-requires c =
-    (
-      three_below _ _ _ (lit≤ tt) c.first_steps.ensures _ _ _ (lit≤ tt) c.product_1.ensures
-          c.mul_shift62-head.ensures _ _ _ _ _ (lit≤ tt) (lit≤ tt) c.product_2.ensures
-          c.product_3.ensures c.mul_shift62-tail.ensures _ c.mul_shift62-body.ensures,
-      search rules,
-    )
+mul_shift62-requires c = (
+  three_below _ _ _ (lit≤ tt) c.first_steps.ensures _ _ _ (lit≤ tt) c.product_1.ensures
+      c.mul_shift62-head.ensures _ _ _ _ _ (lit≤ tt) (lit≤ tt) c.product_2.ensures
+      c.product_3.ensures c.mul_shift62-tail.ensures _ c.mul_shift62-body.ensures,
+  search rules,
+)
 
 pub returns : goal.returns
 returns c =

@@ -5,11 +5,10 @@ use Rattle.explog.proofs.Crown.{first_most, pair_most, three_most, is_head}
 use Rattle.explog.proofs.log_near.root_power.Goals as goal
 
 pub mul_shift62-requires : goal.mul_shift62-requires
-mul_shift62-requires c =
-    (
-      lt_of_le_of_lt (first_most _ _ _ c.root_1.ensures.below c.root_2.ensures.below c.mul_shift62-head.ensures) (lit< tt),
-      lt_of_le_of_lt (pair_most _ _ _ c.root_3.ensures.below c.root_4.ensures.below c.mul_shift62-tail.ensures) (lit< tt),
-    )
+mul_shift62-requires c = (
+  lt_of_le_of_lt (first_most _ _ _ c.root_1.ensures.below c.root_2.ensures.below c.mul_shift62-head.ensures) (lit< tt),
+  lt_of_le_of_lt (pair_most _ _ _ c.root_3.ensures.below c.root_4.ensures.below c.mul_shift62-tail.ensures) (lit< tt),
+)
 
 pub mul_shift62-requires-2 : goal.mul_shift62-requires-2
 mul_shift62-requires-2 c =

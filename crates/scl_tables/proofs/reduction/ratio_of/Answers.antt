@@ -19,10 +19,9 @@ pub returns-in-Cents : goal.returns-in-Cents
 returns-in-Cents c = (c.cents_ratio.ensures.0 ∙ ap ratio_of (sym c.in-Cents.is), c.cents_ratio.ensures.1)
 
 pub returns-in-Fraction : goal.returns-in-Fraction
-returns-in-Fraction c =
-    (
-      c.fraction_ratio.ensures.0
-          ∙ ap (λ (d : ℕ). computed (div binary64 (of_int binary64 (pos c.in-Fraction.numer)) (of_int binary64 (pos d)))) c.denom_of.ensures
-          ∙ ap ratio_of (sym c.in-Fraction.is),
-      c.fraction_ratio.ensures.1,
-    )
+returns-in-Fraction c = (
+  c.fraction_ratio.ensures.0
+      ∙ ap (λ (d : ℕ). computed (div binary64 (of_int binary64 (pos c.in-Fraction.numer)) (of_int binary64 (pos d)))) c.denom_of.ensures
+      ∙ ap ratio_of (sym c.in-Fraction.is),
+  c.fraction_ratio.ensures.1,
+)
