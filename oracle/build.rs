@@ -15,7 +15,7 @@ const TAKEN: [(&str, &[&str]); 6] = [
 ];
 const ASKING: [&str; 2] = ["exp_near", "log_near"];
 
-/// A source without its contracts: what is left is Rust.
+/// A source without its contracts and what else is the prover's: what is left is Rust.
 fn as_rust(path: &str) -> String {
     println!("cargo:rerun-if-changed={path}");
     let text = fs::read_to_string(path).unwrap();
@@ -26,7 +26,7 @@ fn as_rust(path: &str) -> String {
         let clause = word.starts_with("ensures ") || word.starts_with("requires ");
         if clause || open > 0 {
             open += line.matches('{').count() as i32 - line.matches('}').count() as i32;
-        } else if !word.starts_with("ghost use ") && !word.starts_with("mod ") && !word.starts_with("//") {
+        } else if !["ghost use ", "mod ", "//", "#![tactic"].iter().any(|begin| word.starts_with(begin)) {
             writeln!(rust, "{line}").unwrap();
         }
     }
