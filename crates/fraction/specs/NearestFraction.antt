@@ -72,7 +72,7 @@ unfoldable pub walked : ℕ → Walk → Float → ℕ → Walk
 walked zero w target limit = w
 walked (suc k) w target limit = end_of (turn_of w target limit) (λ next. walked k next target limit)
 
--- more turns than a walk over fractions of 16 bits can have: `Walk-Ends` of proofs/WalkEnds.antt
+-- more turns than a walk over fractions of 16 bits can have: `walk_ends` of proofs/WalkEnds.antt
 abbrev pub turns : ℕ
 turns = 262144
 

@@ -1,5 +1,5 @@
 -- What a key of a mapping has: document 01, "Keys", as a relation. "For a key in first..last let d = key - reference key [..]
--- Order: 16, 11 for d, 17, 11." That the code answers it is `key_Has` of proofs/Theorems.antt. Assumes nothing.
+-- Order: 16, 11 for d, 17, 11." That the code answers it is `key_has` of proofs/Theorems.antt. Assumes nothing.
 use Rattle.std.specs.Prelude.{◌≡◌, Bool, true, false, List, ◌⊎◌, ℕ, ℤ, ◌+ℤ◌, ◌-ℤ◌, ◌*ℤ◌, length, get_or}
 use Rattle.base.specs.Integers.{Divides, in_i32}
 use Rattle.base.specs.Numbers.{overflow, key_out_of_range, unmapped_key}

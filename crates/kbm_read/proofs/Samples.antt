@@ -44,8 +44,8 @@ abbrev top : List ℕ
 top = 50 ∷ 49 ∷ 52 ∷ 55 ∷ 52 ∷ 56 ∷ 51 ∷ 54 ∷ 52 ∷ []
 
 -- no entries, key 60 alone, at 8 Hz
-abbrev one_key : Kbm
-one_key =
+abbrev sixty_alone : Kbm
+sixty_alone =
     record {
       root = record { reference = key (pos 60); pitch = record { 0 = of_bits binary64 0x4020_0000_0000_0000 }; offset = pos 0 };
       start = key (pos 60);
@@ -73,7 +73,7 @@ pub record Samples : Type 0 where
   pub swapped : read_of 0 (49 ∷ 10 ∷ sixty ++ 53 ∷ 57 ∷ 10 ∷ 121 ∷ 10 ∷ 255 ∷ []) ≡ refuses 25 3
   pub later : read_of 8 (33 ∷ 10 ∷ 49 ∷ 10 ∷ 10 ∷ 53 ∷ 10 ∷ 33 ∷ 10 ∷ 52 ∷ 10 ∷ []) ≡ refuses 25 6
   -- `60` and `60` are one key, and stay
-  pub one_key : read_of 0 (48 ∷ 10 ∷ sixty ++ sixty ++ sixty ++ sixty ++ 56 ∷ 10 ∷ 48 ∷ []) ≡ gives one_key
+  pub one_key : read_of 0 (48 ∷ 10 ∷ sixty ++ sixty ++ sixty ++ sixty ++ 56 ∷ 10 ∷ 48 ∷ []) ≡ gives sixty_alone
   -- from the largest key to itself is 11, to the one before it 25
   pub largest : read_of 0 (48 ∷ 10 ∷ top ++ 55 ∷ 10 ∷ top ++ 55 ∷ []) ≡ refuses 11 3
   pub under_largest : read_of 0 (48 ∷ 10 ∷ top ++ 55 ∷ 10 ∷ top ++ 54 ∷ []) ≡ refuses 25 3
