@@ -2,7 +2,8 @@
 use Rattle.std.specs.Prelude.{ℕ, ◌/◌, ◌%◌, ◌^◌, ◌-◌, List, [], ◌∷◌, ◌++◌, ◌==◌, if◌then◌else◌, length, ℤ, pos, Bool, ◌&&◌, false, zero, suc, slice_index, slice_index_or}
 use Rattle.std.specs.List.{flat_map}
 use Rattle.std.specs.Ordering.{int_eq}
-use Rattle.std.specs.Fmt.{decimal, signed_decimal, digits, digit_glyph, padded_integral, format_spec}
+use Rattle.std.specs.Fmt as Fmt
+use Rattle.std.specs.Fmt.{signed_decimal, digit_glyph, padded_integral, format_spec}
 use Rattle.std.specs.Float.Ieee.{to_bits}
 use lib.Ieee.{Float, binary64, eq, of_bits, nan}
 
@@ -16,7 +17,7 @@ word_field word = 32 ∷ word
 
 -- a natural number
 abbrev pub natural_field : ℕ → List ℕ
-natural_field n = 32 ∷ decimal n
+natural_field n = 32 ∷ Fmt.decimal n
 
 -- an integer
 abbrev pub int_field : ℤ → List ℕ
@@ -24,11 +25,11 @@ int_field z = 32 ∷ signed_decimal z
 
 -- a refusal's number, and its detail
 abbrev pub refusal_field : ℕ → ℕ → List ℕ
-refusal_field number detail = 32 ∷ 33 ∷ (decimal number ++ natural_field detail)
+refusal_field number detail = 32 ∷ 33 ∷ (Fmt.decimal number ++ natural_field detail)
 
 -- 16 hex digits, as `{:016x}` writes them
 abbrev pub sixteen_digits : ℕ → List ℕ
-sixteen_digits n = padded_integral (format_spec 32 0 4 16 (2 ^ 64 - 1)) false [] (digits 16 false n)
+sixteen_digits n = padded_integral (format_spec 32 0 4 16 (2 ^ 64 - 1)) false [] (Fmt.digits 16 false n)
 
 -- the bits of a number, which is what equals itself; 0 for a NaN
 abbrev pub bits_of : Float → ℕ

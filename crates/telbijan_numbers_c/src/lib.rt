@@ -1,7 +1,7 @@
 // Whole numbers, keys, powers, ratios and pitches for C: include/telbijan.h declares the functions.
 #![tactic(auto)]
 
-mod integers;
+mod divisions;
+mod exponentials;
 mod keys;
 mod pitches;
-mod powers;

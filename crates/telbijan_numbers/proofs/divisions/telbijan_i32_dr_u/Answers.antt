@@ -6,8 +6,8 @@ use mir.Syntax.{w32}
 use Rattle.math.specs.Division.{division_of}
 use Rattle.math.specs.Answers.{says_division}
 use Rattle.telbijan_answers.proofs.Interface.{accepted, refused, stays_part, stored_part}
-use Rattle.telbijan_numbers.proofs.integers.telbijan_i32_dr_u.Goals as goal
-use Rattle.telbijan_numbers.proofs.integers.telbijan_i32_dr_u.Goals.{After-i32_dr_u}
+use Rattle.telbijan_numbers.proofs.divisions.telbijan_i32_dr_u.Goals as goal
+use Rattle.telbijan_numbers.proofs.divisions.telbijan_i32_dr_u.Goals.{After-i32_dr_u}
 
 -- the callee's contract, of this function's own arguments
 told : (c : After-i32_dr_u) → says_division c.i32_dr_u.result ≡ division_of c.args.numer c.args.denom

@@ -8,7 +8,7 @@ ghost use Rattle.telbijan_numbers.specs.Calls.{OddFactors};
 pub extern "C" fn telbijan_i32_div_u(numer: i32, denom: u32, quotient: &mut i32) -> u64
     ensures { Stored (quotient_of numer denom) quotient.old result quotient.new }
 {
-    telbijan_numbers::integers::telbijan_i32_div_u(numer, denom, quotient)
+    telbijan_numbers::divisions::telbijan_i32_div_u(numer, denom, quotient)
 }
 
 // What the quotient leaves, stored; 10 for denominator 0.
@@ -16,7 +16,7 @@ pub extern "C" fn telbijan_i32_div_u(numer: i32, denom: u32, quotient: &mut i32)
 pub extern "C" fn telbijan_i32_rem_u(numer: i32, denom: u32, remainder: &mut u32) -> u64
     ensures { Stored (remainder_of numer denom) remainder.old result remainder.new }
 {
-    telbijan_numbers::integers::telbijan_i32_rem_u(numer, denom, remainder)
+    telbijan_numbers::divisions::telbijan_i32_rem_u(numer, denom, remainder)
 }
 
 // Quotient and remainder, both stored; 10 for denominator 0.
@@ -30,7 +30,7 @@ pub extern "C" fn telbijan_i32_dr_u(
     ensures { StoredTwo (λ p. p.quotient) (λ p. p.remainder) (division_of numer denom)
         quotient.old remainder.old result quotient.new remainder.new }
 {
-    telbijan_numbers::integers::telbijan_i32_dr_u(numer, denom, quotient, remainder)
+    telbijan_numbers::divisions::telbijan_i32_dr_u(numer, denom, quotient, remainder)
 }
 
 // The number with every factor of two taken out; 0 stays 0.
@@ -38,5 +38,5 @@ pub extern "C" fn telbijan_i32_dr_u(
 pub extern "C" fn telbijan_odd_factors_u16(number: u16) -> u16
     ensures { OddFactors number result }
 {
-    telbijan_numbers::integers::telbijan_odd_factors_u16(number)
+    telbijan_numbers::divisions::telbijan_odd_factors_u16(number)
 }
