@@ -2,6 +2,6 @@
 #![tactic(auto)]
 
 pub mod divisions;
-pub mod exponentials;
 pub mod keys;
 pub mod pitches;
+pub mod powers_of_two;

@@ -2,6 +2,6 @@
 #![tactic(auto)]
 
 mod divisions;
-mod exponentials;
 mod keys;
 mod pitches;
+mod powers_of_two;
