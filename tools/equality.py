@@ -3,7 +3,9 @@
     (x .. : DATA) .. → One says s × ..                         of crates/base: says r ≡ s and says r' ≡ s give r ≡ r'
     (x .. r r' : DATA) .. → FACT r → FACT r' → (r ≡ r') × ..    the same written out: a fact of one result, and of another
 
-DATA is a type of values, known by its form (`is_data`); any other premise is a fault. What is asked of a result, `says r ≡ s` or each part of FACT,
+DATA is a type of values, known by its form (`is_data`), or in the line of a generic function any type, `{A : Type 0}` (`kinds`); any other premise
+is a fault. Of a trait's function, or one generic in a trait, the contract is read at each type, with what the trait's ghost members are there, and
+(λ x. x) t is t. What is asked of a result, `says r ≡ s` or each part of FACT,
 must be what the contract ensures, with the line's variables replaced by terms of what goes in; and what is equated must be the result and all that
 a `&mut` holds after the call. Terms are compared as they are written, but for quotes, the abbreviations of the line's own file, and those
 that stand for a relation in the specs of the crate or of a telbijan_ crate below it, or for a lent table in a file Lent.antt of the specs of
@@ -16,7 +18,7 @@ from vocabulary import clauses_in
 
 # records of columns or of stored numbers, and what makes them: equal where these are
 TABLES = {"ItemTable": "item_table", "ListTable": "list_table", "Kbm": "mapping_with", "SclRead": "read_with"}
-VALUES = {"ℕ", "ℤ", "Float", "Bool", "Entry", *TABLES}  # and each struct and enum of the sources; lists, answers and functions of these
+VALUES = {"ℕ", "ℤ", "Float", "Bool", "Entry", *TABLES}  # and each struct and enum of the sources; lists, options, results, answers and functions of these
 ONE = "abbrev pub One : {A B : Type 0} → (A → B) → B → Type 0\nOne {A} {B} says s = (x y : A) → says x ≡ s → says y ≡ s → x ≡ y\n"
 # what every contract of a call for C is said by, as it must stand
 SAID_IN = "crates/telbijan_answers/specs/Interface.antt"
@@ -138,6 +140,16 @@ def replaced(term, by):
     return tuple(replaced(each, by) for each in term) if isinstance(term, tuple) else by.get(term, term)
 
 
+def applied(term):
+    """A term with each (λ x. x) t as t."""
+    if not isinstance(term, tuple):
+        return term
+    term = tuple(map(applied, term))
+    first = term[0] if term else ()
+    same = isinstance(first, tuple) and len(first) == 3 and first[0] == "λ" and first[1] == f"{first[2]}."
+    return closed(term[1:]) if same and len(term) > 1 else term
+
+
 def words(term):
     return {word for each in term for word in words(each)} if isinstance(term, tuple) else {term}
 
@@ -187,7 +199,7 @@ def is_data(kind, types):
         return all(is_data(part, types) for part in parts)
     if isinstance(kind, str):
         return kind in VALUES or kind in types
-    return len(kind) == 2 and kind[0] in ("List", "Said") and is_data(kind[1], types)
+    return len(kind) == {"List": 2, "Said": 2, "Option": 2, "Result": 3}.get(kind[0]) and all(is_data(part, types) for part in kind[1:])
 
 
 def binders(premise):
@@ -210,11 +222,11 @@ def modules_around(text, at):
 
 
 class Line:
-    """The statement at a place of a file: its variables (`inputs`), the results that it equates with others (`results`), what it asks of them
-    (`facts`, each by its sides), and what is wrong with its form (`fault`, else None)."""
+    """The statement at a place of a file: its variables (`inputs`, those that stand for types `kinds`), the results that it equates with others
+    (`results`), what it asks of them (`facts`, each by its sides), and what is wrong with its form (`fault`, else None)."""
 
     def __init__(self, text, at, statement, types, meant):
-        self.inputs, self.results, self.facts, self.fault = set(), set(), [], None
+        self.inputs, self.kinds, self.results, self.facts, self.fault = set(), set(), set(), [], None
         meant = meant | abbreviations(text)
         *premises, conclusion = split(parse(statement, imports(text)), "→")
         asked, tables = [], set()
@@ -223,9 +235,12 @@ class Line:
             if groups is None:
                 asked.append(unfolded(premise, meant))
             for names, kind in groups or []:
+                if kind == ("Type", "0"):
+                    self.kinds |= words(names)
+                    continue
                 self.inputs |= words(names)
                 tables |= words(names) if kind in TABLES else set()
-                if not is_data(kind, types):
+                if not is_data(kind, types | self.kinds):
                     self.wrong(f"asks for {shown(names)} : {shown(kind)}")
         ends = factors(unfolded(conclusion, meant))
         if asked and "One" not in words(conclusion):
@@ -247,7 +262,8 @@ class Line:
             return self.wrong(f"ends in {shown(end)}, which is not the One of crates/base")
         result, says = f"result {len(self.facts)}", parts[1]
         self.results.add(result)
-        self.facts.append([result if says[0] == "λ" and says[1:] == (f"{says[-1]}.", says[-1]) else (says, result), parts[2]])
+        given = isinstance(says, tuple) and not is_joined(says) and not is_field(says)  # says is what is given to a function, but for the last
+        self.facts.append([applied((*says, result) if given else (says, result)), parts[2]])
 
     def written_out(self, asked, ends):
         pairs = dict(end for end in ends if len(end) == 2)
@@ -271,7 +287,7 @@ class Line:
 def ensured(contract, text, meant):
     """What a contract of a file says, each fact by its sides."""
     said = [text for kind, text in clauses_in(contract) or [] if kind == "ensures"]
-    return [sides(factor) for each in said for factor in factors(unfolded(replaced(parse(each, imports(text)), {"result": RESULT}), meant))]
+    return [list(map(applied, sides(factor))) for each in said for factor in factors(unfolded(replaced(parse(each, imports(text)), {"result": RESULT}), meant))]
 
 
 def ended(term):

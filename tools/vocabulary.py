@@ -32,7 +32,7 @@ SIGNS = set("→≡∷ℕλ∙≤ℤ×⊥⊎↦←↔»«≢τσ₀₁₂₃₄�
 # where src/ and specs/ have the logic's words from
 HOMES = {name: module for module, names in {
     "Rattle.std.specs.Prelude": "ℕ zero suc min ◌+◌ ◌-◌ ◌*◌ ◌/◌ ◌%◌ ◌^◌ ◌<◌ ◌≤◌ count_ones T eqb leb ltb Float ℤ pos negsuc nat_abs neg_ℤ"
-        " ◌+ℤ◌ ◌-ℤ◌ ◌*ℤ◌ ◌<ℤ◌ ◌≤ℤ◌ length get_or take drop set Bool true false not ◌&&◌ ◌||◌ List [] ◌∷◌ ◌++◌ map reverse ◌↔◌ ◌⊎◌ ◌≡◌ refl",
+        " ◌+ℤ◌ ◌-ℤ◌ ◌*ℤ◌ ◌<ℤ◌ ◌≤ℤ◌ length get_or take drop set Option Some None Result Ok Err Bool true false not ◌&&◌ ◌||◌ List [] ◌∷◌ ◌++◌ map reverse ◌↔◌ ◌⊎◌ ◌≡◌ refl",
     "Rattle.std.specs.Borrow": "Bor",
     "Rattle.std.specs.Float": "binary64 fin inf nan",
     "Rattle.std.specs.Float.Ieee": "add div down eq fits le lt mul of_bits of_int rem round size sub to_signed to_unsigned up neg",
@@ -52,7 +52,7 @@ ALSO_OURS = set("add down finite fits inf kept le map nan ones pos positive set 
 ALSO_BOUND = {*ALSO_OURS, "length", "take", "T"}
 # the words that every answer is said by
 ANSWERS = {name: module for module, names in {
-    "Rattle.base.specs.Said": "Said gives refuses refusal pick and_then One",
+    "Rattle.base.specs.Said": "Said gives refuses refusal outcome outcome_by pick and_then One",
     "Rattle.telbijan_answers.specs.Interface": "code result kept field_of number_in detail_in",
 }.items() for name in names.split()}
 # types of values that equality lines are written with and that no code declares
@@ -63,7 +63,9 @@ BLOCK, NAMED = r"(record|data|module|mutual|ruleset) +([^\s({]*)", r"((?:(?![=�
 DECLARED = re.compile(rf"^( *)(?:abbrev |unfoldable |opaque |axiom )*(?:pub )?(?:{BLOCK}|{NAMED})", re.M)
 BOUND = re.compile(r"[({]\s*([^\s(){}:.;,]+(?:\s+[^\s(){}:.;,]+)*)\s+:\s|λ ([^.]*)\.|\blet\s+([^\s:=]+)")
 BOUND_SIGN = re.compile(r"[({]([^(){}:]*◌[^(){}:]*)\s:\s|λ ([^.]*◌[^.]*)\.|\blet\s+(\S*◌\S*)")
-HEAD = re.compile(r"^( *)(?:pub )?(?:extern \"C\" )?fn (\w+)(.*?)(?:^\1\{$| \{$)", re.M | re.S)
+HEAD = re.compile(r"^( *)(?:pub )?(?:extern \"C\" )?fn (\w+)(.*?)(?:^\1\{$| \{$|(?<=\});$)", re.M | re.S)
+# a ghost member of a trait, or of an impl
+MEMBER = re.compile(r"^    ghost (\w+)(?:: | = )\{.*?\};$", re.M | re.S)
 MARKS = {"_", "abbrev", "pub", "unfoldable", "opaque", "axiom", "let", "in", "use", "mod", "ghost"}
 
 
@@ -244,8 +246,8 @@ def audit_contracts(file):
     for _, name, here in file.uses:
         if {name, here} & CLAUSE_WORDS:
             file.fault(f"imports {name}, which a clause has of itself")
-    if re.search(r"\bghost\b(?! use )", file.code):
-        file.fault("has something ghost that is no `use` line")
+    if re.search(r"\bghost\b(?! use )", MEMBER.sub("", file.code)):
+        file.fault("has something ghost that is no `use` line and no member of a trait or an impl")
 
 
 def misused(types):

@@ -1,26 +1,82 @@
 -- Two results of one input are equal: the general law, of which each public call has a line. Assumes nothing.
-use mathlib.Core.Path.{◌≡◌, sym, ◌∙◌, ap}
-use mathlib.Core.Logic.{◌⊎◌, inl, inr}
+use mathlib.Core.Path.{◌≡◌, refl, sym, ◌∙◌, ap}
 use mathlib.Core.Bool.{Bool, true, false}
 use Prim.Native.Nat.{ℕ}
 use native.Mathlib.Omega.{arith}
-use Rattle.base.specs.Said.{Said, gives, refuses, refusal, Numbered, NumberedOr, pick, and_then, One}
+use lib.Dec.{eqb}
+use Rattle.std.specs.Prelude.{Result, Ok, Err}
+use Rattle.base.specs.Numbers.{number_of}
+use Rattle.base.specs.Said.{Said, gives, refuses, refusal, outcome, outcome_by, Numbered, NumberedOr, pick, and_then, One}
+use Rattle.base.specs.declared.Reason.{Reason}
+use Rattle.base.specs.declared.Reason.TheVariants as reason
 use Rattle.base.specs.declared.Refusal.{Refusal}
 
 -- a contract `r ≡ s` leaves one result
 pub one_result : {A : Type 0} (s : A) → One (λ r. r) s
 one_result s x y p q = p ∙ sym q
 
--- an answer is a value or a refusal
-abbrev pub Split : {X A : Type 0} → (A → X) → (Refusal → X) → Type 0
-Split {X} {A} is refused = (x : X) → ((a : A) × (x ≡ is a)) ⊎ ((r : Refusal) × (x ≡ refused r))
+-- a reason has one number
+pub number_one : (r : Reason) → One (λ n. n) (number_of r)
+number_one r = one_result (number_of r)
+
+-- the reason of a number; some reason where it is no reason's
+abbrev reason_of : ℕ → Reason
+reason_of n =
+    pick (eqb n 1) reason.NotUtf8 (
+    pick (eqb n 2) reason.LineMissing (
+    pick (eqb n 3) reason.IntValue (
+    pick (eqb n 4) reason.CentsValue (
+    pick (eqb n 5) reason.Numer (
+    pick (eqb n 6) reason.Denom (
+    pick (eqb n 7) reason.FloatValue (
+    pick (eqb n 8) reason.KeyboardMapping (
+    pick (eqb n 9) reason.UnsupportedNumeral (
+    pick (eqb n 10) reason.Unusable (
+    pick (eqb n 11) reason.Overflow (
+    pick (eqb n 12) reason.NoRoom (
+    pick (eqb n 13) reason.TooLarge (
+    pick (eqb n 14) reason.InconsistentCount (
+    pick (eqb n 15) reason.FormalOctaveMissing (
+    pick (eqb n 16) reason.KeyOutOfRange (
+    pick (eqb n 17) reason.UnmappedKey (
+    pick (eqb n 18) reason.BeyondReach (
+    pick (eqb n 19) reason.ReferenceUnmapped (
+    pick (eqb n 25) reason.BackwardsRange (
+    reason.NoFraction))))))))))))))))))))
+
+-- the number determines the reason
+back : (r : Reason) → reason_of (number_of r) ≡ r
+back reason.NotUtf8 = refl
+back reason.LineMissing = refl
+back reason.IntValue = refl
+back reason.CentsValue = refl
+back reason.Numer = refl
+back reason.Denom = refl
+back reason.FloatValue = refl
+back reason.KeyboardMapping = refl
+back reason.UnsupportedNumeral = refl
+back reason.Unusable = refl
+back reason.Overflow = refl
+back reason.NoRoom = refl
+back reason.TooLarge = refl
+back reason.InconsistentCount = refl
+back reason.FormalOctaveMissing = refl
+back reason.KeyOutOfRange = refl
+back reason.UnmappedKey = refl
+back reason.BeyondReach = refl
+back reason.ReferenceUnmapped = refl
+back reason.BackwardsRange = refl
+back reason.NoFraction = refl
+
+pub same_reason : (r s : Reason) → number_of r ≡ number_of s → r ≡ s
+same_reason r s e = sym (back r) ∙ ap reason_of e ∙ back s
 
 -- a refusal said determines the refusal
 pub same_refusal : {A : Type 0} (r s : Refusal) → refusal {A = A} r ≡ refusal {A = A} s → r ≡ s
 same_refusal r s e =
-    let n : r.number ≡ s.number = cc in
+    let n : r.reason ≡ s.reason = same_reason r.reason s.reason cc in
     let d : r.detail ≡ s.detail = cc in
-    λ i. record { number = n i; detail = d i }
+    λ i. record { reason = n i; detail = d i }
 
 -- a value said determines the value
 pub same_value : {A : Type 0} (x y : A) → gives x ≡ gives y → x ≡ y
@@ -37,30 +93,26 @@ no_refusal e = no_value (sym e)
 pub same_refuses : {A : Type 0} {a b c d : ℕ} → ◌≡◌ {A = Said A} (refuses a b) (refuses c d) → (a ≡ c) × (b ≡ d)
 same_refuses e = (cc, cc)
 
--- a value is no refusal
-value_or_refusal : {A : Type 0} {a : A} {r : Refusal} → gives a ≡ refusal r → ⊥
-value_or_refusal e = let no : ◌≡◌ {A = ℕ} 0 1 = cc in omega arith
+-- and so does what a result says, where what is read of a value tells it from another
+module _ {A B : Type 0} (f : A → B) (apart : (a b : A) → f a ≡ f b → a ≡ b) where
+  same_said : (x y : Result A Refusal) → outcome_by f x ≡ outcome_by f y → x ≡ y
+  same_said (Ok a) (Ok b) e = ap Ok (apart a b (same_value _ _ e))
+  same_said (Ok a) (Err s) e = no_refusal e
+  same_said (Err r) (Ok b) e = no_value e
+  same_said (Err r) (Err s) e = ap Err (same_refusal r s e)
 
--- and so does `says r ≡ s`, where `says` tells a value from a refusal and one value from another
-module _ {X A B : Type 0} {is : A → X} {refused : Refusal → X} (split : Split is refused) (says : X → Said B) (value : A → B) (apart : (a b : A) → value a ≡ value b → a ≡ b) (gave : (a : A) → says (is a) ≡ gives (value a)) (refuse : (r : Refusal) → says (refused r) ≡ refusal r) where
-  same_said : (x y : X) → says x ≡ says y → x ≡ y
-  same_said x y e = elim (split x) [
-    | inl u ↦ elim (split y) [
-      | inl v ↦ u.1 ∙ ap is (apart u.0 v.0 (same_value _ _ (sym (gave u.0) ∙ ap says (sym u.1) ∙ e ∙ ap says v.1 ∙ gave v.0))) ∙ sym v.1
-      | inr v ↦ absurd (value_or_refusal (sym (gave u.0) ∙ ap says (sym u.1) ∙ e ∙ ap says v.1 ∙ refuse v.0))
-    ]
-    | inr u ↦ elim (split y) [
-      | inl v ↦ absurd (value_or_refusal (sym (gave v.0) ∙ ap says (sym v.1) ∙ sym e ∙ ap says u.1 ∙ refuse u.0))
-      | inr v ↦ u.1 ∙ ap refused (same_refusal u.0 v.0 (sym (refuse u.0) ∙ ap says (sym u.1) ∙ e ∙ ap says v.1 ∙ refuse v.0)) ∙ sym v.1
-    ]
-  ]
-
-  pub one_answer : (s : Said B) → One says s
-  one_answer s x y p q = same_said x y (p ∙ sym q)
+  pub one_read : (s : Said B) → One (outcome_by f) s
+  one_read s x y p q = same_said x y (p ∙ sym q)
 
 -- where the value said is the value itself
-pub one_plain : {X A : Type 0} {is : A → X} {refused : Refusal → X} → Split is refused → (says : X → Said A) → ((a : A) → says (is a) ≡ gives a) → ((r : Refusal) → says (refused r) ≡ refusal r) → (s : Said A) → One says s
-one_plain split says gave refuse = one_answer split says (λ a. a) (λ a b e. e) gave refuse
+same_plain : {A : Type 0} (x y : Result A Refusal) → outcome x ≡ outcome y → x ≡ y
+same_plain (Ok a) (Ok b) e = ap Ok (same_value a b e)
+same_plain (Ok a) (Err s) e = no_refusal e
+same_plain (Err r) (Ok b) e = no_value e
+same_plain (Err r) (Err s) e = ap Err (same_refusal r s e)
+
+pub one_said : {A : Type 0} (s : Said A) → One outcome s
+one_said s x y p q = same_plain x y (p ∙ sym q)
 
 -- a step that goes on from an answer: x is what a call answered, told what its contract says of it, and x' what a match made of it
 pub and_then_law : {X A B : Type 0} (says : X → Said A) (f : A → Said B) {x x' : X} {s : Said A} → says x ≡ s → x ≡ x' → and_then (says x') f ≡ and_then s f

@@ -1,5 +1,7 @@
 -- Document 01, "Numbers that answer", and those that document 02 adds: a name for each number. Assumes nothing.
 use Rattle.std.specs.Prelude.{ℕ}
+use Rattle.base.specs.declared.Reason.{Reason}
+use Rattle.base.specs.declared.Reason.TheVariants as reason
 
 -- a line is not UTF-8
 abbrev pub not_utf8 : ℕ
@@ -79,3 +81,27 @@ backwards_range = 25
 -- "29, no fraction" (document 02, W14)
 abbrev pub no_fraction : ℕ
 no_fraction = 29
+
+-- the number of a reason
+abbrev pub number_of : Reason → ℕ
+number_of reason.NotUtf8 = not_utf8
+number_of reason.LineMissing = line_missing
+number_of reason.IntValue = int_value
+number_of reason.CentsValue = cents_value
+number_of reason.Numer = numer_value
+number_of reason.Denom = denom_value
+number_of reason.FloatValue = float_value
+number_of reason.KeyboardMapping = keyboard_mapping
+number_of reason.UnsupportedNumeral = unsupported_numeral
+number_of reason.Unusable = unusable
+number_of reason.Overflow = overflow
+number_of reason.NoRoom = no_room
+number_of reason.TooLarge = too_large
+number_of reason.InconsistentCount = inconsistent_count
+number_of reason.FormalOctaveMissing = formal_octave_missing
+number_of reason.KeyOutOfRange = key_out_of_range
+number_of reason.UnmappedKey = unmapped_key
+number_of reason.BeyondReach = beyond_reach
+number_of reason.ReferenceUnmapped = reference_unmapped
+number_of reason.BackwardsRange = backwards_range
+number_of reason.NoFraction = no_fraction

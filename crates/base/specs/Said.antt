@@ -1,6 +1,7 @@
--- What a call answers, in document 01's words: a value, or the number and the detail of a refusal. Every answer enum of
--- the library has a definition that turns it into this, and the contracts speak of what is said. Assumes nothing.
-use Rattle.std.specs.Prelude.{◌≡◌, ℕ, ◌≤◌, Bool, true, false}
+-- What a call answers, in document 01's words: a value, or the number and the detail of a refusal. `outcome` reads a call's
+-- `Result` so, and the contracts speak of what is said. Assumes nothing.
+use Rattle.std.specs.Prelude.{◌≡◌, ℕ, ◌≤◌, Bool, true, false, Result, Ok, Err}
+use Rattle.base.specs.Numbers.{number_of}
 use Rattle.base.specs.declared.Refusal.{Refusal}
 
 -- number 0 with its value, or a refusal: its number and its detail
@@ -25,7 +26,17 @@ pub data NumberedOr {A : Type 0} (more : ℕ) : Said A → Type 0 where
 
 -- what a `Refusal` says
 abbrev pub refusal : {A : Type 0} → Refusal → Said A
-refusal r = refuses r.number r.detail
+refusal r = refuses (number_of r.reason) r.detail
+
+-- what a result says whose value is read by `f`
+abbrev pub outcome_by : {A B : Type 0} → (A → B) → Result A Refusal → Said B
+outcome_by f (Ok a) = gives (f a)
+outcome_by f (Err r) = refusal r
+
+-- what a result says
+abbrev pub outcome : {A : Type 0} → Result A Refusal → Said A
+outcome (Ok a) = gives a
+outcome (Err r) = refusal r
 
 -- where a test holds the first, else the second
 abbrev pub pick : {A : Type 0} → Bool → A → A → A

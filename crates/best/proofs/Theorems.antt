@@ -1,22 +1,22 @@
 -- What a user of `best_fraction` may count on, with the sentences of document 02, W14. Assumes nothing.
+use Rattle.std.specs.Prelude.{Result}
+use Rattle.base.specs.declared.Refusal.{Refusal}
 use mathlib.Core.Path.{◌≡◌, refl, sym, ap, ◌∙◌, subst}
-use mathlib.Core.Logic.{◌⊎◌, ◌↔◌, inl, inr}
+use mathlib.Core.Logic.{◌⊎◌, ◌↔◌}
 use mathlib.Core.Bool.{true, false}
 use Prim.Native.Nat.{ℕ, ◌*◌, ◌^◌, ◌≤◌, ◌<◌}
 use native.Mathlib.Omega.{arith}
 use lib.Dec.{lit<, lit≤}
 use lib.Ieee.{Float}
-use Rattle.base.specs.Said.{Said, gives, refuses}
-use Rattle.base.proofs.Said.{Split, one_plain, no_value, no_refusal, same_refuses, same_value}
+use Rattle.base.specs.Said.{Said, gives, refuses, outcome}
+use Rattle.base.proofs.Said.{no_value, no_refusal, same_refuses, same_value, one_said}
 use Rattle.base.proofs.Pick.{true_not_false}
 use Rattle.floats.specs.Ranges.{in_reach, in_search}
 use Rattle.floats.specs.Units.{units_of}
 use Rattle.floats.proofs.Between.{fraction_within, over_within, within_more, within_reach}
 use Rattle.floats.proofs.Ranges.{search_says}
-use Rattle.best.specs.Answers.{says_best, deviation_of, BestOf, BestSaid}
+use Rattle.best.specs.Answers.{deviation_of, BestOf, BestSaid}
 use Rattle.best.specs.Best.{Allowed, NoFurther}
-use Rattle.best.specs.declared.BestAnswer.{BestAnswer}
-use Rattle.best.specs.declared.BestAnswer.TheVariants as OfBest
 use Rattle.best.specs.declared.BestFraction.{BestFraction}
 use Rattle.best.proofs.Choice.{best_one}
 use Rattle.best.proofs.Values.{none_allowed, no_common, met}
@@ -43,12 +43,8 @@ said_one (BestSaid.found h f a) (BestSaid.outside k) = absurd (true_not_false (s
 said_one (BestSaid.found h f a) (BestSaid.none k e) = absurd (none_best e a)
 said_one (BestSaid.found h f a) (BestSaid.found k g b) = ap (λ (q : BestFraction). gives q) (same_fraction f g a b)
 
-pub best_split : Split OfBest.Is OfBest.Refused
-best_split (OfBest.Is f) = inl (f, refl)
-best_split (OfBest.Refused r) = inr (r, refl)
-
-pub best_fraction_one : (x : Float) (limit : ℕ) (r s : BestAnswer) → BestSaid x limit (says_best r) → BestSaid x limit (says_best s) → r ≡ s
-best_fraction_one x limit r s p q = one_plain best_split says_best (λ f. refl) (λ n. refl) (says_best s) r s (said_one p q) refl
+pub best_fraction_one : (x : Float) (limit : ℕ) (r s : (Result BestFraction Refusal)) → BestSaid x limit (outcome r) → BestSaid x limit (outcome s) → r ≡ s
+best_fraction_one x limit r s p q = one_said (outcome s) r s (said_one p q) refl
 
 -- ---- "Refusals: 10 as in the old call, then 29, no fraction, exactly for limit 0"
 pub ten_exactly : {x : Float} {limit : ℕ} {s : Said BestFraction} → BestSaid x limit s → (s ≡ refuses 10 0) ↔ (in_search x ≡ false)

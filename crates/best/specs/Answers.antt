@@ -4,17 +4,11 @@ use Rattle.std.specs.Prelude.{◌≡◌, true, false, ℕ, ◌^◌, pos, Float}
 use Rattle.std.specs.Float.{binary64}
 use Rattle.std.specs.Float.Ieee.{div, of_int}
 use Rattle.base.specs.Numbers.{unusable, no_fraction}
-use Rattle.base.specs.Said.{Said, gives, refuses, refusal}
+use Rattle.base.specs.Said.{Said, gives, refuses}
 use Rattle.floats.specs.Ranges.{in_search}
 use Rattle.floats.specs.Units.{units_of}
 use Rattle.best.specs.Best.{Best}
-use Rattle.best.specs.declared.BestAnswer.{BestAnswer}
-use Rattle.best.specs.declared.BestAnswer.TheVariants as OfBest
 use Rattle.best.specs.declared.BestFraction.{BestFraction}
-
-abbrev pub says_best : BestAnswer → Said BestFraction
-says_best (OfBest.Is f) = gives f
-says_best (OfBest.Refused r) = refusal r
 
 -- the ratio over the fraction, each as an f64: how far the one is from the other, as `nearest_fraction` has it
 abbrev pub deviation_of : Float → ℕ → ℕ → Float

@@ -7,12 +7,13 @@
 #![tactic(auto)]
 
 ghost use Rattle.std.specs.Prelude.{◌≡◌, true, ◌&&◌, ◌||◌, ◌+◌, ◌*◌, ◌/◌, ◌^◌, ◌≤◌, ◌<◌, leb, ltb, eqb};
+ghost use Rattle.base.specs.Said.{outcome};
 ghost use Rattle.floats.specs.Ranges.{in_search};
 ghost use Rattle.best.specs.Best.{Best};
-ghost use Rattle.best.specs.Answers.{says_best, BestOf, BestSaid};
+ghost use Rattle.best.specs.Answers.{BestOf, BestSaid};
 ghost use Rattle.best.specs.Walked.{Next, Ready, Up, On, Stepped, Finished, Two, Picks};
 
-use base::Refusal;
+use base::{Reason, Refusal};
 use pitch::Ratio;
 
 // A fraction and the ratio's deviation from it.
@@ -21,12 +22,6 @@ pub struct BestFraction {
     pub numer: u16,
     pub denom: u16,
     pub deviation: Ratio,
-}
-
-#[derive(Clone, Copy)]
-pub enum BestAnswer {
-    Is(BestFraction),
-    Refused(Refusal),
 }
 
 // A fraction on the walk; 0/1 and 1/0 stand for none.
@@ -59,6 +54,7 @@ fn next_within(n: u64, limit: u64) -> u64
     ensures { Next limit n result }
 {
     let mut k: u64 = 0;
+    // A `while`: how many turns there are is what it finds.
     while limit <= n >> k {
         k = k + 1;
     }
@@ -100,7 +96,6 @@ fn go_up(w: Walk, limit: u64) -> Walk
 {
     let here = w.here;
     let low = w.low;
-    let high = w.high;
     let next = Candidate {
         numer: next_within(here.numer, limit),
         denom: here.denom,
@@ -109,14 +104,10 @@ fn go_up(w: Walk, limit: u64) -> Walk
         return Walk {
             here: next,
             low: here,
-            high,
+            ..w
         };
     }
-    Walk {
-        here: next,
-        low,
-        high,
-    }
+    Walk { here: next, ..w }
 }
 
 // Past a fraction above the ratio.
@@ -125,7 +116,6 @@ fn go_on(w: Walk, limit: u64) -> Walk
     ensures { On limit w result }
 {
     let here = w.here;
-    let low = w.low;
     let high = w.high;
     let next = Candidate {
         numer: here.numer,
@@ -134,15 +124,11 @@ fn go_on(w: Walk, limit: u64) -> Walk
     if here.numer * high.denom < high.numer * here.denom {
         return Walk {
             here: next,
-            low,
             high: here,
+            ..w
         };
     }
-    Walk {
-        here: next,
-        low,
-        high,
-    }
+    Walk { here: next, ..w }
 }
 
 // Past the fraction at hand.
@@ -167,6 +153,7 @@ fn walk_to_end(m: u64, k: u64, limit: u64) -> Walk
         low: Candidate { numer: 0, denom: 1 },
         high: Candidate { numer: 1, denom: 0 },
     };
+    // A `loop`: the steps vary.
     loop {
         let here = w.here;
         if LAST < here.numer {
@@ -248,21 +235,21 @@ fn best_for(value: f64, limit: u16) -> BestFraction
 }
 
 // The best of all fractions within the odd limit, octaves not taken off; 10 outside 2^-64..2^64, then 29 for limit 0.
-pub fn best_fraction(ratio: Ratio, limit: u16) -> BestAnswer
-    ensures { BestSaid ratio.0 limit (says_best result) }
+pub fn best_fraction(ratio: Ratio, limit: u16) -> Result<BestFraction, Refusal>
+    ensures { BestSaid ratio.0 limit (outcome result) }
 {
     let value = ratio.0;
     if floats::is_in_search(value) {
         if limit == 0 {
-            return BestAnswer::Refused(Refusal {
-                number: base::NO_FRACTION,
+            return Err(Refusal {
+                reason: Reason::NoFraction,
                 detail: 0,
             });
         }
-        return BestAnswer::Is(best_for(value, limit));
+        return Ok(best_for(value, limit));
     }
-    BestAnswer::Refused(Refusal {
-        number: base::UNUSABLE,
+    Err(Refusal {
+        reason: Reason::Unusable,
         detail: 0,
     })
 }

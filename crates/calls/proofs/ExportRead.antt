@@ -1,4 +1,5 @@
 -- C EXPORTS A MAPPING, AND READS THE TEXT: telbijan_export_kbm, then telbijan_read_kbm on just the bytes that it wrote. Assumes nothing.
+use Rattle.std.specs.Prelude.{Option}
 use mathlib.Core.Path.{◌≡◌, sym, ◌∙◌, ap}
 use mathlib.Core.List.{List}
 use mathlib.Core.Logic.{◌↔◌}
@@ -9,7 +10,6 @@ use lib.ListN.{length, take}
 use Rattle.base.specs.Said.{Said, gives}
 use Rattle.base.specs.Tables.{over}
 use Rattle.kbm.specs.Table.{numbers_of, table_of}
-use Rattle.kbm.specs.declared.Entry.{Entry}
 use Rattle.kbm.specs.declared.Kbm.{Kbm}
 use Rattle.kbm_read.specs.Language.{MappingText}
 use Rattle.kbm_read.specs.Reader.{read_of}
@@ -27,7 +27,7 @@ use Rattle.promises.proofs.kbm.RoundTrip.{round_trip, export_in_language}
 
 module _ (map : List ℤ) (kbm : Kbm) (types : OfTypes kbm) (out : List ℕ) (size r : ℕ) (bytes : List ℕ) (written : ℕ)
     (wrote : ExportKbm map kbm out size r bytes written) (zero : r ≡ 0) where
-  abbrev es : List Entry
+  abbrev es : List (Option ℤ)
   es = table_of kbm.count map
 
   abbrev Exported : Type 0

@@ -1,6 +1,7 @@
 -- C READS A MAPPING FILE, AND ASKS FOR THE DEGREE OF A KEY: telbijan_read_kbm, then telbijan_scale_degree_of or
 -- telbijan_scale_degree_from_middle on the numbers that it stored and the table that it left, answers what the text's own lines say of the
 -- key, counted from the reference key or from the middle key. Document 01, "Keys", document 02, W1, and demand 3. Assumes nothing.
+use Rattle.std.specs.Prelude.{Option}
 use mathlib.Core.Path.{◌≡◌, refl, ◌∙◌, ap}
 use mathlib.Core.List.{List}
 use mathlib.Core.Logic.{◌↔◌}
@@ -10,7 +11,6 @@ use lib.ListN.{length}
 use Rattle.base.specs.Said.{Said}
 use Rattle.kbm.specs.Degree.{scale_degree_of}
 use Rattle.kbm.specs.Middle.{scale_degree_from_middle}
-use Rattle.kbm.specs.declared.Entry.{Entry}
 use Rattle.kbm.specs.declared.Kbm.{Kbm}
 use Rattle.kbm_read.specs.Language.{required, Values, MappingText}
 use Rattle.kbm_read.specs.Reader.{after_read}
@@ -27,10 +27,10 @@ module _ (text : List ℕ) (table : List ℤ) (old : Kbm) (r : ℕ) (left : List
     (number before : ℤ) (q : ℕ) (degree : ℤ) where
   -- a call for a degree, which is stored, after the read: it answers what the lines say, counted from the key of one of them
   module _ (origin : Values required → ℤ) (call : Kbm → List ℤ → PianoKey → Said ℤ)
-      (says : (k : Kbm) (es : List Entry) (t : MappingText text k es) → length es ≤ length table → (said : Said ℤ) →
+      (says : (k : Kbm) (es : List (Option ℤ)) (t : MappingText text k es) → length es ≤ length table → (said : Said ℤ) →
       (call k (after_read text table) (key number) ≡ said) ↔ SaidOf origin t.values (entry_tokens t) number said)
       (asked : Stored (call new left (key number)) before q degree) where
-    says_stored : {k : Kbm} {es : List Entry} (t : MappingText text k es) → length es ≤ length table → (said : Said ℤ) →
+    says_stored : {k : Kbm} {es : List (Option ℤ)} (t : MappingText text k es) → length es ≤ length table → (said : Said ℤ) →
         SaidOf origin t.values (entry_tokens t) number said → Stored said before q degree
     says_stored {k} {es} t room said p =
         let same : new ≡ k = (language_call text table old r left new read t room).1 in
@@ -38,7 +38,7 @@ module _ (text : List ℕ) (table : List ℤ) (old : Kbm) (r : ℕ) (left : List
         let answer : call new left (key number) ≡ said = (λ i. call (same i) (read.1 i) (key number)) ∙ one in
         (asked.0 ∙ ap result answer, asked.1 ∙ ap (λ (s : Said ℤ). kept s before) answer)
 
-    read_stored : r ≡ 0 → (es : List Entry) × (t : MappingText text new es) × (said : Said ℤ) ×
+    read_stored : r ≡ 0 → (es : List (Option ℤ)) × (t : MappingText text new es) × (said : Said ℤ) ×
         SaidOf origin t.values (entry_tokens t) number said × Stored said before q degree
     read_stored zero =
         let a = accepted_call text table old r left new read zero in
@@ -49,25 +49,25 @@ module _ (text : List ℕ) (table : List ℤ) (old : Kbm) (r : ℕ) (left : List
   -- ---- FROM THE REFERENCE KEY
   module _ (asked : ScaleDegreeOf left new number before q degree) where
     -- what a reading of the text says of the key is the second call's answer
-    pub says_degree : {k : Kbm} {es : List Entry} (t : MappingText text k es) → length es ≤ length table → (said : Said ℤ) →
+    pub says_degree : {k : Kbm} {es : List (Option ℤ)} (t : MappingText text k es) → length es ≤ length table → (said : Said ℤ) →
         SaidOf reference_key t.values (entry_tokens t) number said → Stored said before q degree
     says_degree = says_stored reference_key scale_degree_of (λ k es t room. text_says t table room (key number)) asked
 
     -- THE THEOREM: where the first call answers 0, the text is a mapping file of the numbers that it stored, and the second call's result
     -- and stored degree are what the text's lines say of the key
-    pub read_degree : r ≡ 0 → (es : List Entry) × (t : MappingText text new es) × (said : Said ℤ) ×
+    pub read_degree : r ≡ 0 → (es : List (Option ℤ)) × (t : MappingText text new es) × (said : Said ℤ) ×
         SaidOf reference_key t.values (entry_tokens t) number said × Stored said before q degree
     read_degree = read_stored reference_key scale_degree_of (λ k es t room. text_says t table room (key number)) asked
 
   -- ---- FROM THE MIDDLE KEY
   module _ (asked : ScaleDegreeFromMiddle left new number before q degree) where
-    pub says_degree_from_middle : {k : Kbm} {es : List Entry} (t : MappingText text k es) → length es ≤ length table → (said : Said ℤ) →
+    pub says_degree_from_middle : {k : Kbm} {es : List (Option ℤ)} (t : MappingText text k es) → length es ≤ length table → (said : Said ℤ) →
         SaidOf middle_key t.values (entry_tokens t) number said → Stored said before q degree
     says_degree_from_middle =
         says_stored middle_key scale_degree_from_middle (λ k es t room. text_says_from_middle t table room (key number)) asked
 
     -- THE SAME, with the middle key's line for the reference key's
-    pub read_degree_from_middle : r ≡ 0 → (es : List Entry) × (t : MappingText text new es) × (said : Said ℤ) ×
+    pub read_degree_from_middle : r ≡ 0 → (es : List (Option ℤ)) × (t : MappingText text new es) × (said : Said ℤ) ×
         SaidOf middle_key t.values (entry_tokens t) number said × Stored said before q degree
     read_degree_from_middle =
         read_stored middle_key scale_degree_from_middle (λ k es t room. text_says_from_middle t table room (key number)) asked

@@ -1,5 +1,6 @@
 -- A MAPPING THAT WAS READ CAN BE WRITTEN: its numbers are of their types, its last and middle key are keys, its pitch is usable,
 -- and so the bytes that its count asks for hold its export. Assumes nothing.
+use Rattle.std.specs.Prelude.{Option}
 use mathlib.Core.Path.{◌≡◌, ap, subst, ◌∙◌}
 use mathlib.Core.Bool.{true}
 use mathlib.Core.List.{List, [], ◌∷◌}
@@ -14,7 +15,6 @@ use Rattle.base.specs.Said.{gives}
 use Rattle.floats.specs.Ranges.{in_pitch}
 use Rattle.integers.specs.IntegerText.{IntText}
 use Rattle.kbm.specs.Table.{in_i16, table_of}
-use Rattle.kbm.specs.declared.Entry.{Entry}
 use Rattle.kbm.specs.declared.Kbm.{Kbm}
 use Rattle.kbm_read.specs.Language.{Required, Seen, required, unseen, see, Value, Values, Gives, GiveAll, size_of, mapping_from, MappingText}
 use Rattle.kbm_read.specs.Reader.{read_of, entries_in, after_read}
@@ -85,7 +85,7 @@ by_values (n, (lowest, (highest, (mid, (ref, (hz, (formal, o))))))) (_, (first, 
       middle = rw is-middle middle;
     }
 
-mapping_read : {s : List ℕ} {k : Kbm} {es : List Entry} → MappingText s k es → Read k
+mapping_read : {s : List ℕ} {k : Kbm} {es : List (Option ℤ)} → MappingText s k es → Read k
 mapping_read t = rw t.mapping (by_values t.values (all_known unseen required t.lines.first t.values t.lines.values) (small_size t.lines))
 
 -- WHAT WAS READ IS WRITTEN: into so many bytes for the table's places, and as the entries that the text has

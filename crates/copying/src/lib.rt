@@ -4,14 +4,16 @@
 
 ghost use Rattle.std.specs.Prelude.{◌≡◌, ◌^◌, ◌≤◌, ◌<◌, length, take};
 ghost use Rattle.std.proofs.lemmas.List.Edits.{sets};
+ghost use Rattle.base.specs.Numbers.{number_of};
 ghost use Rattle.base.specs.Said.{gives};
 ghost use Rattle.base.specs.Tables.{over};
 ghost use Rattle.kbm.specs.Table.{table_of};
 ghost use Rattle.kbm_write.specs.Export.{export_of, export_text};
 ghost use Rattle.copying.specs.Copy.{word_text, refused_text, copy_text, printed};
 
-use kbm::{Kbm, KbmAnswer};
-use writing::{SizeAnswer, write_number};
+use base::Reason;
+use kbm::Kbm;
+use writing::write_number;
 
 // The longest text that is read: "input over 65,536 bytes gives `refused 12 0`".
 const LONGEST: usize = 65536;
@@ -43,13 +45,13 @@ fn write_word(out: &mut [u8]) -> usize
 }
 
 // The line of a refusal from the first byte on; the next place.
-fn write_refusal(number: u32, detail: usize, out: &mut [u8]) -> usize
+fn write_refusal(reason: Reason, detail: usize, out: &mut [u8]) -> usize
     requires { (detail < 2 ^ 32) × (72 ≤ length out.old) }
-    ensures value { result ≡ length (refused_text number detail) }
-    ensures out_after { out.new ≡ over out.old (refused_text number detail) }
+    ensures value { result ≡ length (refused_text (number_of reason) detail) }
+    ensures out_after { out.new ≡ over out.old (refused_text (number_of reason) detail) }
 {
     let number_at = write_word(out);
-    let detail_at = write_number(number, b' ', out, number_at);
+    let detail_at = write_number(reason.number(), b' ', out, number_at);
     write_number(detail as u32, b'\n', out, detail_at)
 }
 
@@ -60,8 +62,8 @@ fn write_export(mapping: Kbm, map: &[i32], out: &mut [u8]) -> usize
     ensures out_after { out.new ≡ over out.old (export_text mapping (table_of mapping.count map.now)) }
 {
     match kbm_write::export_kbm(mapping, map, out) {
-        SizeAnswer::Is(n) => n,
-        SizeAnswer::Refused(_) => 0,
+        Ok(n) => n,
+        Err(_) => 0,
     }
 }
 
@@ -73,8 +75,8 @@ fn print_text(text: &[u8], map: &mut [i32], out: &mut [u8]) -> usize
     ensures out_after { out.new ≡ over out.old (copy_text text.now) }
 {
     match kbm_read::read_kbm(text, map) {
-        KbmAnswer::Is(mapping) => write_export(mapping, map, out),
-        KbmAnswer::Refused(refusal) => write_refusal(refusal.number, refusal.detail, out),
+        Ok(mapping) => write_export(mapping, map, out),
+        Err(refusal) => write_refusal(refusal.reason, refusal.detail, out),
     }
 }
 
@@ -86,7 +88,7 @@ pub fn print_copy(input: &[u8; INPUT], n: usize, out: &mut [u8; OUTPUT]) -> usiz
 {
     let bytes: &[u8] = input;
     if LONGEST < n {
-        return write_refusal(base::NO_ROOM, 0, out);
+        return write_refusal(Reason::NoRoom, 0, out);
     }
     let mut map = [0i32; PLACES];
     print_text(&bytes[..n], &mut map, out)

@@ -1,15 +1,14 @@
 -- From what was scanned to the answer. Assumes nothing.
+use Rattle.std.specs.Prelude.{None, Some, Option, Ok, Err}
 use Rattle.std.proofs.Common.{◌≡◌, ℕ, ◌^◌, ◌<◌, ◌≤◌, Bool, true, false, leb, List, sym, refl, ap, ◌∙◌, arith, le-leb, leb-true}
 use lib.Ieee.{Float}
 use borrow.Author.Tests.{lt-leb}
 use Rattle.base.specs.Said.{pick}
 use Rattle.numerals.specs.Scan.{scan_of}
 use Rattle.numerals.specs.declared.Numeral.{Numeral}
-use Rattle.numerals.specs.declared.Scanned.{Scanned}
-use Rattle.numerals.specs.declared.Scanned.TheVariants as scanned
 use Rattle.numerals.proofs.Small.{scan_small}
 use Rattle.decimals.specs.DecimalScan.{supported, valued, judged, read_decimal}
-use Rattle.decimals.specs.declared.DecimalAnswer.TheVariants as answer
+use Rattle.decimals.specs.declared.DecimalError.TheVariants as answer
 
 -- what `supported` says of a numeral
 pub record Supported (x : Numeral) : Type 0 where
@@ -36,19 +35,19 @@ pub not_plain : (x : Numeral) → x.plain ≡ false → false ≡ supported x
 not_plain x p = rw p
 
 -- r is what a call of `scan` answered, and x what it holds
-module _ (s : List ℕ) {r : Scanned} (e : r ≡ scan_of s) where
-  pub told_bad : r ≡ scanned.Bad → answer.Bad ≡ read_decimal s
+module _ (s : List ℕ) {r : (Option Numeral)} (e : r ≡ scan_of s) where
+  pub told_bad : r ≡ None → (Err answer.Bad) ≡ read_decimal s
   unfolding read_decimal
   told_bad f = ap judged (sym f ∙ e)
 
-  module _ {x : Numeral} (f : r ≡ scanned.Is x) where
+  module _ {x : Numeral} (f : r ≡ Some x) where
     pub told_small : x.n < 10 ^ 18
-    told_small = let g : scan_of s ≡ scanned.Is x = sym e ∙ f in rw g at (scan_small s)
+    told_small = let g : scan_of s ≡ Some x = sym e ∙ f in rw g at (scan_small s)
 
-    pub told_left : supported x ≡ false → answer.Unsupported ≡ read_decimal s
+    pub told_left : supported x ≡ false → (Err answer.Unsupported) ≡ read_decimal s
     unfolding read_decimal
-    told_left h = let g : scan_of s ≡ scanned.Is x = sym e ∙ f in rw (g, h)
+    told_left h = let g : scan_of s ≡ Some x = sym e ∙ f in rw (g, h)
 
-    pub told_value : supported x ≡ true → {v : Float} → v ≡ valued x → answer.Is v ≡ read_decimal s
+    pub told_value : supported x ≡ true → {v : Float} → v ≡ valued x → Ok v ≡ read_decimal s
     unfolding read_decimal
-    told_value h k = let g : scan_of s ≡ scanned.Is x = sym e ∙ f in rw (g, h) (ap answer.Is k)
+    told_value h k = let g : scan_of s ≡ Some x = sym e ∙ f in rw (g, h) (ap Ok k)

@@ -1,5 +1,6 @@
 -- THE THEOREMS OF DECIMALS, document 01, "Lines", Decimal: a text gives v exactly if it is a supported f64 text whose
 -- nearest f64 is v; it is unsupported (9) exactly for one of the four causes; all others are no numerals. Assumes nothing.
+use Rattle.std.specs.Prelude.{None, Some, Option, Ok, Err}
 use Rattle.std.proofs.Common.{◌≡◌, ℕ, ◌^◌, ◌<◌, ◌≤◌, Bool, true, false, leb, ◌↔◌, List, ◌++◌, length, sym, refl, ap, ◌∙◌, arith, le-leb, leb-false}
 use lib.Ieee.{Float, round, binary64}
 use borrow.Author.Tests.{lt-leb}
@@ -9,9 +10,7 @@ use Rattle.integers.specs.Digits.{decimal}
 use Rattle.numerals.specs.Scan.{scan_of}
 use Rattle.decimals.specs.DecimalScan.{supported, valued, judged, read_decimal}
 use Rattle.numerals.specs.declared.Numeral.{Numeral}
-use Rattle.numerals.specs.declared.Scanned.{Scanned}
-use Rattle.numerals.specs.declared.Scanned.TheVariants as scanned
-use Rattle.decimals.specs.declared.DecimalAnswer.TheVariants as answer
+use Rattle.decimals.specs.declared.DecimalError.TheVariants as answer
 use Rattle.decimals.proofs.Answers.{supported_says}
 use Rattle.numerals.proofs.Scans.{SeenPlain, Seen, complete, sound}
 
@@ -63,24 +62,24 @@ same_value x v h = rw (v.sign, v.value h, v.places)
 -- THE ANSWERS
 -- what was scanned
 data Told (s : List ℕ) : Type 0 where
-  bad : scan_of s ≡ scanned.Bad → read_decimal s ≡ answer.Bad → Told s
-  out : (x : Numeral) → scan_of s ≡ scanned.Is x → supported x ≡ false → read_decimal s ≡ answer.Unsupported → Told s
-  in_form : (x : Numeral) → scan_of s ≡ scanned.Is x → supported x ≡ true → read_decimal s ≡ answer.Is (valued x) → Told s
+  bad : scan_of s ≡ None → read_decimal s ≡ (Err answer.Bad) → Told s
+  out : (x : Numeral) → scan_of s ≡ Some x → supported x ≡ false → read_decimal s ≡ (Err answer.Unsupported) → Told s
+  in_form : (x : Numeral) → scan_of s ≡ Some x → supported x ≡ true → read_decimal s ≡ Ok (valued x) → Told s
 
 told : (s : List ℕ) → Told s
 unfolding read_decimal
 told s = go (scan_of s) refl
   where
-    by : (x : Numeral) (t : Bool) → supported x ≡ t → scan_of s ≡ scanned.Is x → judged (scan_of s) ≡ pick t (answer.Is (valued x)) answer.Unsupported → Told s
+    by : (x : Numeral) (t : Bool) → supported x ≡ t → scan_of s ≡ Some x → judged (scan_of s) ≡ pick t (Ok (valued x)) (Err answer.Unsupported) → Told s
     by x true e f g = Told.in_form x f e g
     by x false e f g = Told.out x f e g
 
-    go : (r : Scanned) → scan_of s ≡ r → Told s
-    go scanned.Bad e = Told.bad e (rw e)
-    go (scanned.Is x) e = by x (supported x) refl e (rw e)
+    go : (r : (Option Numeral)) → scan_of s ≡ r → Told s
+    go None e = Told.bad e (rw e)
+    go (Some x) e = by x (supported x) refl e (rw e)
 
 -- a text gives v exactly if it is a decimal whose nearest f64 is v
-pub gives_sound : (s : List ℕ) (v : Float) → read_decimal s ≡ answer.Is v → DecimalText s v
+pub gives_sound : (s : List ℕ) (v : Float) → read_decimal s ≡ Ok v → DecimalText s v
 gives_sound s v e = go (told s)
   where
     of_form : (f : Form) (x : Numeral) → FloatText s f → Seen f x → supported x ≡ true → valued x ≡ v → DecimalText s v
@@ -98,17 +97,17 @@ gives_sound s v e = go (told s)
         let d = sound s x f in
         of_form d.form x d.text d.seen h k
 
-pub gives_complete : (s : List ℕ) (v : Float) → DecimalText s v → read_decimal s ≡ answer.Is v
+pub gives_complete : (s : List ℕ) (v : Float) → DecimalText s v → read_decimal s ≡ Ok v
 unfolding read_decimal
 gives_complete s v d =
     let c = complete d.text in
-    rw (c.is, taken c.numeral c.seen d.taken) (ap answer.Is (same_value c.numeral c.seen (few d.taken) ∙ sym d.nearest))
+    rw (c.is, taken c.numeral c.seen d.taken) (ap Ok (same_value c.numeral c.seen (few d.taken) ∙ sym d.nearest))
 
-pub gives : (s : List ℕ) (v : Float) → (read_decimal s ≡ answer.Is v) ↔ DecimalText s v
+pub gives : (s : List ℕ) (v : Float) → (read_decimal s ≡ Ok v) ↔ DecimalText s v
 gives s v = (gives_sound s v, gives_complete s v)
 
 -- 9 exactly for an exponent, a word, over 18 digits from the first nonzero one on, or over 18 after the dot
-pub leaves_sound : (s : List ℕ) → read_decimal s ≡ answer.Unsupported → UnsupportedText s
+pub leaves_sound : (s : List ℕ) → read_decimal s ≡ (Err answer.Unsupported) → UnsupportedText s
 leaves_sound s e = go (told s)
   where
     go : Told s → UnsupportedText s
@@ -116,31 +115,31 @@ leaves_sound s e = go (told s)
     go (Told.out x f h g) = let d = sound s x f in record { form = d.form; text = d.text; cause = cause d.form x d.seen h }
     go (Told.in_form x f h g) = let z : ◌≡◌ {A = ℕ} 0 1 = cc in absurd (omega arith)
 
-pub leaves_complete : (s : List ℕ) → UnsupportedText s → read_decimal s ≡ answer.Unsupported
+pub leaves_complete : (s : List ℕ) → UnsupportedText s → read_decimal s ≡ (Err answer.Unsupported)
 unfolding read_decimal
 leaves_complete s u = let c = complete u.text in rw (c.is, left c.numeral u.cause c.seen)
 
-pub leaves : (s : List ℕ) → (read_decimal s ≡ answer.Unsupported) ↔ UnsupportedText s
+pub leaves : (s : List ℕ) → (read_decimal s ≡ (Err answer.Unsupported)) ↔ UnsupportedText s
 leaves s = (leaves_sound s, leaves_complete s)
 
 -- no numeral exactly if it is no f64 text
-pub refuses_sound : (s : List ℕ) → read_decimal s ≡ answer.Bad → (f : Form) → FloatText s f → ⊥
+pub refuses_sound : (s : List ℕ) → read_decimal s ≡ (Err answer.Bad) → (f : Form) → FloatText s f → ⊥
 refuses_sound s e f t = let c = complete t in go (told s) c.is
   where
-    go : Told s → {x : Numeral} → scan_of s ≡ scanned.Is x → ⊥
+    go : Told s → {x : Numeral} → scan_of s ≡ Some x → ⊥
     go (Told.bad h g) k = let z : ◌≡◌ {A = ℕ} 0 1 = cc in omega arith
     go (Told.out y h i g) k = let z : ◌≡◌ {A = ℕ} 0 1 = cc in omega arith
     go (Told.in_form y h i g) k = let z : ◌≡◌ {A = ℕ} 0 1 = cc in omega arith
 
-pub refuses_complete : (s : List ℕ) → ((f : Form) → FloatText s f → ⊥) → read_decimal s ≡ answer.Bad
+pub refuses_complete : (s : List ℕ) → ((f : Form) → FloatText s f → ⊥) → read_decimal s ≡ (Err answer.Bad)
 refuses_complete s h = go (told s)
   where
-    go : Told s → read_decimal s ≡ answer.Bad
+    go : Told s → read_decimal s ≡ (Err answer.Bad)
     go (Told.bad f g) = g
     go (Told.out x f i g) = let d = sound s x f in absurd (h d.form d.text)
     go (Told.in_form x f i g) = let d = sound s x f in absurd (h d.form d.text)
 
-pub refuses : (s : List ℕ) → (read_decimal s ≡ answer.Bad) ↔ ((f : Form) → FloatText s f → ⊥)
+pub refuses : (s : List ℕ) → (read_decimal s ≡ (Err answer.Bad)) ↔ ((f : Form) → FloatText s f → ⊥)
 refuses s = (refuses_sound s, refuses_complete s)
 
 -- one reading: a text is a decimal of one value

@@ -7,7 +7,7 @@ ghost use Rattle.std.specs.Float.Ieee as Ieee;
 ghost use Rattle.std.specs.Float.{binary64};
 ghost use Rattle.decimals.specs.DecimalScan.{supported, read_decimal};
 
-use numerals::{Numeral, Scanned};
+use numerals::Numeral;
 
 // 01: 9 is given "for .. over 18 digits from the first nonzero digit on".
 const MOST_DIGITS: usize = 18;
@@ -17,10 +17,9 @@ const MOST_PLACES: usize = 18;
 // gives the nearest.
 const MOST_EXACT: u64 = 0x20_0000_0000_0000;
 
-// What a text says as a decimal. A caller gives Unsupported the number 9, and Bad the number of what it reads.
-#[derive(Clone, Copy)]
-pub enum DecimalAnswer {
-    Is(f64),
+// Why a text gives no decimal. A caller gives Unsupported the number 9, and Bad the number of what it reads.
+#[derive(Clone, Copy, PartialEq, Eq)]
+pub enum DecimalError {
     Unsupported,
     Bad,
 }
@@ -30,15 +29,7 @@ pub enum DecimalAnswer {
 fn is_supported(x: Numeral) -> bool
     ensures { result ≡ supported x }
 {
-    if x.plain {
-        if x.significant <= MOST_DIGITS {
-            x.places <= MOST_PLACES
-        } else {
-            false
-        }
-    } else {
-        false // an exponent or a word
-    }
+    x.plain && x.significant <= MOST_DIGITS && x.places <= MOST_PLACES
 }
 
 // The f64 nearest to n / 10^k, a tie to the even one.
@@ -68,16 +59,14 @@ fn signed_decimal(negative: bool, n: u64, k: u64) -> f64
 }
 
 // The f64 nearest to the decimal that the text is; Unsupported (9) for a numeral that is not taken, Bad for no numeral.
-pub fn read_decimal(s: &[u8]) -> DecimalAnswer
+pub fn read_decimal(s: &[u8]) -> Result<f64, DecimalError>
     ensures { result ≡ read_decimal s.now }
 {
-    let Scanned::Is(x) = numerals::scan(s) else {
-        return DecimalAnswer::Bad;
+    let Some(x) = numerals::scan(s) else {
+        return Err(DecimalError::Bad);
     };
-    if is_supported(x) {
-        let places = x.places as u64;
-        DecimalAnswer::Is(signed_decimal(x.negative, x.n, places))
-    } else {
-        DecimalAnswer::Unsupported
+    if !is_supported(x) {
+        return Err(DecimalError::Unsupported);
     }
+    Ok(signed_decimal(x.negative, x.n, x.places as u64))
 }

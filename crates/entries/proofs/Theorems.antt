@@ -1,4 +1,7 @@
 -- What a list of structs is beside its columns, and that each call has one result. Document 01, "Scales and searches". Assumes nothing.
+use Rattle.std.specs.Prelude.{Result}
+use Rattle.scl.specs.declared.Scl.{Scl}
+use Rattle.base.specs.declared.Refusal.{Refusal}
 use mathlib.Core.Path.{◌≡◌, refl, sym, ◌∙◌, ap, subst}
 use mathlib.Core.Bool.{Bool, true, false}
 use mathlib.Core.List.{List, [], ◌∷◌, ◌++◌}
@@ -9,24 +12,21 @@ use lib.ListN.{length, take, drop, length-append, length-drop, length-map}
 use lib.Seq.{length-take-le, take_at, drop_at}
 use borrow.Author.Tests.{leb-true, leb-false}
 use Rattle.base.specs.Numbers.{unusable}
-use Rattle.base.specs.Said.{Said, gives, refuses, One}
-use Rattle.base.proofs.Said.{one_result, one_plain, no_value}
+use Rattle.base.specs.Said.{Said, gives, refuses, One, outcome}
+use Rattle.base.proofs.Said.{one_result, no_value, one_said}
 use Rattle.sorting.specs.Entries.{Entry}
 use Rattle.sorting.proofs.Columns.{length_zip}
 use Rattle.sorted.specs.Lent.{ListTable, list_in}
 use Rattle.scl.specs.Answers.{says_scl}
 use Rattle.scl.specs.Table.{ItemTable, Typed}
-use Rattle.scl.specs.declared.SclAnswer.{SclAnswer}
 use Rattle.scl.proofs.Theorems.{scl_one}
 use Rattle.scl_tables.specs.Build.{after_list}
 use Rattle.scl_tables.specs.Room.{room_of}
 use Rattle.scl_build.specs.Builder.{built, counted}
 use Rattle.scl_build.specs.declared.SclBuilder.{SclBuilder}
-use Rattle.scl_read.specs.Reader.{says_read, read_of, given_in, items_after, sorted_after, after_items, after_sorted}
+use Rattle.scl_read.specs.Reader.{read_of, given_in, items_after, sorted_after, after_items, after_sorted}
 use Rattle.scl_read.specs.declared.SclRead.{SclRead}
-use Rattle.scl_read.specs.declared.SclReadAnswer.{SclReadAnswer}
 use Rattle.scl_read.proofs.Language.{accepts, accepted}
-use Rattle.scl_read.proofs.Theorems.{read_split}
 use Rattle.entries.specs.declared.SortedEntry.{SortedEntry}
 use Rattle.entries.specs.Entries.{as_entry, as_entries}
 use Rattle.entries.specs.Builds.{built_in, after_entries, Holds}
@@ -116,7 +116,7 @@ module _ {count : ℕ} {left : ListTable} {s : Said (List Entry)} (old es : List
       (drop_entries (count + 1) es ∙ ap (drop (count + 1)) written ∙ drop_at (list_in count left) (drop (length (list_in count left)) (as_entries old)) (count + 1) size ∙ ap (λ (n : ℕ). drop n (as_entries old)) size ∙ sym (drop_entries (count + 1) old))
 
 -- ---- a build
-module _ (b : SclBuilder) (t : ItemTable) (l : ListTable) (old : List SortedEntry) (r : SclAnswer) (left : ListTable) (es : List SortedEntry) (c : BuildEntries b t l old r left es) where
+module _ (b : SclBuilder) (t : ItemTable) (l : ListTable) (old : List SortedEntry) (r : (Result Scl Refusal)) (left : ListTable) (es : List SortedEntry) (c : BuildEntries b t l old r left es) where
   -- ACCEPTED: the list of structs has the list that the columns have, what stood behind it stays, and the columns and the answer are those
   -- of the column call
   pub build_entries_accepted : Typed t → (count : ℕ) → says_scl r ≡ gives count → SameList count left es × (drop (count + 1) es ≡ drop (count + 1) old) × (says_scl r ≡ counted b (built b t l)) × (left ≡ after_list (built b t l) l)
@@ -138,9 +138,9 @@ module _ (b : SclBuilder) (t : ItemTable) (l : ListTable) (old : List SortedEntr
       go (refuses n d) q = (c.1 ∙ ap (λ (s : Said (List Entry)). after_list s l) q, same_entries es old (c.2 ∙ ap (λ (s : Said (List Entry)). after_entries s (as_entries old)) q))
 
 -- ---- a read
-module _ (text : List ℕ) (t : ItemTable) (l : ListTable) (old : List SortedEntry) (r : SclReadAnswer) (items : ItemTable) (left : ListTable) (es : List SortedEntry) (c : ReadEntries text t l old r items left es) where
+module _ (text : List ℕ) (t : ItemTable) (l : ListTable) (old : List SortedEntry) (r : (Result SclRead Refusal)) (items : ItemTable) (left : ListTable) (es : List SortedEntry) (c : ReadEntries text t l old r items left es) where
   -- ACCEPTED: the same, and the column call reads the same into the same tables
-  pub read_entries_accepted : (x : SclRead) → says_read r ≡ gives x
+  pub read_entries_accepted : (x : SclRead) → outcome r ≡ gives x
       → SameList x.scl.count left es × (drop (x.scl.count + 1) es ≡ drop (x.scl.count + 1) old) × (read_of (room_of t l) text ≡ gives x) × (items ≡ after_items text t l) × (left ≡ after_sorted text t l)
   read_entries_accepted x a =
       let h : Holds (gives x.scl.count) left (length old) (sorted_read text (read_in text t l (length old))) = subst (λ (s : Said SclRead). Holds (count_read s) left (length old) (sorted_read text (read_in text t l (length old)))) a (called text t l (length old) c.0 c.1 c.2).3 in
@@ -150,7 +150,7 @@ module _ (text : List ℕ) (t : ItemTable) (l : ListTable) (old : List SortedEnt
       (same_list old es h c.3, same_rest old es h c.3, k, c.1 ∙ ap (λ (s : Said SclRead). items_after s text t) z, c.2 ∙ ap (λ (s : Said SclRead). sorted_after s text l) z)
 
   -- REFUSED: items, columns and list are as they were
-  pub read_entries_refused : (number detail : ℕ) → says_read r ≡ refuses number detail → (items ≡ t) × (left ≡ l) × (es ≡ old)
+  pub read_entries_refused : (number detail : ℕ) → outcome r ≡ refuses number detail → (items ≡ t) × (left ≡ l) × (es ≡ old)
   read_entries_refused number detail a =
       let q : read_in text t l (length old) ≡ refuses number detail = sym c.0 ∙ a in
       (c.1 ∙ ap (λ (s : Said SclRead). items_after s text t) q, c.2 ∙ ap (λ (s : Said SclRead). sorted_after s text l) q, same_entries es old (c.3 ∙ ap (λ (s : Said SclRead). after_entries (sorted_read text s) (as_entries old)) q))
@@ -165,9 +165,9 @@ pub build_entries_one : (b : SclBuilder) (t : ItemTable) (l : ListTable) (places
 build_entries_one b t l places old = (scl_one (counted b (built_in b t l places)), one_result (after_list (built_in b t l places) l), entries_one (after_entries (built_in b t l places) old))
 
 pub read_entries_one : (text : List ℕ) (t : ItemTable) (l : ListTable) (places : ℕ) (old : List Entry)
-    → One says_read (read_in text t l places) × One (λ r. r) (items_after (read_in text t l places) text t) × One (λ r. r) (sorted_after (read_in text t l places) text l) × One as_entries (after_entries (sorted_read text (read_in text t l places)) old)
+    → One outcome (read_in text t l places) × One (λ r. r) (items_after (read_in text t l places) text t) × One (λ r. r) (sorted_after (read_in text t l places) text l) × One as_entries (after_entries (sorted_read text (read_in text t l places)) old)
 read_entries_one text t l places old = (
-  one_plain read_split says_read (λ s. refl) (λ r. refl) (read_in text t l places),
+  one_said (read_in text t l places),
   one_result (items_after (read_in text t l places) text t),
   one_result (sorted_after (read_in text t l places) text l),
   entries_one (after_entries (sorted_read text (read_in text t l places)) old),

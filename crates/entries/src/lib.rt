@@ -7,21 +7,23 @@
 pub mod search;
 
 ghost use Rattle.std.specs.Prelude.{◌≡◌, ◌≤◌, ◌<◌, length};
+ghost use Rattle.base.specs.Said.{outcome};
 ghost use Rattle.base.specs.Tables.{over};
 ghost use Rattle.sorted.specs.Lent.{list_table};
 ghost use Rattle.scl.specs.Answers.{says_scl};
 ghost use Rattle.scl.specs.Table.{item_table};
 ghost use Rattle.scl_tables.specs.Build.{after_list};
 ghost use Rattle.scl_build.specs.Builder.{counted};
-ghost use Rattle.scl_read.specs.Reader.{says_read, items_after, sorted_after};
+ghost use Rattle.scl_read.specs.Reader.{items_after, sorted_after};
 ghost use Rattle.entries.specs.Entries.{sorted_entry_at, as_entries, first_of};
 ghost use Rattle.entries.specs.Builds.{built_in, entries_stored, Holds};
 ghost use Rattle.entries.specs.Readings.{read_in, count_read, sorted_read};
 ghost use Rattle.entries.specs.Same.{BuildEntries, ReadEntries};
 
-use scl::SclAnswer;
+use base::Refusal;
+use scl::Scl;
 use scl_build::SclBuilder;
-use scl_read::SclReadAnswer;
+use scl_read::SclRead;
 
 #[derive(Clone, Copy)]
 pub struct SortedEntry {
@@ -53,20 +55,18 @@ fn store_list<'c>(
     requires { (n ≤ length list.old) × (n ≤ length place.now) × (n ≤ length ratio.now) × (n ≤ length wraps.now) }
     ensures { as_entries list.new ≡ over (as_entries list.old) (first_of n (list_table place.now ratio.now wraps.now)) }
 {
-    let mut i: usize = 0;
-    while i < n {
+    for i in 0..n {
         list[i] = entry_of(place, ratio, wraps, i);
-        i += 1;
     }
 }
 
 // How many entries an answer stores: one for place 0 and one for each item, none on a refusal.
-fn stored_of(answer: SclAnswer) -> usize
+fn stored_of(answer: Result<Scl, Refusal>) -> usize
     ensures { result ≡ entries_stored (says_scl answer) }
 {
     match answer {
-        SclAnswer::Is(scl) => scl.count as usize + 1,
-        SclAnswer::Refused(_) => 0,
+        Ok(scl) => scl.count as usize + 1,
+        Err(_) => 0,
     }
 }
 
@@ -81,14 +81,14 @@ fn build_columns<'i, 'c>(
     ratio: &'c mut [f64],
     wraps: &'c mut [i32],
     places: usize,
-) -> SclAnswer
+) -> Result<Scl, Refusal>
     ensures { (says_scl result ≡ counted state (built_in state (item_table kind.now cents.now numer.now denom.now) (list_table place.old ratio.old wraps.old) places))
         × (list_table place.new ratio.new wraps.new
         ≡ after_list (built_in state (item_table kind.now cents.now numer.now denom.now) (list_table place.old ratio.old wraps.old) places) (list_table place.old ratio.old wraps.old))
         × Holds (says_scl result) (list_table place.new ratio.new wraps.new) places (built_in state (item_table kind.now cents.now numer.now denom.now) (list_table place.old ratio.old wraps.old) places) }
 {
     if places < state.room {
-        return SclAnswer::Refused(scl::NOT_USABLE);
+        return Err(scl::NOT_USABLE);
     }
     state.build(kind, cents, numer, denom, place, ratio, wraps)
 }
@@ -105,7 +105,7 @@ pub fn build_entries<'i>(
     ratio: &mut [f64],
     wraps: &mut [i32],
     list: &mut [SortedEntry],
-) -> SclAnswer
+) -> Result<Scl, Refusal>
     ensures { BuildEntries state (item_table kind.now cents.now numer.now denom.now) (list_table place.old ratio.old wraps.old) list.old result (list_table place.new ratio.new wraps.new) list.new }
 {
     let answer = build_columns(
@@ -125,12 +125,12 @@ pub fn build_entries<'i>(
 }
 
 // How many entries a read stores: one for place 0 and one for each item, none on a refusal.
-fn stored_of_read(answer: SclReadAnswer) -> usize
-    ensures { result ≡ entries_stored (count_read (says_read answer)) }
+fn stored_of_read(answer: Result<SclRead, Refusal>) -> usize
+    ensures { result ≡ entries_stored (count_read (outcome answer)) }
 {
     match answer {
-        SclReadAnswer::Is(read) => read.scl.count as usize + 1,
-        SclReadAnswer::Refused(_) => 0,
+        Ok(read) => read.scl.count as usize + 1,
+        Err(_) => 0,
     }
 }
 
@@ -145,13 +145,13 @@ fn read_columns<'i, 'c>(
     ratio: &'c mut [f64],
     wraps: &'c mut [i32],
     places: usize,
-) -> SclReadAnswer
-    ensures { (says_read result ≡ read_in text.now (item_table kind.old cents.old numer.old denom.old) (list_table place.old ratio.old wraps.old) places)
+) -> Result<SclRead, Refusal>
+    ensures { (outcome result ≡ read_in text.now (item_table kind.old cents.old numer.old denom.old) (list_table place.old ratio.old wraps.old) places)
         × (item_table kind.new cents.new numer.new denom.new
         ≡ items_after (read_in text.now (item_table kind.old cents.old numer.old denom.old) (list_table place.old ratio.old wraps.old) places) text.now (item_table kind.old cents.old numer.old denom.old))
         × (list_table place.new ratio.new wraps.new
         ≡ sorted_after (read_in text.now (item_table kind.old cents.old numer.old denom.old) (list_table place.old ratio.old wraps.old) places) text.now (list_table place.old ratio.old wraps.old))
-        × Holds (count_read (says_read result)) (list_table place.new ratio.new wraps.new) places (sorted_read text.now (read_in text.now (item_table kind.old cents.old numer.old denom.old) (list_table place.old ratio.old wraps.old) places)) }
+        × Holds (count_read (outcome result)) (list_table place.new ratio.new wraps.new) places (sorted_read text.now (read_in text.now (item_table kind.old cents.old numer.old denom.old) (list_table place.old ratio.old wraps.old) places)) }
 {
     if places < wraps.len() {
         return scl_read::read_scl(
@@ -180,7 +180,7 @@ pub fn read_entries<'i>(
     ratio: &mut [f64],
     wraps: &mut [i32],
     list: &mut [SortedEntry],
-) -> SclReadAnswer
+) -> Result<SclRead, Refusal>
     ensures { ReadEntries text.now (item_table kind.old cents.old numer.old denom.old) (list_table place.old ratio.old wraps.old) list.old result (item_table kind.new cents.new numer.new denom.new) (list_table place.new ratio.new wraps.new) list.new }
 {
     let answer = read_columns(

@@ -3,21 +3,21 @@
 //
 // Every call on lent tables goes over the whole list to test it, so the one pass that tests also keeps the target's neighbours.
 ghost use Rattle.std.specs.Prelude.{◌≡◌, true, ◌&&◌, ◌≤◌, ◌<◌, leb, ltb, length};
+ghost use Rattle.base.specs.Said.{outcome};
 ghost use Rattle.floats.specs.Ranges.{in_reach, in_search};
 ghost use Rattle.sorted.specs.Lent.{may_follow};
 ghost use Rattle.scl.specs.Table.{item_table, items_in, is_items};
-ghost use Rattle.searching.specs.Answers.{says_found};
 ghost use Rattle.searching.specs.Search.{found_at};
-ghost use Rattle.searching.specs.DegreeAnswers.{says_degree_search};
 ghost use Rattle.entries.specs.Entries.{as_entry, columns_in};
 ghost use Rattle.entries.specs.Columns.{column_search};
 ghost use Rattle.entries.specs.Scans.{Aims, Starts, Comparable, Ready, begun_of, goes_up, scan_step, scan_places, nearest_by, found_by, answer_of};
 
 use crate::SortedEntry;
+use base::Refusal;
 use pitch::Ratio;
-use scl::Scl;
-use searching::approximation::DegreeSearch;
-use searching::{ChoiceAnswer, Found, FoundAnswer};
+use scl::{ItemColumns, Scl};
+use searching::Found;
+use searching::approximation::Approximation;
 
 // What a search looks for: the ratio without its periods, how many these are, and whether there is nothing to find (18).
 #[derive(Clone, Copy)]
@@ -61,11 +61,11 @@ fn begun(count: u16, usable: bool, aim: Aim) -> Scan
 }
 
 // What the search of a ratio in usable items looks for.
-fn aim_of(kind: &[u8], cents: &[f64], numer: &[u32], denom: &[u32], count: u16, x: f64) -> Aim
-    requires { (is_items count (item_table kind.now cents.now numer.now denom.now) ≡ true) × (0 < count) × (in_reach x ≡ true) }
-    ensures { Aims (items_in count (item_table kind.now cents.now numer.now denom.now)) x result }
+fn aim_of(items: &ItemColumns<'_>, count: u16, x: f64) -> Aim
+    requires { (is_items count items.now ≡ true) × (0 < count) × (in_reach x ≡ true) }
+    ensures { Aims (items_in count items.now) x result }
 {
-    let last = relative::ratio_at(kind, cents, numer, denom, count, count as usize);
+    let last = relative::ratio_at(items, count, count as usize);
     let period = scl_tables::reduction::period_of(last);
     let size = period.octaves;
     let single = count == 1;
@@ -79,36 +79,15 @@ fn aim_of(kind: &[u8], cents: &[f64], numer: &[u32], denom: &[u32], count: u16, 
 }
 
 // Whether the items can be used, the ratio is searched, and a list has a place for each entry.
-fn is_aimable(
-    kind: &[u8],
-    cents: &[f64],
-    numer: &[u32],
-    denom: &[u32],
-    count: u16,
-    places: usize,
-    x: f64,
-) -> bool
-    ensures { result ≡ ((is_items count (item_table kind.now cents.now numer.now denom.now) && in_search x) && ltb count places) }
+fn is_aimable(items: &ItemColumns<'_>, count: u16, places: usize, x: f64) -> bool
+    ensures { result ≡ ((is_items count items.now && in_search x) && ltb count places) }
 {
-    if scl::is_items(kind, cents, numer, denom, count as usize) {
-        if floats::is_in_search(x) {
-            return (count as usize) < places;
-        }
-    }
-    false
+    items.holds(count as usize) && floats::is_in_search(x) && (count as usize) < places
 }
 
 // The start of a pass over a list of so many places.
-fn start<'i>(
-    scl: Scl,
-    kind: &'i [u8],
-    cents: &'i [f64],
-    numer: &'i [u32],
-    denom: &'i [u32],
-    places: usize,
-    target: Ratio,
-) -> Scan
-    ensures { Starts scl.count (item_table kind.now cents.now numer.now denom.now) places target.0 result }
+fn start<'i>(scl: Scl, items: &ItemColumns<'_>, places: usize, target: Ratio) -> Scan
+    ensures { Starts scl.count items.now places target.0 result }
 {
     let count = scl.count;
     let x = target.0;
@@ -117,11 +96,11 @@ fn start<'i>(
         periods: 0,
         target: x,
     };
-    if is_aimable(kind, cents, numer, denom, count, places, x) {
+    if is_aimable(items, count, places, x) {
         if count == 0 {
             return begun(count, true, whole);
         }
-        return begun(count, true, aim_of(kind, cents, numer, denom, count, x));
+        return begun(count, true, aim_of(items, count, x));
     }
     begun(count, false, whole)
 }
@@ -130,10 +109,7 @@ fn start<'i>(
 fn places_of(s: Scan) -> usize
     ensures { result ≡ scan_places s }
 {
-    if s.usable {
-        return s.count as usize + 1;
-    }
-    0
+    if s.usable { s.count as usize + 1 } else { 0 }
 }
 
 // Whether an entry may stand after the ratio `last`: in the range, not below it, with a place within the count.
@@ -151,10 +127,7 @@ fn is_next(last: f64, count: u16, e: SortedEntry) -> bool
 fn goes_up(upper: f64, target: f64, i: usize) -> bool
     ensures { result ≡ goes_up upper target i }
 {
-    if i < 2 {
-        return true;
-    }
-    upper < target
+    i < 2 || upper < target
 }
 
 // One entry more.
@@ -204,75 +177,69 @@ fn found_of(e: SortedEntry, index: usize, periods: i32, deviation: f64) -> Found
 }
 
 // The neighbour that comes nearer to the target; 18.
-fn nearest(s: Scan) -> FoundAnswer
+fn nearest(s: Scan) -> Result<Found, Refusal>
     requires { Comparable s }
-    ensures { says_found result ≡ nearest_by s }
+    ensures { outcome result ≡ nearest_by s }
 {
     let aim = s.aim;
     let lower = s.lower;
     let upper = s.upper;
-    match searching::choose(lower.ratio, upper.ratio, aim.target) {
-        ChoiceAnswer::Is(choice) => {
-            if choice.upper {
-                return FoundAnswer::Is(found_of(upper, s.at, aim.periods, choice.deviation));
-            }
-            FoundAnswer::Is(found_of(lower, s.at - 1, aim.periods, choice.deviation))
-        }
-        ChoiceAnswer::Refused(refusal) => FoundAnswer::Refused(refusal),
-    }
+    let choice = searching::choose(lower.ratio, upper.ratio, aim.target)?;
+    let found = if choice.upper {
+        found_of(upper, s.at, aim.periods, choice.deviation)
+    } else {
+        found_of(lower, s.at - 1, aim.periods, choice.deviation)
+    };
+    Ok(found)
 }
 
 // What a pass over a usable list found; 18.
-fn found_in(s: Scan) -> FoundAnswer
+fn found_in(s: Scan) -> Result<Found, Refusal>
     requires { (s.usable ≡ true) × Ready s }
-    ensures { says_found result ≡ found_by s }
+    ensures { outcome result ≡ found_by s }
 {
     let aim = s.aim;
     let first = s.upper;
     if s.count == 0 {
-        return FoundAnswer::Is(found_of(first, 0, 0, aim.target));
+        return Ok(found_of(first, 0, 0, aim.target));
     }
     if aim.beyond {
-        return FoundAnswer::Refused(searching::OUT_OF_REACH);
+        return Err(searching::OUT_OF_REACH);
     }
     nearest(s)
 }
 
 // The answer: 10, 18, 11.
-fn finish(s: Scan, sorted: bool) -> DegreeSearch
+fn finish(s: Scan, sorted: bool) -> Result<Approximation, Refusal>
     requires { Ready s }
-    ensures { says_degree_search result ≡ answer_of s sorted }
+    ensures { outcome result ≡ answer_of s sorted }
 {
-    if s.usable {
-        let found = found_in(s);
-        if sorted {
-            return searching::approximation::ascending(found, s.count);
-        }
-        return searching::approximation::declared(found, s.count);
+    if !s.usable {
+        return Err(scl::NOT_USABLE);
     }
-    DegreeSearch::Refused(scl::NOT_USABLE)
+    let found = found_in(s)?;
+    if sorted {
+        searching::approximation::ascending(found, s.count)
+    } else {
+        searching::approximation::declared(found, s.count)
+    }
 }
 
 // The degree whose relative pitch comes nearest to a ratio, the ascending one where `sorted`: 10 for the items, the list or a ratio
 // outside 2^-64..2^64, 18, 11.
 pub fn find_in_entries<'i>(
     scl: Scl,
-    kind: &'i [u8],
-    cents: &'i [f64],
-    numer: &'i [u32],
-    denom: &'i [u32],
+    items: &ItemColumns<'_>,
     list: &[SortedEntry],
     target: Ratio,
     sorted: bool,
-) -> DegreeSearch
-    ensures { says_degree_search result ≡ column_search sorted scl.count (item_table kind.now cents.now numer.now denom.now) (columns_in list.now) target.0 }
+) -> Result<Approximation, Refusal>
+    ensures { outcome result ≡ column_search sorted scl.count items.now (columns_in list.now) target.0 }
 {
-    let mut s = start(scl, kind, cents, numer, denom, list.len(), target);
+    let mut s = start(scl, items, list.len(), target);
     let n = places_of(s);
-    let mut i: usize = 0;
-    while i < n {
+    for i in 0..n {
         s = step(s, list[i], i);
-        i += 1;
     }
     finish(s, sorted)
 }

@@ -4,11 +4,10 @@ use lib.Ieee.{Float, fin, binary64, le, lt, eq, fits, of_bits, round, nan_bits}
 use lib.Ieee.Scale.{finite}
 use lib.Ieee.Exact.{HasValue}
 use lib.Count.{ones, ones-le}
-use Rattle.base.specs.Said.{gives, One}
+use Rattle.base.specs.Said.{gives, One, outcome}
 use Rattle.base.proofs.Said.{one_result, same_value}
 use Rattle.floats.specs.Floats.{two_to, zero_f, one_f, abs}
 use Rattle.floats.specs.Ranges.{in_reach, negligible}
-use Rattle.floats.specs.Answers.{says_float}
 use Rattle.floats.specs.Units.{units_of, negative}
 use Rattle.floats.proofs.Theorems.{float_one}
 use Rattle.rounding.proofs.Power.{power_finite}
@@ -95,10 +94,10 @@ log_far x r f h n =
     sided_far (side_of x r g a.1) (side_off (reach_says x a.0) g (and_false low high n))
 
 -- ---- "a public function's contract leaves one possible result"
-pub exp2_one : (x : Float) → One says_float (E x)
+pub exp2_one : (x : Float) → One outcome (E x)
 exp2_one x = float_one (E x)
 
-pub log2_one : (x : Float) → One says_float (L x)
+pub log2_one : (x : Float) → One outcome (L x)
 log2_one x = float_one (L x)
 
 -- and so do the test of E's range and E inside it

@@ -6,9 +6,10 @@ mod log_near;
 
 ghost use Rattle.std.specs.Prelude.{◌≡◌, ◌+◌, ◌-◌, ◌*◌, ◌/◌, ◌^◌, ◌<◌, ◌≤◌, true, nat_le};
 ghost use Rattle.std.specs.Float.Ieee.{neg};
-ghost use Rattle.base.specs.Said.{pick, gives};
-ghost use Rattle.floats.specs.Answers.{says_float};
+ghost use Rattle.base.specs.Said.{pick, gives, outcome};
 ghost use Rattle.explog.specs.Rules.{E, L, in_powers};
+
+use base::{Reason, Refusal};
 
 // 2^62: E's f is moved up by so many parts of 2^52.
 const MOVED: u64 = 0x4000_0000_0000_0000;
@@ -74,14 +75,14 @@ pub fn power(x: f64) -> f64
 }
 
 // E(x), the power 2^x: 18 outside -900..900.
-pub fn exp2(x: f64) -> floats::FloatAnswer
-    ensures { says_float result ≡ E x }
+pub fn exp2(x: f64) -> Result<f64, Refusal>
+    ensures { outcome result ≡ E x }
 {
     if is_in_powers(x) {
-        floats::FloatAnswer::Is(power(x))
+        Ok(power(x))
     } else {
-        floats::FloatAnswer::Refused(base::Refusal {
-            number: base::BEYOND_REACH,
+        Err(Refusal {
+            reason: Reason::BeyondReach,
             detail: 0,
         })
     }
@@ -106,17 +107,17 @@ fn on_side(a: u64, x: f64) -> f64
 }
 
 // L(x), the base 2 logarithm: 18 outside 2^-900..2^900.
-pub fn log2(x: f64) -> floats::FloatAnswer
-    ensures { says_float result ≡ L x }
+pub fn log2(x: f64) -> Result<f64, Refusal>
+    ensures { outcome result ≡ L x }
 {
     if floats::is_in_reach(x) {
         let parts = floats::unpack(x);
         let bits = log_near::near_log_bits(parts.digits * 1024);
         let a = parts.exponent * PARTS + bits;
-        floats::FloatAnswer::Is(on_side(a, rounding::nearest_ratio(from_one(a))))
+        Ok(on_side(a, rounding::nearest_ratio(from_one(a))))
     } else {
-        floats::FloatAnswer::Refused(base::Refusal {
-            number: base::BEYOND_REACH,
+        Err(Refusal {
+            reason: Reason::BeyondReach,
             detail: 0,
         })
     }

@@ -9,7 +9,7 @@ use lib.Ieee.Bits.{is_true}
 use lib.Ieee.Fits.{div-fits}
 use Rattle.base.specs.Integers.{in_i32, held}
 use Rattle.base.specs.Numbers.{unusable, overflow, beyond_reach}
-use Rattle.base.specs.Said.{Said, gives, and_then, One}
+use Rattle.base.specs.Said.{Said, gives, and_then, One, outcome}
 use Rattle.base.proofs.Said.{same_value}
 use Rattle.floats.specs.Ranges.{in_reach, in_search, in_pitch}
 use Rattle.pitch.specs.Given.{computed}
@@ -28,7 +28,6 @@ use Rattle.searching.specs.Search.{search_of}
 use Rattle.searching.specs.declared.Found.{Found}
 use Rattle.searching.proofs.Theorems.{search_says, degree_search_one, key_search_one}
 use Rattle.searching.proofs.Within.{search_reach}
-use Rattle.searching.specs.DegreeAnswers.{says_degree_search, says_key_search}
 use Rattle.searching.specs.Degrees.{approximation, declared_of, ascending_of, key_of}
 use Rattle.searching.specs.declared.approximation.Approximation.{Approximation}
 use Rattle.finding.specs.Find.{computed_search, pitch_search_from, pitch_search_of}
@@ -115,17 +114,17 @@ module _ (count : ℕ) (t : ItemTable) (l : ListTable) where
   abbrev of_pitch : KbmRoot → Float → (Found → Said Approximation) → Said Approximation
   of_pitch root pitch degree = tested (is_scale count t l && (is_root root && in_pitch pitch)) (and_then (pitch_search_of (items_in count t) (list_in count l) root pitch) degree)
 
-  pub find_by_relative_pitch_one : (x : Float) → One says_degree_search (of_ratio x (declared_of count))
+  pub find_by_relative_pitch_one : (x : Float) → One outcome (of_ratio x (declared_of count))
   find_by_relative_pitch_one x = degree_search_one (of_ratio x (declared_of count))
 
-  pub find_by_relative_pitch_sorted_one : (x : Float) → One says_degree_search (of_ratio x (ascending_of count))
+  pub find_by_relative_pitch_sorted_one : (x : Float) → One outcome (of_ratio x (ascending_of count))
   find_by_relative_pitch_sorted_one x = degree_search_one (of_ratio x (ascending_of count))
 
-  pub find_by_pitch_one : (root : KbmRoot) (pitch : Float) → One says_degree_search (of_pitch root pitch (declared_of count))
+  pub find_by_pitch_one : (root : KbmRoot) (pitch : Float) → One outcome (of_pitch root pitch (declared_of count))
   find_by_pitch_one root pitch = degree_search_one (of_pitch root pitch (declared_of count))
 
-  pub find_by_pitch_sorted_one : (root : KbmRoot) (pitch : Float) → One says_degree_search (of_pitch root pitch (ascending_of count))
+  pub find_by_pitch_sorted_one : (root : KbmRoot) (pitch : Float) → One outcome (of_pitch root pitch (ascending_of count))
   find_by_pitch_sorted_one root pitch = degree_search_one (of_pitch root pitch (ascending_of count))
 
-  pub find_key_by_pitch_one : (root : KbmRoot) (pitch : Float) → One says_key_search (and_then (of_pitch root pitch (declared_of count)) (key_of root))
+  pub find_key_by_pitch_one : (root : KbmRoot) (pitch : Float) → One outcome (and_then (of_pitch root pitch (declared_of count)) (key_of root))
   find_key_by_pitch_one root pitch = key_search_one (and_then (of_pitch root pitch (declared_of count)) (key_of root))

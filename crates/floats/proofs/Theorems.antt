@@ -1,25 +1,18 @@
 -- "a public function's contract leaves one possible result" (document 01): a line for each public call. Assumes nothing.
 use Rattle.std.proofs.Common.{◌≡◌, sym, refl, ◌∙◌, inl, inr}
 use lib.Ieee.{Float}
-use Rattle.base.specs.Said.{Said, One}
-use Rattle.base.proofs.Said.{Split, one_result, one_plain}
+use Rattle.base.specs.Said.{Said, One, outcome}
+use Rattle.base.proofs.Said.{one_result, one_said}
 use Rattle.floats.specs.Floats.{abs, trunc, floor, count}
-use Rattle.floats.specs.Ranges.{in_reach, in_search, in_generator, in_pitch, negligible}
+use Rattle.floats.specs.Ranges.{within, in_reach, in_search, in_generator, in_pitch, negligible}
 use Rattle.floats.specs.Units.{Unpacked}
-use Rattle.floats.specs.Answers.{says_float}
-use Rattle.integer_math.specs.Answers.{says_i32}
 use Rattle.integer_math.proofs.Theorems.{i32_one}
-use Rattle.floats.specs.declared.FloatAnswer.TheVariants as OfFloat
 use Rattle.floats.specs.declared.Parts.{Parts}
 use Rattle.floats.proofs.Units.{same_exponent, same_digits}
 
-pub float_split : Split OfFloat.Is OfFloat.Refused
-float_split (OfFloat.Is x) = inl (x, refl)
-float_split (OfFloat.Refused r) = inr (r, refl)
-
 -- every call that answers a float or a refusal
-pub float_one : (s : Said Float) → One says_float s
-float_one = one_plain float_split says_float (λ a. refl) (λ r. refl)
+pub float_one : (s : Said Float) → One outcome s
+float_one = one_said
 
 pub abs_of_one : (x : Float) → One (λ r. r) (abs x)
 abs_of_one x = one_result (abs x)
@@ -30,10 +23,13 @@ trunc_of_one x = one_result (trunc x)
 pub floor_of_one : (x : Float) → One (λ r. r) (floor x)
 floor_of_one x = one_result (floor x)
 
-pub count_of_one : (q : Float) → One says_i32 (count q)
+pub count_of_one : (q : Float) → One outcome (count q)
 count_of_one q = i32_one (count q)
 
 -- the range tests
+pub is_within_one : (low high x : Float) → One (λ r. r) (within low high x)
+is_within_one low high x = one_result (within low high x)
+
 pub is_in_reach_one : (x : Float) → One (λ r. r) (in_reach x)
 is_in_reach_one x = one_result (in_reach x)
 

@@ -1,4 +1,3 @@
 pub mod Floats
 pub mod Ranges
-pub mod Answers
 pub mod Units

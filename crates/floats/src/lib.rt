@@ -3,18 +3,13 @@
 #![tactic(auto)]
 
 ghost use Rattle.std.specs.Prelude.{◌≡◌, T};
+ghost use Rattle.base.specs.Said.{outcome};
 ghost use Rattle.std.specs.Float.Ieee.Scale.{finite};
 ghost use Rattle.floats.specs.Floats.{abs, trunc, floor, count};
-ghost use Rattle.floats.specs.Ranges.{in_reach, in_search, in_generator, in_pitch, negligible};
-ghost use Rattle.integer_math.specs.Answers.{says_i32};
+ghost use Rattle.floats.specs.Ranges.{within, in_reach, in_search, in_generator, in_pitch, negligible};
 ghost use Rattle.floats.specs.Units.{Unpacked};
 
-// A float, or why there is none.
-#[derive(Clone, Copy)]
-pub enum FloatAnswer {
-    Is(f64),
-    Refused(base::Refusal),
-}
+use base::{Reason, Refusal};
 
 // The size of x: its sign cleared.
 pub fn abs_of(x: f64) -> f64
@@ -22,8 +17,10 @@ pub fn abs_of(x: f64) -> f64
 {
     if x < 0.0 {
         -x
+    } else if x == 0.0 {
+        0.0
     } else {
-        if x == 0.0 { 0.0 } else { x }
+        x
     }
 }
 
@@ -79,21 +76,21 @@ pub fn floor_of(x: f64) -> f64
 }
 
 // A whole q as an i32: 18 outside -2^31..2^31, the end left out, and for a NaN.
-pub fn count_of(q: f64) -> integer_math::I32Answer
-    ensures { says_i32 result ≡ count q }
+pub fn count_of(q: f64) -> Result<i32, Refusal>
+    ensures { outcome result ≡ count q }
 {
     if q >= -I32_END {
         if q < I32_END {
-            integer_math::I32Answer::Is(std::num::truncating_f64_to_i64(q) as i32)
+            Ok(std::num::truncating_f64_to_i64(q) as i32)
         } else {
-            integer_math::I32Answer::Refused(base::Refusal {
-                number: base::BEYOND_REACH,
+            Err(Refusal {
+                reason: Reason::BeyondReach,
                 detail: 0,
             })
         }
     } else {
-        integer_math::I32Answer::Refused(base::Refusal {
-            number: base::BEYOND_REACH,
+        Err(Refusal {
+            reason: Reason::BeyondReach,
             detail: 0,
         })
     }
@@ -116,49 +113,46 @@ pub const PITCH_LOW: f64 = 0.0009765625;
 
 pub const PITCH_HIGH: f64 = 1048576.0;
 
+// Whether x lies in low..high, both ends in it.
+pub fn is_within(low: f64, high: f64, x: f64) -> bool
+    ensures { result ≡ within low high x }
+{
+    (low <= x) & (x <= high)
+}
+
 // Whether x lies in 2^-900..2^900: every pitch and ratio does.
 pub fn is_in_reach(x: f64) -> bool
     ensures { result ≡ in_reach x }
 {
-    let low = x >= REACH_LOW;
-    let high = x <= REACH_HIGH;
-    low & high
+    is_within(REACH_LOW, REACH_HIGH, x)
 }
 
 // Whether x lies in 2^-64..2^64: searched ratios do.
 pub fn is_in_search(x: f64) -> bool
     ensures { result ≡ in_search x }
 {
-    let low = x >= SEARCH_LOW;
-    let high = x <= SEARCH_HIGH;
-    low & high
+    is_within(SEARCH_LOW, SEARCH_HIGH, x)
 }
 
 // Whether x lies in 2^-32..2^32: generators and periods of rank-2 scales do.
 pub fn is_in_generator(x: f64) -> bool
     ensures { result ≡ in_generator x }
 {
-    let low = x >= GENERATOR_LOW;
-    let high = x <= GENERATOR_HIGH;
-    low & high
+    is_within(GENERATOR_LOW, GENERATOR_HIGH, x)
 }
 
 // Whether x lies in 2^-10..2^20: reference pitches and searched pitches in Hz do.
 pub fn is_in_pitch(x: f64) -> bool
     ensures { result ≡ in_pitch x }
 {
-    let low = x >= PITCH_LOW;
-    let high = x <= PITCH_HIGH;
-    low & high
+    is_within(PITCH_LOW, PITCH_HIGH, x)
 }
 
 // Whether x lies in [0.999999, 1.000001): a ratio that is as good as 1.
 pub fn is_negligible(x: f64) -> bool
     ensures { result ≡ negligible x }
 {
-    let low = x >= 0.999999;
-    let high = x < 1.000001;
-    low & high
+    (x >= 0.999999) & (x < 1.000001)
 }
 
 // A finite f64 taken apart: digits * 2^(exponent - 1074), with the sign.

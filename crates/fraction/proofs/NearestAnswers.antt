@@ -1,6 +1,8 @@
 -- Inside 2^-64..2^64 `nearest_fraction` always answers: its octaves are at most 64 either way, so neither L nor the count, E
 -- or the quotient refuses; each deviation that its walk computes lies in 2^-900..2^900; and with a limit of 1 or more its
 -- best counts. Assumes nothing.
+use Rattle.std.specs.declared.ops.ControlFlow.{ControlFlow}
+use Rattle.std.specs.declared.ops.ControlFlow.TheVariants.{Continue, Break}
 use mathlib.Core.Path.{◌≡◌, refl, sym, ap, ◌∙◌, subst}
 use mathlib.Core.Bool.{Bool, true, false, ◌&&◌}
 use Prim.Native.Nat.{ℕ, suc, ◌-◌, ◌+◌, ◌≤◌}
@@ -25,8 +27,6 @@ use Rattle.pitch.specs.Given.{computed}
 use Rattle.fraction.specs.NearestFraction.{fraction, walk_of, widest, turns, walked, end_of, float_of, both_over, both_within, improved, passed, turn_at, turn_of, best_for, nearest_fraction, Proper}
 use Rattle.pitch.specs.Ratios.{from_octaves, upward}
 use Rattle.fraction.specs.declared.Fraction.{Fraction}
-use Rattle.fraction.specs.declared.Step.{Step}
-use Rattle.fraction.specs.declared.Step.TheVariants.{On, Done}
 use Rattle.fraction.specs.declared.Walk.{Walk}
 use Rattle.fraction.proofs.States.{State, Any, Counted, after, past, state_rest}
 
@@ -170,12 +170,12 @@ module _ (target : Float) (limit : ℕ) (some : 1 ≤ limit) (t : Within 128 128
   counted_after : (k : ℕ) → State (Counted target limit) (walked (suc k) widest target limit)
   unfolding walked
   counted_after k =
-      subst (λ (e : Step). State (Counted target limit) (end_of e (λ next. walked k next target limit))) (sym first)
+      subst (λ (e : (ControlFlow Walk Walk)). State (Counted target limit) (end_of e (λ next. walked k next target limit))) (sym first)
       (go (passed (walk_of (fraction 0 1) (fraction 1 0) one deviation_one) one target) (past target limit (Counted target limit) new _ one at_one one_proper))
     where
-      go : (e : Step) → State (Counted target limit) (after e) → State (Counted target limit) (end_of e (λ next. walked k next target limit))
-      go (On next) h = state_rest target limit (Counted target limit) new k next h
-      go (Done last) h = h
+      go : (e : (ControlFlow Walk Walk)) → State (Counted target limit) (after e) → State (Counted target limit) (end_of e (λ next. walked k next target limit))
+      go (Continue next) h = state_rest target limit (Counted target limit) new k next h
+      go (Break last) h = h
 
   pub counted : State (Counted target limit) (walked turns widest target limit)
   counted = counted_after (turns - 1)

@@ -1,5 +1,7 @@
 -- What holds of every state of the walk of `nearest_fraction`: it is between two fractions of 16 bits, neither of them 0/0,
 -- and what holds of each fraction that counts holds of the best. Assumes nothing.
+use Rattle.std.specs.declared.ops.ControlFlow.{ControlFlow}
+use Rattle.std.specs.declared.ops.ControlFlow.TheVariants.{Continue, Break}
 use mathlib.Core.Path.{◌≡◌, refl, sym, ◌∙◌}
 use mathlib.Core.Bool.{Bool, true, false, ◌&&◌, true≢false}
 use Prim.Native.Nat.{ℕ, zero, suc, ◌+◌, ◌≤◌}
@@ -11,8 +13,6 @@ use Rattle.base.specs.Said.{pick}
 use Rattle.fraction.specs.NearestFraction.{fraction, walk_of, widest, float_of, both_over, both_within, improved, passed, turn_at, turn_of, end_of, walked, Proper}
 use Rattle.pitch.specs.Ratios.{upward}
 use Rattle.fraction.specs.declared.Fraction.{Fraction}
-use Rattle.fraction.specs.declared.Step.{Step}
-use Rattle.fraction.specs.declared.Step.TheVariants.{On, Done}
 use Rattle.fraction.specs.declared.Walk.{Walk}
 
 -- neither fraction is 0/0
@@ -44,9 +44,9 @@ pub record Counted (target : Float) (limit : ℕ) (f : Fraction) (d : Float) : T
   pub deviation : d ≡ div binary64 target (float_of f)
 
 -- the walk after a turn
-abbrev pub after : Step → Walk
-after (On w) = w
-after (Done w) = w
+abbrev pub after : (ControlFlow Walk Walk) → Walk
+after (Continue w) = w
+after (Break w) = w
 
 -- the best may change; the two fractions stay
 pub record Kept (w better : Walk) : Type 0 where
@@ -74,10 +74,6 @@ module _ (w : Walk) (mid : Fraction) (deviation : Float) (limit : ℕ) {counts :
     pub nearer : lt new old ≡ true → walk_of w.low w.high mid deviation ≡ improved w mid deviation limit
     unfolding improved
     nearer e = rw (sym asked ∙ c, nearness e)
-
-    pub no_nearer : lt new old ≡ false → w ≡ improved w mid deviation limit
-    unfolding improved
-    no_nearer e = rw (sym asked ∙ c, nearness e)
 
 -- B holds of each fraction in the middle that counts
 module _ (target : Float) (limit : ℕ) (B : Fraction → Float → Type 0) (new : (mid : Fraction) → Proper mid → both_within mid limit ≡ true → B mid (div binary64 target (float_of mid))) where
@@ -114,7 +110,7 @@ module _ (target : Float) (limit : ℕ) (B : Fraction → Float → Type 0) (new
   unfolding passed
   past w mid s p = go (lt target (float_of mid)) (lt (float_of mid) target)
     where
-      go : (a b : Bool) → State B (after (pick a (On (walk_of w.low mid w.best w.deviation)) (pick b (On (walk_of mid w.high w.best w.deviation)) (Done w))))
+      go : (a b : Bool) → State B (after (pick a (Continue (walk_of w.low mid w.best w.deviation)) (pick b (Continue (walk_of mid w.high w.best w.deviation)) (Break w))))
       go true b = lower mid s p
       go false true = higher mid s p
       go false false = s
@@ -123,7 +119,7 @@ module _ (target : Float) (limit : ℕ) (B : Fraction → Float → Type 0) (new
   unfolding turn_at
   turned w mid s p = go (both_over mid limit)
     where
-      go : (t : Bool) → State B (after (pick t (Done w) (passed (improved w mid (div binary64 target (float_of mid)) limit) mid target)))
+      go : (t : Bool) → State B (after (pick t (Break w) (passed (improved w mid (div binary64 target (float_of mid)) limit) mid target)))
       go true = s
       go false = past _ mid (better w mid s p) p
 
@@ -133,12 +129,12 @@ module _ (target : Float) (limit : ℕ) (B : Fraction → Float → Type 0) (new
   state_step w s =
       at (w.low.numer + w.high.numer) (w.low.denom + w.high.denom) (omega (arith, s.between.high)) (omega (arith, s.between.low))
     where
-      go : (n d : ℕ) (a c : Bool) → (a ≡ false → n ≤ 65535) → (c ≡ false → d ≤ 65535) → 1 ≤ n → 1 ≤ d → State B (after (pick a (Done w) (pick c (Done w) (turn_at w (fraction n d) target limit))))
+      go : (n d : ℕ) (a c : Bool) → (a ≡ false → n ≤ 65535) → (c ≡ false → d ≤ 65535) → 1 ≤ n → 1 ≤ d → State B (after (pick a (Break w) (pick c (Break w) (turn_at w (fraction n d) target limit))))
       go n d true c f g x y = s
       go n d false true f g x y = s
       go n d false false f g x y = turned w (fraction n d) s (record { numer_some = x; denom_some = y; numer_held = f refl; denom_held = g refl })
 
-      at : (n d : ℕ) → 1 ≤ n → 1 ≤ d → State B (after (pick (ltb 65535 n) (Done w) (pick (ltb 65535 d) (Done w) (turn_at w (fraction n d) target limit))))
+      at : (n d : ℕ) → 1 ≤ n → 1 ≤ d → State B (after (pick (ltb 65535 n) (Break w) (pick (ltb 65535 d) (Break w) (turn_at w (fraction n d) target limit))))
       at n d = go n d (ltb 65535 n) (ltb 65535 d) (ltb-false 65535 n) (ltb-false 65535 d)
 
   pub state_rest : (k : ℕ) (w : Walk) → State B w → State B (walked k w target limit)
@@ -146,9 +142,9 @@ module _ (target : Float) (limit : ℕ) (B : Fraction → Float → Type 0) (new
   state_rest zero w s = s
   state_rest (suc k) w s = go (λ next h. state_rest k next h) (turn_of w target limit) (state_step w s)
     where
-      go : ((next : Walk) → State B next → State B (walked k next target limit)) → (e : Step) → State B (after e) → State B (end_of e (λ next. walked k next target limit))
-      go f (On next) h = f next h
-      go f (Done last) h = h
+      go : ((next : Walk) → State B next → State B (walked k next target limit)) → (e : (ControlFlow Walk Walk)) → State B (after e) → State B (end_of e (λ next. walked k next target limit))
+      go f (Continue next) h = f next h
+      go f (Break last) h = h
 
 -- every state of the walk from its widest
 pub state_start : State Any widest

@@ -1,4 +1,6 @@
 -- The walk of `nearest_fraction` ends: with each turn that goes on, the fractions it is between grow. Assumes nothing.
+use Rattle.std.specs.declared.ops.ControlFlow.{ControlFlow}
+use Rattle.std.specs.declared.ops.ControlFlow.TheVariants.{Continue, Break}
 use mathlib.Core.Path.{◌≡◌, refl, sym, ◌∙◌, subst}
 use mathlib.Core.Logic.{◌⊎◌, inl, inr}
 use mathlib.Core.Bool.{Bool, true, false}
@@ -9,8 +11,6 @@ use lib.Ieee.{Float, binary64, div, lt}
 use Rattle.base.specs.Said.{pick}
 use Rattle.fraction.specs.NearestFraction.{fraction, walk_of, widest, turns, float_of, both_over, improved, passed, turn_at, turn_of, walked}
 use Rattle.fraction.specs.declared.Fraction.{Fraction}
-use Rattle.fraction.specs.declared.Step.{Step}
-use Rattle.fraction.specs.declared.Step.TheVariants.{On, Done}
 use Rattle.fraction.specs.declared.Walk.{Walk}
 use Rattle.fraction.proofs.States.{Between, InU16, Kept, improved_keeps, State, Any, after, state_start, state_step_any}
 
@@ -27,18 +27,18 @@ pub record Grown (w next : Walk) : Type 0 where
   pub more : size w < size next
   pub between : Between next
 
-on_is : {x y : Walk} → On x ≡ On y → x ≡ y
+on_is : {x y : Walk} → ◌≡◌ {A = ControlFlow Walk Walk} (Continue x) (Continue y) → x ≡ y
 on_is e = cc
 
-no_end : {x y : Walk} → Done x ≡ On y → ⊥
+no_end : {x y : Walk} → ◌≡◌ {A = ControlFlow Walk Walk} (Break x) (Continue y) → ⊥
 no_end e = let z : ◌≡◌ {A = ℕ} 0 1 = cc in omega arith
 
-passed_on : (w : Walk) (mid : Fraction) (target : Float) {next : Walk} → passed w mid target ≡ On next →
+passed_on : (w : Walk) (mid : Fraction) (target : Float) {next : Walk} → passed w mid target ≡ Continue next →
     (walk_of w.low mid w.best w.deviation ≡ next) ⊎ (walk_of mid w.high w.best w.deviation ≡ next)
 unfolding passed
 passed_on w mid target {next} = go (lt target (float_of mid)) (lt (float_of mid) target)
   where
-    go : (a b : Bool) → pick a (On (walk_of w.low mid w.best w.deviation)) (pick b (On (walk_of mid w.high w.best w.deviation)) (Done w)) ≡ On next →
+    go : (a b : Bool) → pick a (Continue (walk_of w.low mid w.best w.deviation)) (pick b (Continue (walk_of mid w.high w.best w.deviation)) (Break w)) ≡ Continue next →
         (walk_of w.low mid w.best w.deviation ≡ next) ⊎ (walk_of mid w.high w.best w.deviation ≡ next)
     go true b e = inl (on_is e)
     go false true e = inr (on_is e)
@@ -56,25 +56,25 @@ module _ (w : Walk) (b : Between w) where
   unfolding mid size
   higher better next k e = subst (Grown w) e (rw k.high (record { more = omega (arith, b.high); between = record { low = omega (arith, b.low); high = b.high } }))
 
-  turned : (target : Float) (limit : ℕ) {next : Walk} → turn_at w mid target limit ≡ On next → Grown w next
+  turned : (target : Float) (limit : ℕ) {next : Walk} → turn_at w mid target limit ≡ Continue next → Grown w next
   unfolding turn_at
   turned target limit {next} = go (both_over mid limit)
     where
       better : Walk
       better = improved w mid (div binary64 target (float_of mid)) limit
 
-      go : (t : Bool) → pick t (Done w) (passed better mid target) ≡ On next → Grown w next
+      go : (t : Bool) → pick t (Break w) (passed better mid target) ≡ Continue next → Grown w next
       go true e = absurd (no_end e)
       go false e = elim (passed_on better mid target e) [
         | inl is ↦ lower better next (improved_keeps w mid _ limit) is
         | inr is ↦ higher better next (improved_keeps w mid _ limit) is
       ]
 
-  pub grows : (target : Float) (limit : ℕ) {next : Walk} → turn_of w target limit ≡ On next → Grown w next
+  pub grows : (target : Float) (limit : ℕ) {next : Walk} → turn_of w target limit ≡ Continue next → Grown w next
   unfolding turn_of mid
   grows target limit {next} = go (ltb 65535 (w.low.numer + w.high.numer)) (ltb 65535 (w.low.denom + w.high.denom))
     where
-      go : (a c : Bool) → pick a (Done w) (pick c (Done w) (turn_at w mid target limit)) ≡ On next → Grown w next
+      go : (a c : Bool) → pick a (Break w) (pick c (Break w) (turn_at w mid target limit)) ≡ Continue next → Grown w next
       go true c e = absurd (no_end e)
       go false true e = absurd (no_end e)
       go false false e = turned target limit e
@@ -92,15 +92,15 @@ module _ (target : Float) (limit : ℕ) where
   unfolding size
   walking_start = record { left = turns; enough = omega arith; small = omega arith; between = record { low = omega arith; high = omega arith }; same = refl }
 
-  walked_on : (k : ℕ) (w next : Walk) → turn_of w target limit ≡ On next → walked (suc k) w target limit ≡ walked k next target limit
+  walked_on : (k : ℕ) (w next : Walk) → turn_of w target limit ≡ Continue next → walked (suc k) w target limit ≡ walked k next target limit
   unfolding walked
   walked_on k w next e = rw e
 
-  pub walked_end : (k : ℕ) (w last : Walk) → turn_of w target limit ≡ Done last → walked (suc k) w target limit ≡ last
+  pub walked_end : (k : ℕ) (w last : Walk) → turn_of w target limit ≡ Break last → walked (suc k) w target limit ≡ last
   unfolding walked
   walked_end k w last e = rw e
 
-  pub walking_on : {w next : Walk} → Walking target limit w → turn_of w target limit ≡ On next → size next ≤ 262140 → Walking target limit next
+  pub walking_on : {w next : Walk} → Walking target limit w → turn_of w target limit ≡ Continue next → size next ≤ 262140 → Walking target limit next
   walking_on {w} {next} s e small = go s.left s.enough s.same
     where
       grown : Grown w next
@@ -110,7 +110,7 @@ module _ (target : Float) (limit : ℕ) where
       go zero m q = absurd (omega (arith, s.small))
       go (suc k) m q = record { left = k; enough = omega (arith, grown.more); small = small; between = grown.between; same = q ∙ walked_on k w next e }
 
-  pub walking_end : {w last : Walk} → Walking target limit w → turn_of w target limit ≡ Done last → last ≡ walked turns widest target limit
+  pub walking_end : {w last : Walk} → Walking target limit w → turn_of w target limit ≡ Break last → last ≡ walked turns widest target limit
   walking_end {w} {last} s e = go s.left s.enough s.same
     where
       go : (k : ℕ) → turns ≤ k + size w → walked turns widest target limit ≡ walked k w target limit → last ≡ walked turns widest target limit
@@ -118,17 +118,17 @@ module _ (target : Float) (limit : ℕ) where
       go (suc k) m q = sym (q ∙ walked_end k w last e)
 
   -- each turn that goes on is one fewer
-  pub walking_less : {w next : Walk} → Walking target limit w → turn_of w target limit ≡ On next → size next ≤ 262140 → 262140 - size next < 262140 - size w
+  pub walking_less : {w next : Walk} → Walking target limit w → turn_of w target limit ≡ Continue next → size next ≤ 262140 → 262140 - size next < 262140 - size w
   walking_less {w} s e small = omega (arith, (grows w s.between target limit e).more)
 
 -- ---- the turns are enough: what the two fractions hold stays within 16 bits, so that a walk cannot grow for ever
 module _ (target : Float) (limit : ℕ) where
-  step_cases : (w : Walk) → ((next : Walk) × (turn_of w target limit ≡ On next)) ⊎ ((last : Walk) × (turn_of w target limit ≡ Done last))
+  step_cases : (w : Walk) → ((next : Walk) × (turn_of w target limit ≡ Continue next)) ⊎ ((last : Walk) × (turn_of w target limit ≡ Break last))
   step_cases w = go (turn_of w target limit) refl
     where
-      go : (s : Step) → turn_of w target limit ≡ s → ((next : Walk) × (turn_of w target limit ≡ On next)) ⊎ ((last : Walk) × (turn_of w target limit ≡ Done last))
-      go (On next) e = inl (next, e)
-      go (Done last) e = inr (last, e)
+      go : (s : (ControlFlow Walk Walk)) → turn_of w target limit ≡ s → ((next : Walk) × (turn_of w target limit ≡ Continue next)) ⊎ ((last : Walk) × (turn_of w target limit ≡ Break last))
+      go (Continue next) e = inl (next, e)
+      go (Break last) e = inr (last, e)
 
   -- two walks with turns enough end alike
   settled : (k j : ℕ) (w : Walk) → State Any w → 262141 ≤ k + size w → 262141 ≤ j + size w → walked k w target limit ≡ walked j w target limit
@@ -137,7 +137,7 @@ module _ (target : Float) (limit : ℕ) where
   settled (suc k) (suc j) w t p q = elim (step_cases w) [
     | inl s ↦
         let g = grows w t.between target limit s.1 in
-        let on = subst (λ (e : Step). State Any (after e)) s.1 (state_step_any target limit w t) in
+        let on = subst (λ (e : (ControlFlow Walk Walk)). State Any (after e)) s.1 (state_step_any target limit w t) in
         walked_on target limit k w s.0 s.1 ∙ settled k j s.0 on (omega (arith, g.more)) (omega (arith, g.more)) ∙ sym (walked_on target limit j w s.0 s.1)
     | inr s ↦ walked_end target limit k w s.0 s.1 ∙ sym (walked_end target limit j w s.0 s.1)
   ]

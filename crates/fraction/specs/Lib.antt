@@ -1,3 +1,2 @@
 pub mod NearestFraction
-pub mod Answers
 pub mod Samples

@@ -1,6 +1,8 @@
 -- The walk of `nearest_fraction`: document 01, "Scales and searches": it "follows its loop: odd limit 0 answers 0/0 with
 -- infinite deviation", and 10 outside 2^-64..2^64. The Rust's `NearestFraction::for_ratio`, step by step. Assumes nothing.
 use Rattle.std.specs.Prelude.{◌≡◌, Bool, true, false, ◌&&◌, ℕ, zero, suc, ◌+◌, ◌≤◌, ltb, leb, ℤ, pos, Float}
+use Rattle.std.specs.declared.ops.ControlFlow.{ControlFlow}
+use Rattle.std.specs.declared.ops.ControlFlow.TheVariants.{Continue, Break}
 use Rattle.std.specs.Float.{inf, binary64}
 use Rattle.std.specs.Float.Ieee.{div, lt, of_int}
 use Rattle.base.specs.Numbers.{unusable}
@@ -13,8 +15,6 @@ use Rattle.pitch.specs.Given.{computed}
 use Rattle.pitch.specs.Ratios.{from_octaves, upward}
 use Rattle.fraction.specs.declared.Fraction.{Fraction}
 use Rattle.fraction.specs.declared.NearestFraction.{NearestFraction}
-use Rattle.fraction.specs.declared.Step.{Step}
-use Rattle.fraction.specs.declared.Step.TheVariants.{On, Done}
 use Rattle.fraction.specs.declared.Walk.{Walk}
 
 abbrev pub fraction : ℕ → ℕ → Fraction
@@ -45,27 +45,27 @@ improved w mid deviation limit =
     pick (both_within mid limit && lt (upward deviation) (upward w.deviation)) (walk_of w.low w.high mid deviation) w
 
 -- past the fraction in the middle: below it, above it, or there
-unfoldable pub passed : Walk → Fraction → Float → Step
+unfoldable pub passed : Walk → Fraction → Float → (ControlFlow Walk Walk)
 passed w mid target =
-    pick (lt target (float_of mid)) (On (walk_of w.low mid w.best w.deviation))
-    (pick (lt (float_of mid) target) (On (walk_of mid w.high w.best w.deviation)) (Done w))
+    pick (lt target (float_of mid)) (Continue (walk_of w.low mid w.best w.deviation))
+    (pick (lt (float_of mid) target) (Continue (walk_of mid w.high w.best w.deviation)) (Break w))
 
 -- one turn at the fraction in the middle
-unfoldable pub turn_at : Walk → Fraction → Float → ℕ → Step
+unfoldable pub turn_at : Walk → Fraction → Float → ℕ → (ControlFlow Walk Walk)
 turn_at w mid target limit =
-    pick (both_over mid limit) (Done w) (passed (improved w mid (div binary64 target (float_of mid)) limit) mid target)
+    pick (both_over mid limit) (Break w) (passed (improved w mid (div binary64 target (float_of mid)) limit) mid target)
 
 -- one turn: the fraction in the middle adds numerators and denominators; the walk ends where one of them leaves 16 bits
-unfoldable pub turn_of : Walk → Float → ℕ → Step
+unfoldable pub turn_of : Walk → Float → ℕ → (ControlFlow Walk Walk)
 turn_of w target limit =
     let numer = w.low.numer + w.high.numer in
     let denom = w.low.denom + w.high.denom in
-    pick (ltb 65535 numer) (Done w) (pick (ltb 65535 denom) (Done w) (turn_at w (fraction numer denom) target limit))
+    pick (ltb 65535 numer) (Break w) (pick (ltb 65535 denom) (Break w) (turn_at w (fraction numer denom) target limit))
 
 -- what comes of a turn: the end, or the rest of the walk
-abbrev pub end_of : Step → (Walk → Walk) → Walk
-end_of (On w) rest = rest w
-end_of (Done w) rest = w
+abbrev pub end_of : (ControlFlow Walk Walk) → (Walk → Walk) → Walk
+end_of (Continue w) rest = rest w
+end_of (Break w) rest = w
 
 -- turns to the end, at most so many
 unfoldable pub walked : ℕ → Walk → Float → ℕ → Walk

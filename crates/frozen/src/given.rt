@@ -1,25 +1,15 @@
 // What a question gives a call: the field of a number, counted from 0 at WHO, whose kind is known (`kinds`).
-use integers::{I16, I32, U32};
 
 pub fn int(line: &[u8], number: usize) -> i32 {
-    match integers::read_i32(crate::field(line, number)) {
-        I32::Is(z) => z,
-        I32::IsNot => 0,
-    }
+    integers::read::<i32>(crate::field(line, number)).unwrap_or(0)
 }
 
 pub fn short(line: &[u8], number: usize) -> i16 {
-    match integers::read_i16(crate::field(line, number)) {
-        I16::Is(z) => z,
-        I16::IsNot => 0,
-    }
+    integers::read::<i16>(crate::field(line, number)).unwrap_or(0)
 }
 
 pub fn natural(line: &[u8], number: usize) -> u32 {
-    match integers::read_u32(crate::field(line, number)) {
-        U32::Is(n) => n,
-        U32::IsNot => 0,
-    }
+    integers::read::<u32>(crate::field(line, number)).unwrap_or(0)
 }
 
 pub fn count(line: &[u8], number: usize) -> u16 {
@@ -41,10 +31,8 @@ pub fn flag(line: &[u8], number: usize) -> bool {
 // The bits that hex digits write.
 fn bits_of(s: &[u8]) -> u64 {
     let mut bits: u64 = 0;
-    let mut k = 0;
-    while k < s.len() {
-        bits = (bits << 4) | crate::kinds::digit(s[k]);
-        k += 1;
+    for b in s {
+        bits = (bits << 4) | crate::kinds::digit(*b);
     }
     bits
 }
@@ -71,26 +59,15 @@ fn join(high: u64, low: u64) -> u8 {
     (high % 16 * 16 + low % 16) as u8
 }
 
-fn byte_at(s: &[u8], k: usize) -> u8 {
-    if k < s.len() {
-        if 1 < s.len() - k {
-            return join(crate::kinds::digit(s[k]), crate::kinds::digit(s[k + 1]));
-        }
-    }
-    0
-}
-
 // The bytes of a field, and how many they are.
 pub fn bytes(line: &[u8], number: usize, out: &mut [u8]) -> usize {
     let s = crate::field(line, number);
-    let n = s.len() / 2;
-    let mut k = 0;
-    while k < n {
-        if out.len() <= k {
-            return k;
-        }
-        out[k] = byte_at(s, 2 * k);
-        k += 1;
+    let n = out.len().min(s.len() / 2);
+    for k in 0..n {
+        out[k] = join(
+            crate::kinds::digit(s[2 * k]),
+            crate::kinds::digit(s[2 * k + 1]),
+        );
     }
     n
 }

@@ -29,58 +29,44 @@ pub fn room() -> [u8; 262144]
 // The line of a list that starts at a place; nothing past the end.
 pub fn line(list: &[u8], at: usize) -> &[u8] {
     let ends = text::lines::next_line(list, at);
-    let end = ends.end;
-    if at <= end {
-        if end <= list.len() {
-            return &list[at..end];
-        }
+    if at <= ends.end && ends.end <= list.len() {
+        &list[at..ends.end]
+    } else {
+        &list[0..0]
     }
-    &list[0..0]
 }
 
 // Where the line after that one starts.
 pub fn following(list: &[u8], at: usize) -> usize {
-    let ends = text::lines::next_line(list, at);
-    ends.next
+    text::lines::next_line(list, at).next
 }
 
 // What is left of a line from a place on.
 fn rest(line: &[u8], at: usize) -> &[u8] {
-    if at <= line.len() {
-        &line[at..]
-    } else {
-        &line[0..0]
-    }
+    &line[at.min(line.len())..]
 }
 
 // The field of a line that starts at a place.
 fn token(line: &[u8], at: usize) -> &[u8] {
     let part = rest(line, at);
-    let end = text::line::token_end(part);
-    if end <= part.len() {
-        return &part[0..end];
-    }
-    part
+    &part[..text::line::token_end(part).min(part.len())]
 }
 
 // Where the next field starts.
 fn next(line: &[u8], at: usize) -> usize {
     let end = text::line::token_end(rest(line, at));
-    if at < line.len() {
-        if end < line.len() - at {
-            return at + end + 1;
-        }
+    if at < line.len() && end < line.len() - at {
+        at + end + 1
+    } else {
+        NONE
     }
-    NONE
 }
 
 // Where the field of this number starts, counted from 0 at a place.
 fn start(line: &[u8], at: usize, number: usize) -> usize {
     let mut place = at;
-    let mut k = 0;
-    while k < number {
+    for _ in 0..number {
         place = next(line, place);
-        k += 1;
     }
     place
 }
@@ -94,29 +80,20 @@ pub fn field(line: &[u8], number: usize) -> &[u8] {
 fn is_named(line: &[u8]) -> bool {
     let names = b"rust second rules";
     let who = token(line, 0);
-    if field(line, 1).len() == 0 {
-        return false;
-    }
-    if check::same(who, token(names, 0)) {
-        return true;
-    }
-    if check::same(who, token(names, 5)) {
-        return true;
-    }
-    check::same(who, token(names, 12))
+    let is_known = check::same(who, token(names, 0))
+        || check::same(who, token(names, 5))
+        || check::same(who, token(names, 12));
+    is_known && !field(line, 1).is_empty()
 }
 
 // Whether fields are of these kinds, a letter for each (the module `kinds`), from one on.
 fn are(kinds: &[u8], line: &[u8], from: usize) -> bool {
     let mut at = start(line, 0, from);
-    let mut k = 0;
-    while k < kinds.len() {
-        if kinds::is(kinds[k], token(line, at)) {
-            at = next(line, at);
-            k += 1;
-        } else {
+    for kind in kinds {
+        if !kinds::is(*kind, token(line, at)) {
             return false;
         }
+        at = next(line, at);
     }
     true
 }
@@ -124,33 +101,27 @@ fn are(kinds: &[u8], line: &[u8], from: usize) -> bool {
 // The number of the field after so many rows of these kinds; 0 where a field is of another.
 fn after_rows(row: &[u8], rows: usize, line: &[u8], from: usize) -> usize {
     let mut field = from;
-    let mut k = 0;
-    while k < rows {
-        if are(row, line, field) {
-            field = std::num::wrapping_add_usize(field, row.len());
-            k += 1;
-        } else {
+    for _ in 0..rows {
+        if !are(row, line, field) {
             return 0;
         }
+        field = field.wrapping_add(row.len());
     }
     field
 }
 
 // Whether a line's arguments are of these kinds: those of a head, then rows, whose number is the head's last field.
 fn is_question(line: &[u8], head: &[u8], row: &[u8]) -> bool {
-    if is_named(line) {
-        if are(head, line, 2) {
-            let last = std::num::wrapping_add_usize(head.len(), 1);
-            let rows = if row.len() == 0 {
-                0
-            } else {
-                given::size(line, last)
-            };
-            let from = std::num::wrapping_add_usize(last, 1);
-            return start(line, 0, after_rows(row, rows, line, from)) == NONE;
-        }
+    if !is_named(line) || !are(head, line, 2) {
+        return false;
     }
-    false
+    let last = head.len().wrapping_add(1);
+    let rows = if row.is_empty() {
+        0
+    } else {
+        given::size(line, last)
+    };
+    start(line, 0, after_rows(row, rows, line, last.wrapping_add(1))) == NONE
 }
 
 // The number of the call that a line asks for, among the calls of a program, each three fields: its name, the kinds of its arguments, and those
@@ -158,19 +129,17 @@ fn is_question(line: &[u8], head: &[u8], row: &[u8]) -> bool {
 pub fn asked(line: &[u8], calls: &[u8]) -> usize {
     let name = field(line, 1);
     let mut at = 0;
-    let mut k = 0;
-    while k < CALLS {
-        if check::same(name, token(calls, at)) {
-            if is_question(
+    for k in 0..CALLS {
+        if check::same(name, token(calls, at))
+            && is_question(
                 line,
                 token(calls, next(calls, at)),
                 token(calls, start(calls, at, 2)),
-            ) {
-                return k;
-            }
+            )
+        {
+            return k;
         }
         at = start(calls, at, 3);
-        k += 1;
     }
     NONE
 }
@@ -178,22 +147,18 @@ pub fn asked(line: &[u8], calls: &[u8]) -> usize {
 // The name of the call that a line asks for, whose number is `asked`'s; nothing for NONE.
 pub fn name(line: &[u8], call: usize) -> &[u8] {
     if call == NONE {
-        return &line[0..0];
+        &line[0..0]
+    } else {
+        field(line, 1)
     }
-    field(line, 1)
 }
 
 // The first bytes, so many; all where there are fewer.
 pub fn first(bytes: &[u8], length: usize) -> &[u8] {
-    if length <= bytes.len() {
-        return &bytes[..length];
-    }
-    bytes
+    &bytes[..length.min(bytes.len())]
 }
 
 pub fn first_mut(bytes: &mut [u8], length: usize) -> &mut [u8] {
-    if length <= bytes.len() {
-        return &mut bytes[..length];
-    }
-    bytes
+    let end = length.min(bytes.len());
+    &mut bytes[..end]
 }

@@ -10,24 +10,24 @@ ghost use Rattle.sorted.specs.Lent.{list_table};
 ghost use Rattle.scl_tables.specs.Room.{room_of};
 ghost use Rattle.scl_build.specs.Builder.{state, after_new};
 
-use base::Refusal;
-use scl_build::{SclBuilder, SclBuilderAnswer};
+use base::{Reason, Refusal};
+use scl_build::SclBuilder;
 
 // 12: the items and place 0 have no room.
 pub const NO_PLACE: Refusal = Refusal {
-    number: base::NO_ROOM,
+    reason: Reason::NoRoom,
     detail: 0,
 };
 
 // 13: over 65,535 items.
 pub const TOO_MANY: Refusal = Refusal {
-    number: base::TOO_LARGE,
+    reason: Reason::TooLarge,
     detail: 0,
 };
 
 // 18: of two or more items, the period is 1.0.
 pub const OUT_OF_REACH: Refusal = Refusal {
-    number: base::BEYOND_REACH,
+    reason: Reason::BeyondReach,
     detail: 0,
 };
 
@@ -45,8 +45,8 @@ pub fn begin(
         × (item_table kind.new cents.new numer.new denom.new
         ≡ after_new (item_table kind.old cents.old numer.old denom.old) (list_table place.now ratio.now wraps.now)) }
 {
-    match SclBuilder::new(kind, cents, numer, denom, place, ratio, wraps) {
-        SclBuilderAnswer::Is(builder) => builder,
-        SclBuilderAnswer::Refused(_) => SclBuilder { room: 0, count: 0 },
-    }
+    SclBuilder::new(kind, cents, numer, denom, place, ratio, wraps).unwrap_or(SclBuilder {
+        room: 0,
+        count: 0,
+    })
 }

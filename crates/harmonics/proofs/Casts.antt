@@ -1,10 +1,10 @@
 -- The Rust's `as u32` of an f64, by the tests that the code makes. Assumes nothing.
-use Rattle.std.proofs.Common.{◌≡◌, ℕ, ◌-◌, ◌*◌, ◌/◌, ◌^◌, ◌<◌, ◌≤◌, min, true, false, T, ltb, ℤ, pos, sym, refl, subst, div-lt_iff_lt-mul, le-div_iff_mul-le, arith, lt→ltb, ltb-false, ltb-true}
+use Rattle.std.proofs.Common.{◌≡◌, ℕ, ◌*◌, ◌/◌, ◌^◌, ◌<◌, ◌≤◌, true, false, T, ℤ, pos, sym, refl, subst, div-lt_iff_lt-mul, le-div_iff_mul-le, arith, lt→ltb, ltb-false, ltb-true}
 use native.Mathlib.Nat.{zero-div}
-use lib.Ieee.{Float, nan, inf, fin, up, down, lt, to_unsigned, fits, binary64}
+use lib.Ieee.{Float, nan, inf, fin, up, down, lt, to_unsigned}
 use lib.Ieee.Fits.{down_pos}
-use Rattle.floats.proofs.Order.{Zero, Positive, pinf, pfin, above_minus_one, no_size}
-use Rattle.floats.proofs.Whole.{Past64, uncapped}
+use Rattle.floats.proofs.Order.{Zero, Positive, pinf, pfin, above_minus_one}
+use Rattle.floats.proofs.Whole.{Past64}
 
 -- 2 ^ 32, where u32 ends
 abbrev pub Past32 : Float

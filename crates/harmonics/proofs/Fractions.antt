@@ -1,10 +1,8 @@
 -- What the fractions of a segment come to, by the tests that the code makes. Assumes nothing.
-use Rattle.std.proofs.Common.{◌≡◌, ℕ, ◌+◌, ◌-◌, ◌≤◌, Bool, true, false, sym, ap, ◌∙◌, arith}
-use lib.Ieee.{Float, binary64, div, lt, neg, to_unsigned}
-use Rattle.base.specs.Said.{pick}
+use Rattle.std.proofs.Common.{◌≡◌, ℕ, ◌-◌, ◌≤◌, true, false, arith}
+use lib.Ieee.{Float, binary64, div, lt, to_unsigned}
 use Rattle.floats.specs.Floats.{floor}
-use Rattle.harmonics.specs.Segment.{ceil, harmonic_of, item_fraction}
-use Rattle.harmonics.specs.declared.segment.Fraction.{Fraction}
+use Rattle.harmonics.specs.Segment.{ceil, harmonic_of}
 
 module _ (h : Float) {low high : Float} (l : low ≡ floor h) (u : high ≡ ceil h) where
   pub harmonic_low : lt (div binary64 h low) (div binary64 high h) ≡ true → {r : ℕ} → r ≡ to_unsigned 32 low → r ≡ harmonic_of h

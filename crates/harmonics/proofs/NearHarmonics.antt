@@ -1,6 +1,6 @@
 -- The harmonic near a number above zero is at least 1, and is a u32. Assumes nothing.
-use Rattle.std.proofs.Common.{◌≡◌, ℕ, zero, suc, ◌+◌, ◌-◌, ◌*◌, ◌/◌, ◌^◌, ◌<◌, ◌≤◌, min, Bool, true, false, ◌&&◌, T, eqb, ℤ, pos, sym, refl, ap, ◌∙◌, subst, mul-pos, one-mul, le-div_iff_mul-le, arith, lit<, ne_eqb}
-use lib.Ieee.{Float, nan, inf, fin, binary64, up, down, round, neg, div, lt, le, eq, to_unsigned, size, units, odd}
+use Rattle.std.proofs.Common.{◌≡◌, ℕ, zero, suc, ◌+◌, ◌-◌, ◌*◌, ◌/◌, ◌^◌, ◌<◌, ◌≤◌, Bool, true, false, ◌&&◌, T, eqb, ℤ, pos, refl, subst, mul-pos, le-div_iff_mul-le, arith, lit<, ne_eqb}
+use lib.Ieee.{Float, nan, inf, fin, binary64, up, down, round, neg, div, lt, le, eq, to_unsigned, size}
 use lib.Ieee.Casts.{to_unsigned-lt}
 use lib.Ieee.Fits.{down_pos, up_pos}
 use lib.Ieee.Order.{round_mono}

@@ -1,5 +1,6 @@
 -- What the look at the last item comes to, and the call. Assumes nothing.
-use Rattle.std.proofs.Common.{◌≡◌, ℕ, zero, suc, ◌+◌, ◌-◌, ◌^◌, ◌<◌, ◌≤◌, Bool, true, false, ltb, leb, ◌⊎◌, List, [], ◌∷◌, length, get_or, sym, refl, ap, ◌∙◌, subst, inl, inr, arith, le-ltb, lt-ltb}
+use Rattle.std.specs.Prelude.{Some, None, Option}
+use Rattle.std.proofs.Common.{◌≡◌, ℕ, zero, suc, ◌+◌, ◌-◌, ◌^◌, ◌<◌, ◌≤◌, Bool, true, false, List, ◌∷◌, length, get_or, sym, refl, ap, ◌∙◌, subst, arith, le-ltb, lt-ltb}
 use lib.Ieee.{Float, binary64, fits, div}
 use lib.Ieee.Bits.{is_true}
 use lib.Ieee.Fits.{div-fits}
@@ -17,18 +18,14 @@ use Rattle.scl_tables.specs.Room.{room_of}
 use Rattle.scl_tables.proofs.Beyond.{too_few}
 use Rattle.scl_build.specs.Builder.{counted}
 use Rattle.generate.specs.Generated.{all_pushed, list_of, made_of, items_from, counted_of, items_left, list_left}
-use Rattle.generate.proofs.Items.{Fine, All, all_items, none_of, last_of_law}
-use Rattle.generate.proofs.Made.{made_no_room, made_refused, made_beyond, made_given, all_refused, all_given}
+use Rattle.generate.proofs.Items.{All, all_items, none_of, last_of_law}
+use Rattle.generate.proofs.Made.{made_no_room, made_refused, made_beyond, made_given, all_given}
 use Rattle.generate.proofs.Theorems.{listed, count_is}
 use Rattle.harmonics.specs.Segment.{interval_of, fraction_at, steps_of, segment_count}
 use Rattle.harmonics.specs.Harmonics.{as_item, item_at, harmonics_of, made_harmonics}
 use Rattle.harmonics.specs.Steps.{said_from, StepsReach, looked, planned}
-use Rattle.harmonics.specs.declared.segment.Divisions.{Divisions}
-use Rattle.harmonics.specs.declared.segment.Divisions.TheVariants.{Into, Lacking}
 use Rattle.harmonics.specs.declared.segment.Fraction.{Fraction}
 use Rattle.harmonics.specs.declared.segment.SegmentType.{SegmentType}
-use Rattle.harmonics.specs.declared.segment.Steps.{Steps}
-use Rattle.harmonics.specs.declared.segment.Steps.TheVariants.{Whole, Equal}
 use Rattle.harmonics.proofs.Pushes.{said_all}
 use Rattle.harmonics.proofs.Reaches.{Ways, ways, power_held}
 
@@ -41,15 +38,15 @@ part_held (gives ratio) number step e = go (as_octaves ratio) e
     go (refuses a d) q = no_value q
     go (gives octaves) q = power_held (div binary64 octaves (float number)) step (is_true (fits binary64 (div binary64 octaves (float number))) (div-fits binary64 octaves (float number))) q
 
-pub steps_reach : (start size : ℕ) (divisions : Divisions) (steps : Steps) → steps_of start size divisions ≡ gives steps → StepsReach size (segment_count size divisions) steps
-steps_reach start size Lacking steps e = subst (StepsReach size size) (same_value Whole steps e) (omega arith)
-steps_reach start size (Into number) steps e = go (and_then (from_float (interval_of start size)) (λ ratio. divided_into ratio (float number))) refl e
+pub steps_reach : (start size : ℕ) (divisions : (Option ℕ)) (steps : (Option Float)) → steps_of start size divisions ≡ gives steps → StepsReach size (segment_count size divisions) steps
+steps_reach start size None steps e = subst (StepsReach size size) (same_value None steps e) (omega arith)
+steps_reach start size (Some number) steps e = go (and_then (from_float (interval_of start size)) (λ ratio. divided_into ratio (float number))) refl e
   where
-    go : (s : Said Float) → and_then (from_float (interval_of start size)) (λ ratio. divided_into ratio (float number)) ≡ s → and_then s (λ step. gives (Equal step)) ≡ gives steps → StepsReach size number steps
-    go (gives step) h q = subst (StepsReach size number) (same_value (Equal step) steps q) (part_held (from_float (interval_of start size)) number step h)
+    go : (s : Said Float) → and_then (from_float (interval_of start size)) (λ ratio. divided_into ratio (float number)) ≡ s → and_then s (λ step. gives (Some step)) ≡ gives steps → StepsReach size number steps
+    go (gives step) h q = subst (StepsReach size number) (same_value (Some step) steps q) (part_held (from_float (interval_of start size)) number step h)
     go (refuses a d) h q = no_value q
 
-module _ (type : SegmentType) (start size : ℕ) (some : 0 < start) (s-small : start < 2 ^ 16) (z-small : size < 2 ^ 16) (n : ℕ) (small : n < 2 ^ 16) (steps : Steps) (r : StepsReach size n steps) where
+module _ (type : SegmentType) (start size : ℕ) (some : 0 < start) (s-small : start < 2 ^ 16) (z-small : size < 2 ^ 16) (n : ℕ) (small : n < 2 ^ 16) (steps : (Option Float)) (r : StepsReach size n steps) where
   abbrev f : ℕ → Said Item
   f = item_at type start size steps
 
@@ -107,7 +104,7 @@ module _ (type : SegmentType) (start size : ℕ) (some : 0 < start) (s-small : s
   unfolding looked
   looked_given e = go the_ways
     where
-      goes : List Item → Said Steps
+      goes : List Item → Said (Option Float)
       goes is = pick (is_beyond n (last_of (implicit ∷ is))) (refuses beyond_reach 0) (gives steps)
 
       by : (m : All f 1 n) (b : Bool) → is_beyond n (last_of (implicit ∷ m.items)) ≡ b → pick b (refuses beyond_reach 0) (gives steps) ≡ gives steps → is_beyond n (last_of (implicit ∷ m.items)) ≡ false
@@ -125,7 +122,7 @@ module _ (type : SegmentType) (start size : ℕ) (some : 0 < start) (s-small : s
           none (suc k) w = let z : 1 + n - 1 ≡ n = omega arith in no_value (ap (λ (s : Said (List Item)). and_then s goes) (sym (none_of f n 1 (omega (arith, w)) (ap f z ∙ q) (λ j a b. h j))) ∙ e)
 
 -- the look answers the steps themselves
-looked_same : (type : SegmentType) (start size n : ℕ) (steps other : Steps) → looked type start size n steps ≡ gives other → steps ≡ other
+looked_same : (type : SegmentType) (start size n : ℕ) (steps other : (Option Float)) → looked type start size n steps ≡ gives other → steps ≡ other
 unfolding looked
 looked_same type start size n steps other e = go (items_from (item_at type start size steps) 1 n) e
   where
@@ -138,7 +135,7 @@ looked_same type start size n steps other e = go (items_from (item_at type start
     go (refuses a d) q = no_value q
 
 -- ---- THE CALL
-module _ (t : ItemTable) (l : ListTable) (type : SegmentType) (start size : ℕ) (divisions : Divisions) where
+module _ (t : ItemTable) (l : ListTable) (type : SegmentType) (start size : ℕ) (divisions : (Option ℕ)) where
   abbrev made : Said (List Item)
   made = made_harmonics t l type start size divisions
 
@@ -157,7 +154,7 @@ module _ (t : ItemTable) (l : ListTable) (type : SegmentType) (start size : ℕ)
       unfolding made_harmonics
       made_by e = rw (lt-ltb 0 start some, e)
 
-      at : {a d : ℕ} (steps : Steps) → StepsReach size (segment_count size divisions) steps → looked type start size (segment_count size divisions) steps ≡ refuses a d
+      at : {a d : ℕ} (steps : (Option Float)) → StepsReach size (segment_count size divisions) steps → looked type start size (segment_count size divisions) steps ≡ refuses a d
           → made_of t l (segment_count size divisions) (items_from (item_at type start size steps) 1 (segment_count size divisions)) ≡ refuses a d
       unfolding looked
       at {a} {d} steps r e = go (ways start size some s-small z-small type (segment_count size divisions) small steps r)
@@ -168,7 +165,7 @@ module _ (t : ItemTable) (l : ListTable) (type : SegmentType) (start size : ℕ)
           f : ℕ → Said Item
           f = item_at type start size steps
 
-          goes : List Item → Said Steps
+          goes : List Item → Said (Option Float)
           goes is = pick (is_beyond n (last_of (implicit ∷ is))) (refuses beyond_reach 0) (gives steps)
 
           by : (m : All f 1 n) (b : Bool) → is_beyond n (last_of (implicit ∷ m.items)) ≡ b → pick b (refuses beyond_reach 0) (gives steps) ≡ refuses a d → made_of t l n (gives m.items) ≡ refuses a d
@@ -199,14 +196,14 @@ module _ (t : ItemTable) (l : ListTable) (type : SegmentType) (start size : ℕ)
       pub plan_refused : {a d : ℕ} → refuses a d ≡ planned type start size divisions → made ≡ refuses a d
       plan_refused {a} {d} e = go (steps_of start size divisions) refl e
         where
-          go : (s : Said Steps) → steps_of start size divisions ≡ s → refuses a d ≡ and_then s (λ steps. looked type start size (segment_count size divisions) steps) → made ≡ refuses a d
-          go (gives steps) h q = made_by (ap (λ (s : Said Steps). and_then s (λ steps. items_from (item_at type start size steps) 1 (segment_count size divisions))) h) ∙ at steps (steps_reach start size divisions steps h) (sym q)
+          go : (s : Said (Option Float)) → steps_of start size divisions ≡ s → refuses a d ≡ and_then s (λ steps. looked type start size (segment_count size divisions) steps) → made ≡ refuses a d
+          go (gives steps) h q = made_by (ap (λ (s : Said (Option Float)). and_then s (λ steps. items_from (item_at type start size steps) 1 (segment_count size divisions))) h) ∙ at steps (steps_reach start size divisions steps h) (sym q)
           go (refuses x y) h q =
               let z = same_refuses q in
-              made_by (ap (λ (s : Said Steps). and_then s (λ steps. items_from (item_at type start size steps) 1 (segment_count size divisions))) h) ∙ made_refused t l (segment_count size divisions) room ∙ rw (z.0, z.1)
+              made_by (ap (λ (s : Said (Option Float)). and_then s (λ steps. items_from (item_at type start size steps) 1 (segment_count size divisions))) h) ∙ made_refused t l (segment_count size divisions) room ∙ rw (z.0, z.1)
 
       -- what is written is what the definition leaves
-      pub plan_given : {steps : Steps} → gives steps ≡ planned type start size divisions → {x : Said ℕ} {t' : ItemTable} {l' : ListTable}
+      pub plan_given : {steps : (Option Float)} → gives steps ≡ planned type start size divisions → {x : Said ℕ} {t' : ItemTable} {l' : ListTable}
           → x ≡ counted (all_pushed t l (said_from (item_at type start size steps) 1 (segment_count size divisions))).builder (list_of t l (said_from (item_at type start size steps) 1 (segment_count size divisions)))
           → t' ≡ (all_pushed t l (said_from (item_at type start size steps) 1 (segment_count size divisions))).table
           → l' ≡ after_list (list_of t l (said_from (item_at type start size steps) 1 (segment_count size divisions))) l
@@ -226,7 +223,7 @@ module _ (t : ItemTable) (l : ListTable) (type : SegmentType) (start size : ℕ)
               let few : length is ≤ 65535 = omega (arith, y) in
               let fit : length is < room_of t l = omega (arith, y, room) in
               let g : made ≡ gives is =
-              made_by (ap (λ (s : Said Steps). and_then s (λ steps. items_from (item_at type start size steps) 1 n)) h ∙ m.are)
+              made_by (ap (λ (s : Said (Option Float)). and_then s (λ steps. items_from (item_at type start size steps) 1 n)) h ∙ m.are)
               ∙ ap (λ (k : ℕ). made_of t l k (gives is)) (sym y) ∙ made_given t l is few fit m.usable m.held b in
               let said : said_from (item_at type start size steps) 1 n ≡ is = said_all (item_at type start size steps) n 1 m.are in
               let a = all_given t l g (et ∙ ap (λ (z : List Item). (all_pushed t l z).table) said) (el ∙ ap (λ (z : List Item). after_list (list_of t l z) l) said) in (
@@ -237,7 +234,7 @@ module _ (t : ItemTable) (l : ListTable) (type : SegmentType) (start size : ℕ)
                 a.2,
               )
 
-          go : (s : Said Steps) → steps_of start size divisions ≡ s → gives steps ≡ and_then s (λ z. looked type start size n z) → (x ≡ counted_of made) × (t' ≡ items_left made t l) × (l' ≡ list_left made t l)
+          go : (s : Said (Option Float)) → steps_of start size divisions ≡ s → gives steps ≡ and_then s (λ z. looked type start size n z) → (x ≡ counted_of made) × (t' ≡ items_left made t l) × (l' ≡ list_left made t l)
           go (refuses a d) h q = no_refusal q
           go (gives steps') h q = by (looked_same type start size n steps' steps (sym q))
             where

@@ -1,20 +1,21 @@
 -- Each item of a segment can be used; its steps are in E's domain where the last one is. Assumes nothing.
-use Rattle.std.proofs.Common.{◌≡◌, ℕ, ◌+◌, ◌-◌, ◌*◌, ◌^◌, ◌<◌, ◌≤◌, Bool, true, false, ◌⊎◌, pos, sym, refl, ap, ◌∙◌, subst, inl, inr, le_trans, le_of_eq, mul_assoc, mul_comm, mul-le-mul, arith, lit<, lit≤, lt-ltb}
-use lib.Ieee.{Float, fin, binary64, fits, up, down, round, mul, div, of_int}
+use Rattle.std.specs.Prelude.{None, Some, Option}
+use Rattle.std.proofs.Common.{◌≡◌, ℕ, ◌+◌, ◌-◌, ◌*◌, ◌^◌, ◌<◌, ◌≤◌, Bool, true, false, ◌⊎◌, sym, refl, ◌∙◌, subst, inl, inr, le_trans, le_of_eq, mul_assoc, mul_comm, mul-le-mul, arith, lit<, lit≤, lt-ltb}
+use lib.Ieee.{Float, binary64, fits, up, down, mul, div, of_int}
 use lib.Ieee.Bits.{is_true}
 use lib.Ieee.Fits.{mul-fits, down_pos}
 use Rattle.base.specs.Numbers.{beyond_reach}
-use Rattle.base.specs.Said.{Said, gives, refuses, and_then}
+use Rattle.base.specs.Said.{Said, gives, refuses}
 use Rattle.base.proofs.Said.{same_value, no_value}
 use Rattle.floats.specs.Floats.{float}
 use Rattle.floats.specs.Ranges.{in_reach}
-use Rattle.floats.proofs.Ranges.{Within, within_fin, reach_says}
-use Rattle.floats.proofs.Between.{round_within, over_within, within_reach, within_more}
+use Rattle.floats.proofs.Ranges.{Within, within_fin}
+use Rattle.floats.proofs.Between.{round_within, over_within, within_reach}
 use Rattle.floats.proofs.Sized.{Sized}
-use Rattle.explog.specs.Rules.{E, L, in_powers, log_of}
-use Rattle.explog.proofs.Reach.{sized_powers, powers_sized}
+use Rattle.explog.specs.Rules.{E, in_powers, log_of}
+use Rattle.explog.proofs.Reach.{powers_sized}
 use Rattle.pitch.specs.Ratios.{from_octaves, repeated}
-use Rattle.scl.proofs.Items.{Ratio, octaves_ratio, powers_ratio}
+use Rattle.scl.proofs.Items.{octaves_ratio, powers_ratio}
 use Rattle.scl_tables.proofs.Reaches.{log_gives, octaves_sized}
 use Rattle.generate.proofs.Items.{Fine}
 use Rattle.harmonics.specs.Segment.{near_at, whole_at, harmonic_of}
@@ -22,8 +23,6 @@ use Rattle.harmonics.specs.Harmonics.{as_item, item_at}
 use Rattle.harmonics.specs.Steps.{StepsReach}
 use Rattle.harmonics.specs.declared.segment.SegmentType.{SegmentType}
 use Rattle.harmonics.specs.declared.segment.SegmentType.TheVariants.{Otonal, Utonal}
-use Rattle.harmonics.specs.declared.segment.Steps.{Steps}
-use Rattle.harmonics.specs.declared.segment.Steps.TheVariants.{Whole, Equal}
 use Rattle.harmonics.proofs.NearHarmonics.{harmonic_some, harmonic_below}
 use Rattle.harmonics.proofs.Sizes.{times, fewer_times}
 
@@ -83,23 +82,23 @@ module _ (start size : ℕ) (some : 0 < start) (s-small : start < 2 ^ 16) (z-sma
     steps_are : (j : ℕ) → repeated step (float j) ≡ from_octaves (mul binary64 octaves (float j))
     steps_are j = rw (reach, log_gives step reach)
 
-    sized_fine : (j : ℕ) → Sized 900 (mul binary64 octaves (float j)) → Fine (item_at type start size (Equal step) j)
+    sized_fine : (j : ℕ) → Sized 900 (mul binary64 octaves (float j)) → Fine (item_at type start size (Some step) j)
     sized_fine j h =
         let t = octaves_ratio 900 (mul binary64 octaves (float j)) (lit≤ tt) (is_true (fits binary64 (mul binary64 octaves (float j))) (mul-fits binary64 octaves (float j))) h in
         near_fine type t.between (rw (steps_are j, t.is))
 
-    beyond_at : (j : ℕ) → in_powers (mul binary64 octaves (float j)) ≡ false → item_at type start size (Equal step) j ≡ refuses beyond_reach 0
+    beyond_at : (j : ℕ) → in_powers (mul binary64 octaves (float j)) ≡ false → item_at type start size (Some step) j ≡ refuses beyond_reach 0
     beyond_at j h = rw (steps_are j, no_power (mul binary64 octaves (float j)) h)
 
-    fine_or : (j : ℕ) → Fine (item_at type start size (Equal step) j) ⊎ (item_at type start size (Equal step) j ≡ refuses beyond_reach 0)
+    fine_or : (j : ℕ) → Fine (item_at type start size (Some step) j) ⊎ (item_at type start size (Some step) j ≡ refuses beyond_reach 0)
     fine_or j = go (in_powers (mul binary64 octaves (float j))) refl
       where
-        go : (b : Bool) → in_powers (mul binary64 octaves (float j)) ≡ b → Fine (item_at type start size (Equal step) j) ⊎ (item_at type start size (Equal step) j ≡ refuses beyond_reach 0)
+        go : (b : Bool) → in_powers (mul binary64 octaves (float j)) ≡ b → Fine (item_at type start size (Some step) j) ⊎ (item_at type start size (Some step) j ≡ refuses beyond_reach 0)
         go true h = inl (sized_fine j (powers_sized (mul binary64 octaves (float j)) h))
         go false h = inr (beyond_at j h)
 
     -- where the last step is in E's domain, all are
-    all_fine : (n : ℕ) → n < 2 ^ 16 → in_powers (mul binary64 octaves (float n)) ≡ true → (j : ℕ) → j ≤ n → Fine (item_at type start size (Equal step) j)
+    all_fine : (n : ℕ) → n < 2 ^ 16 → in_powers (mul binary64 octaves (float n)) ≡ true → (j : ℕ) → j ≤ n → Fine (item_at type start size (Some step) j)
     all_fine n small h j l = sized_fine j (fewer_times j n l (omega arith) octaves_size (powers_sized (mul binary64 octaves (float n)) h))
 
   -- ---- THE WAYS a segment goes: each of its items is fine; or the last one is refused by 18, and so is each that is not fine
@@ -107,10 +106,10 @@ module _ (start size : ℕ) (some : 0 < start) (s-small : start < 2 ^ 16) (z-sma
     all : ((j : ℕ) → j ≤ n → Fine (f j)) → Ways f n
     beyond : f n ≡ refuses beyond_reach 0 → ((j : ℕ) → Fine (f j) ⊎ (f j ≡ refuses beyond_reach 0)) → Ways f n
 
-  pub ways : (type : SegmentType) (n : ℕ) → n < 2 ^ 16 → (steps : Steps) → StepsReach size n steps → Ways (item_at type start size steps) n
-  ways type n small Whole h = Ways.all (λ j l. whole_fine type j (le_trans l h))
-  ways type n small (Equal step) h = go (in_powers (mul binary64 (log_of step) (float n))) refl
+  pub ways : (type : SegmentType) (n : ℕ) → n < 2 ^ 16 → (steps : (Option Float)) → StepsReach size n steps → Ways (item_at type start size steps) n
+  ways type n small None h = Ways.all (λ j l. whole_fine type j (le_trans l h))
+  ways type n small (Some step) h = go (in_powers (mul binary64 (log_of step) (float n))) refl
     where
-      go : (b : Bool) → in_powers (mul binary64 (log_of step) (float n)) ≡ b → Ways (item_at type start size (Equal step)) n
+      go : (b : Bool) → in_powers (mul binary64 (log_of step) (float n)) ≡ b → Ways (item_at type start size (Some step)) n
       go true q = Ways.all (all_fine type step h.0 h.1 n small q)
       go false q = Ways.beyond (beyond_at type step h.0 h.1 n q) (fine_or type step h.0 h.1)

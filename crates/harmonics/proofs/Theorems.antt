@@ -1,5 +1,6 @@
 -- What the call leaves, why it refuses, and that it has one result. Document 01, "Scales and searches". Assumes nothing.
-use Rattle.std.proofs.Common.{◌≡◌, ℕ, zero, suc, ◌+◌, ◌-◌, ◌*◌, ◌^◌, ◌<◌, ◌≤◌, Bool, true, false, eqb, ltb, List, [], ◌∷◌, length, pos, sym, refl, ap, ◌∙◌, subst, mul_assoc, add-mul, mul-pos, mul-one, mul_right_comm, arith, lit<, ltb-true, lt-ltb}
+use Rattle.std.specs.Prelude.{Some, Option}
+use Rattle.std.proofs.Common.{◌≡◌, ℕ, zero, suc, ◌+◌, ◌-◌, ◌*◌, ◌^◌, ◌<◌, Bool, true, false, eqb, ltb, List, length, pos, sym, refl, ap, ◌∙◌, subst, mul_assoc, add-mul, mul-pos, mul-one, mul_right_comm, arith, lit<, ltb-true, lt-ltb}
 use lib.Ieee.{Float, nan, inf, fin, binary64, up, down, add, sum, div, round, size, of_int, le, lt, eq, neg}
 use lib.Ieee.Back.{round_whole}
 use lib.Ieee.Exact.{HasValue}
@@ -28,11 +29,7 @@ use Rattle.generate.proofs.Theorems.{made_leaves}
 use Rattle.harmonics.specs.Segment.{interval_of, steps_of, segment_count}
 use Rattle.harmonics.specs.Harmonics.{item_at, harmonics_of, made_harmonics}
 use Rattle.harmonics.specs.Steps.{StepsReach}
-use Rattle.harmonics.specs.declared.segment.Divisions.TheVariants.{Into}
-use Rattle.harmonics.specs.declared.segment.Divisions.{Divisions}
 use Rattle.harmonics.specs.declared.segment.SegmentType.{SegmentType}
-use Rattle.harmonics.specs.declared.segment.Steps.{Steps}
-use Rattle.harmonics.specs.declared.segment.Steps.TheVariants.{Equal}
 use Rattle.harmonics.proofs.Plans.{steps_reach}
 use Rattle.harmonics.proofs.Reaches.{Ways, ways}
 
@@ -77,27 +74,27 @@ interval_reach start size some a b =
     rw (sum_of start size (round binary64 false start 1) (round binary64 false size 1) (round_whole binary64 false start (omega arith)) (round_whole binary64 false size (omega arith)))
     (fraction_reach (start + size) start (omega arith) (omega arith) some (omega arith))
 
-no_steps : (start size : ℕ) → 0 < start → start < 2 ^ 16 → size < 2 ^ 16 → steps_of start size (Into 0) ≡ refuses beyond_reach 0
+no_steps : (start size : ℕ) → 0 < start → start < 2 ^ 16 → size < 2 ^ 16 → steps_of start size (Some 0) ≡ refuses beyond_reach 0
 no_steps start size some a b =
     let i = interval_of start size in
     let h = interval_reach start size some a b in
     let first : from_float i ≡ gives i = rw h in
     let second : as_octaves i ≡ gives (log_of i) = rw h (log_gives i h) in
-    ap (λ (s : Said Float). and_then (and_then s (λ ratio. divided_into ratio (float 0))) (λ step. gives (Equal step))) first
-    ∙ ap (λ (s : Said Float). and_then (and_then s (λ octaves. from_octaves (div binary64 octaves (float 0)))) (λ step. gives (Equal step))) second
-    ∙ ap (λ (s : Said Float). and_then s (λ step. gives (Equal step))) (zero_divisions (log_of i))
+    ap (λ (s : Said Float). and_then (and_then s (λ ratio. divided_into ratio (float 0))) (λ step. gives (Some step))) first
+    ∙ ap (λ (s : Said Float). and_then (and_then s (λ octaves. from_octaves (div binary64 octaves (float 0)))) (λ step. gives (Some step))) second
+    ∙ ap (λ (s : Said Float). and_then s (λ step. gives (Some step))) (zero_divisions (log_of i))
 
 -- ZERO DIVISIONS: 18, where place 0 has room
-pub no_divisions : (t : ItemTable) (l : ListTable) (type : SegmentType) (start size : ℕ) → 0 < start → start < 2 ^ 16 → size < 2 ^ 16 → 0 < room_of t l → made_harmonics t l type start size (Into 0) ≡ refuses beyond_reach 0
+pub no_divisions : (t : ItemTable) (l : ListTable) (type : SegmentType) (start size : ℕ) → 0 < start → start < 2 ^ 16 → size < 2 ^ 16 → 0 < room_of t l → made_harmonics t l type start size (Some 0) ≡ refuses beyond_reach 0
 unfolding made_harmonics
 no_divisions t l type start size some a b room =
     rw (lt-ltb 0 start some, no_steps start size some a b) (made_refused t l 0 room)
 
-module _ (t : ItemTable) (l : ListTable) (type : SegmentType) (start size : ℕ) (divisions : Divisions) (s-small : start < 2 ^ 16) (z-small : size < 2 ^ 16) (small : segment_count size divisions < 2 ^ 16) where
+module _ (t : ItemTable) (l : ListTable) (type : SegmentType) (start size : ℕ) (divisions : (Option ℕ)) (s-small : start < 2 ^ 16) (z-small : size < 2 ^ 16) (small : segment_count size divisions < 2 ^ 16) where
   abbrev n : ℕ
   n = segment_count size divisions
 
-  said_leaves : 0 < start → n < room_of t l → (steps : Steps) → StepsReach size n steps → {is : List Item} → items_from (item_at type start size steps) 1 n ≡ gives is → made_of t l n (gives is) ≡ gives is → Leaves t l is
+  said_leaves : 0 < start → n < room_of t l → (steps : (Option Float)) → StepsReach size n steps → {is : List Item} → items_from (item_at type start size steps) 1 n ≡ gives is → made_of t l n (gives is) ≡ gives is → Leaves t l is
   said_leaves some room steps r {is} e made = go (ways start size some s-small z-small type n small steps r)
     where
       f : ℕ → Said Item
@@ -127,17 +124,17 @@ module _ (t : ItemTable) (l : ListTable) (type : SegmentType) (start size : ℕ)
       Left : Type 0
       Left = (0 < start) × (n < room_of t l) × Leaves t l is
 
-      listed : 0 < start → n < room_of t l → (steps : Steps) → StepsReach size n steps → {is' : List Item} → items_from (item_at type start size steps) 1 n ≡ gives is' → (x : Said (List Entry)) → list_of t l is' ≡ x → and_then x (λ es. gives is') ≡ gives is → Left
+      listed : 0 < start → n < room_of t l → (steps : (Option Float)) → StepsReach size n steps → {is' : List Item} → items_from (item_at type start size steps) 1 n ≡ gives is' → (x : Said (List Entry)) → list_of t l is' ≡ x → and_then x (λ es. gives is') ≡ gives is → Left
       listed some room steps r {is'} h (gives es) g q =
           let same : is' ≡ is = same_value is' is q in
           (some, room, said_leaves some room steps r (h ∙ ap gives same) (rw (lt-ltb n (room_of t l) room, ← same, g)))
       listed some room steps r h (refuses a d) g q = no_value q
 
-      third : 0 < start → n < room_of t l → (steps : Steps) → StepsReach size n steps → (x : Said (List Item)) → items_from (item_at type start size steps) 1 n ≡ x → and_then x (λ is'. and_then (list_of t l is') (λ es. gives is')) ≡ gives is → Left
+      third : 0 < start → n < room_of t l → (steps : (Option Float)) → StepsReach size n steps → (x : Said (List Item)) → items_from (item_at type start size steps) 1 n ≡ x → and_then x (λ is'. and_then (list_of t l is') (λ es. gives is')) ≡ gives is → Left
       third some room steps r (gives is') h q = listed some room steps r h (list_of t l is') refl q
       third some room steps r (refuses a d) h q = no_value q
 
-      second : 0 < start → n < room_of t l → (x : Said Steps) → steps_of start size divisions ≡ x → and_then (and_then x (λ steps. items_from (item_at type start size steps) 1 n)) (λ is'. and_then (list_of t l is') (λ es. gives is')) ≡ gives is → Left
+      second : 0 < start → n < room_of t l → (x : Said (Option Float)) → steps_of start size divisions ≡ x → and_then (and_then x (λ steps. items_from (item_at type start size steps) 1 n)) (λ is'. and_then (list_of t l is') (λ es. gives is')) ≡ gives is → Left
       second some room (gives steps) h q = third some room steps (steps_reach start size divisions steps h) (items_from (item_at type start size steps) 1 n) refl q
       second some room (refuses a d) h q = no_value q
 
@@ -150,7 +147,7 @@ module _ (t : ItemTable) (l : ListTable) (type : SegmentType) (start size : ℕ)
       first false h q = no_value q
 
 -- ---- two results of one input are equal
-pub create_harmonics_scale_one : (t : ItemTable) (l : ListTable) (type : SegmentType) (start size : ℕ) (divisions : Divisions) →
+pub create_harmonics_scale_one : (t : ItemTable) (l : ListTable) (type : SegmentType) (start size : ℕ) (divisions : (Option ℕ)) →
     One says_scl (counted_of (made_harmonics t l type start size divisions)) × One (λ r. r) (items_left (made_harmonics t l type start size divisions) t l) × One (λ r. r) (list_left (made_harmonics t l type start size divisions) t l)
 create_harmonics_scale_one t l type start size divisions =
     let made = made_harmonics t l type start size divisions in

@@ -1,4 +1,3 @@
 pub mod Segment
-pub mod Answers
 pub mod Harmonics
 pub mod Steps

@@ -1,18 +1,14 @@
 -- The fractions of a segment of the harmonic series, as the Rust's `create_harmonics_scale` makes them, its f64 steps in its order
 -- with document 01's E and L. Assumes nothing.
-use Rattle.std.specs.Prelude.{ℕ, ◌+◌, ◌-◌, Float}
+use Rattle.std.specs.Prelude.{ℕ, ◌+◌, ◌-◌, Float, Some, None, Option}
 use Rattle.std.specs.Float.{binary64}
 use Rattle.std.specs.Float.Ieee.{add, mul, div, neg, lt, to_unsigned}
 use Rattle.base.specs.Said.{Said, gives, pick, and_then}
 use Rattle.floats.specs.Floats.{float, floor}
 use Rattle.pitch.specs.Ratios.{from_float, repeated, divided_into}
-use Rattle.harmonics.specs.declared.segment.Divisions.{Divisions}
-use Rattle.harmonics.specs.declared.segment.Divisions.TheVariants.{Into, Lacking}
 use Rattle.harmonics.specs.declared.segment.Fraction.{Fraction}
 use Rattle.harmonics.specs.declared.segment.SegmentType.{SegmentType}
 use Rattle.harmonics.specs.declared.segment.SegmentType.TheVariants.{Otonal, Utonal}
-use Rattle.harmonics.specs.declared.segment.Steps.{Steps}
-use Rattle.harmonics.specs.declared.segment.Steps.TheVariants.{Whole, Equal}
 
 -- f64::ceil: the floor of the number turned over, turned back
 abbrev pub ceil : Float → Float
@@ -40,21 +36,21 @@ near_at Otonal start size ratio = item_fraction (harmonic_of (mul binary64 ratio
 near_at Utonal start size ratio = item_fraction (start + size) (harmonic_of (div binary64 (float (start + size)) ratio))
 
 -- the j-th fraction: `step_size.repeated(j)` where the segment is divided
-abbrev pub fraction_at : SegmentType → ℕ → ℕ → Steps → ℕ → Said Fraction
-fraction_at type start size Whole j = gives (whole_at type start size j)
-fraction_at type start size (Equal step) j = and_then (repeated step (float j)) (λ ratio. gives (near_at type start size ratio))
+abbrev pub fraction_at : SegmentType → ℕ → ℕ → (Option Float) → ℕ → Said Fraction
+fraction_at type start size None j = gives (whole_at type start size j)
+fraction_at type start size (Some step) j = and_then (repeated step (float j)) (λ ratio. gives (near_at type start size ratio))
 
 -- `equivalence_interval`
 abbrev pub interval_of : ℕ → ℕ → Float
 interval_of start size = div binary64 (add binary64 (float start) (float size)) (float start)
 
 -- `Ratio::from_float(equivalence_interval).divided_into_equal_steps(neji_divisions)`
-abbrev pub steps_of : ℕ → ℕ → Divisions → Said Steps
-steps_of start size Lacking = gives Whole
-steps_of start size (Into number) =
-    and_then (and_then (from_float (interval_of start size)) (λ ratio. divided_into ratio (float number))) (λ step. gives (Equal step))
+abbrev pub steps_of : ℕ → ℕ → (Option ℕ) → Said (Option Float)
+steps_of start size None = gives None
+steps_of start size (Some number) =
+    and_then (and_then (from_float (interval_of start size)) (λ ratio. divided_into ratio (float number))) (λ step. gives (Some step))
 
 -- how many items there are
-abbrev pub segment_count : ℕ → Divisions → ℕ
-segment_count size Lacking = size
-segment_count size (Into number) = number
+abbrev pub segment_count : ℕ → (Option ℕ) → ℕ
+segment_count size None = size
+segment_count size (Some number) = number

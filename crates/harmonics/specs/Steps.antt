@@ -1,5 +1,5 @@
 -- What the code goes through: the pushes one by one, and its look at the last item. Assumes nothing.
-use Rattle.std.specs.Prelude.{◌≡◌, ℕ, zero, suc, ◌≤◌, true, List, [], ◌∷◌}
+use Rattle.std.specs.Prelude.{Float, ◌≡◌, ℕ, zero, suc, ◌≤◌, true, List, [], ◌∷◌, Option, None, Some}
 use Rattle.std.specs.Float.{binary64}
 use Rattle.std.specs.Float.Ieee.{fits}
 use Rattle.base.specs.Numbers.{beyond_reach}
@@ -12,10 +12,7 @@ use Rattle.scl_build.specs.Builder.{Built, after_one}
 use Rattle.generate.specs.Generated.{items_from}
 use Rattle.harmonics.specs.Segment.{steps_of, segment_count}
 use Rattle.harmonics.specs.Harmonics.{item_at}
-use Rattle.harmonics.specs.declared.segment.Divisions.{Divisions}
 use Rattle.harmonics.specs.declared.segment.SegmentType.{SegmentType}
-use Rattle.harmonics.specs.declared.segment.Steps.{Steps}
-use Rattle.harmonics.specs.declared.segment.Steps.TheVariants.{Whole, Equal}
 
 -- the builder and its table after the push of what is said
 abbrev pub after_said : Built → Said Item → Built
@@ -32,14 +29,14 @@ said_from f k zero = []
 said_from f k (suc n) = with_said (f k) (said_from f (suc k) n)
 
 -- a segment without divisions has so many items; an equal step is a ratio
-abbrev pub StepsReach : ℕ → ℕ → Steps → Type 0
-StepsReach size n Whole = n ≤ size
-StepsReach size n (Equal step) = (in_reach step ≡ true) × (fits binary64 step ≡ true)
+abbrev pub StepsReach : ℕ → ℕ → (Option Float) → Type 0
+StepsReach size n None = n ≤ size
+StepsReach size n (Some step) = (in_reach step ≡ true) × (fits binary64 step ≡ true)
 
 -- the steps where all items are said and the last one is within reach
-unfoldable pub looked : SegmentType → ℕ → ℕ → ℕ → Steps → Said Steps
+unfoldable pub looked : SegmentType → ℕ → ℕ → ℕ → (Option Float) → Said (Option Float)
 looked type start size n steps =
     and_then (items_from (item_at type start size steps) 1 n) (λ is. pick (is_beyond n (last_of (implicit ∷ is))) (refuses beyond_reach 0) (gives steps))
 
-abbrev pub planned : SegmentType → ℕ → ℕ → Divisions → Said Steps
+abbrev pub planned : SegmentType → ℕ → ℕ → (Option ℕ) → Said (Option Float)
 planned type start size divisions = and_then (steps_of start size divisions) (λ steps. looked type start size (segment_count size divisions) steps)

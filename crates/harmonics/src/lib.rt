@@ -1,27 +1,27 @@
 // Scales from a segment of the harmonic series: the Rust's `create_harmonics_scale`. Document 01, "Scales and searches".
 //
 // The items are pushed into a builder beside the lent tables, as the Rust does it; the caller has the description. Whether 18 arises
-// is known from the last item, before anything is written. `create_harmonics_scale(Otonal, 9, 7, Lacking, ..)` is 10/9, .., 16/9.
+// is known from the last item, before anything is written. `create_harmonics_scale(Otonal, 9, 7, None, ..)` is 10/9, .., 16/9.
 #![tactic(auto)]
 
 pub mod segment;
 
-ghost use Rattle.std.specs.Prelude.{◌≡◌, ◌<◌};
+ghost use Rattle.std.specs.Prelude.{◌≡◌, ◌<◌, Some};
+ghost use Rattle.base.specs.Said.{outcome};
 ghost use Rattle.scl.specs.Answers.{says_scl};
 ghost use Rattle.scl.specs.Table.{item_table};
-ghost use Rattle.scl.specs.declared.Denom.TheVariants.{Given};
 ghost use Rattle.scl.specs.declared.Item.TheVariants.{Fraction};
 ghost use Rattle.sorted.specs.Lent.{list_table};
 ghost use Rattle.scl_tables.specs.Build.{after_list};
 ghost use Rattle.scl_build.specs.Builder.{beside, after_one, after_all, counted};
 ghost use Rattle.generate.specs.Generated.{all_pushed, list_of, counted_of, items_left, list_left};
-ghost use Rattle.harmonics.specs.Answers.{says_steps};
 ghost use Rattle.harmonics.specs.Harmonics.{item_at, made_harmonics};
 ghost use Rattle.harmonics.specs.Steps.{after_said, said_from, StepsReach, looked, planned};
 
-use crate::segment::{Divisions, FractionAnswer, SegmentType, Steps, StepsAnswer};
-use scl::{Denom, Item, SclAnswer};
-use scl_build::{SclBuilder, SclBuilderAnswer};
+use crate::segment::SegmentType;
+use base::Refusal;
+use scl::{Item, Scl};
+use scl_build::SclBuilder;
 
 // The builder after a push: as it was where the push is refused.
 fn pushed(
@@ -34,12 +34,11 @@ fn pushed(
     denom_value: u32,
 ) -> SclBuilder
     ensures { beside result (item_table kind.new cents.new numer.new denom.new)
-        ≡ after_one (beside state (item_table kind.old cents.old numer.old denom.old)) (Fraction numer_value (Given denom_value)) }
+        ≡ after_one (beside state (item_table kind.old cents.old numer.old denom.old)) (Fraction numer_value (Some denom_value)) }
 {
-    match state.push_fraction(kind, cents, numer, denom, numer_value, denom_value) {
-        SclBuilderAnswer::Is(next) => next,
-        SclBuilderAnswer::Refused(_) => state,
-    }
+    state
+        .push_fraction(kind, cents, numer, denom, numer_value, denom_value)
+        .unwrap_or(state)
 }
 
 // The builder after the j-th item of a segment.
@@ -52,17 +51,15 @@ fn push_at(
     segment_type: SegmentType,
     start: u16,
     size: u16,
-    steps: Steps,
+    steps: Option<f64>,
     j: u16,
 ) -> SclBuilder
     ensures { beside result (item_table kind.new cents.new numer.new denom.new)
         ≡ after_said (beside state (item_table kind.old cents.old numer.old denom.old)) (item_at segment_type start size steps j) }
 {
     match segment::fraction_at(segment_type, start, size, steps, j) {
-        FractionAnswer::Is(item) => pushed(
-            state, kind, cents, numer, denom, item.numer, item.denom,
-        ),
-        FractionAnswer::Refused(_) => state,
+        Ok(item) => pushed(state, kind, cents, numer, denom, item.numer, item.denom),
+        Err(_) => state,
     }
 }
 
@@ -76,16 +73,14 @@ fn push_all(
     segment_type: SegmentType,
     start: u16,
     size: u16,
-    steps: Steps,
+    steps: Option<f64>,
     n: u16,
 ) -> SclBuilder
     ensures { beside result (item_table kind.new cents.new numer.new denom.new)
         ≡ after_all (beside state (item_table kind.old cents.old numer.old denom.old)) (said_from (item_at segment_type start size steps) 1 n) }
 {
     let mut builder = state;
-    let mut i: u16 = 0;
-    while i < n {
-        i += 1;
+    for i in 0..n {
         builder = push_at(
             builder,
             kind,
@@ -96,7 +91,7 @@ fn push_all(
             start,
             size,
             steps,
-            i,
+            i + 1,
         );
     }
     builder
@@ -107,7 +102,7 @@ fn write(
     segment_type: SegmentType,
     start: u16,
     size: u16,
-    steps: Steps,
+    steps: Option<f64>,
     n: u16,
     kind: &mut [u8],
     cents: &mut [f64],
@@ -116,7 +111,7 @@ fn write(
     place: &mut [u32],
     ratio: &mut [f64],
     wraps: &mut [i32],
-) -> SclAnswer
+) -> Result<Scl, Refusal>
     ensures value { says_scl result ≡ counted (all_pushed (item_table kind.old cents.old numer.old denom.old) (list_table place.old ratio.old wraps.old) (said_from (item_at segment_type start size steps) 1 n)).builder
         (list_of (item_table kind.old cents.old numer.old denom.old) (list_table place.old ratio.old wraps.old) (said_from (item_at segment_type start size steps) 1 n)) }
     ensures table_after { item_table kind.new cents.new numer.new denom.new
@@ -141,42 +136,45 @@ fn write(
 }
 
 // The steps of a segment of n items, or the 18 of its last one.
-fn look(segment_type: SegmentType, start: u16, size: u16, steps: Steps, n: u16) -> StepsAnswer
+fn look(
+    segment_type: SegmentType,
+    start: u16,
+    size: u16,
+    steps: Option<f64>,
+    n: u16,
+) -> Result<Option<f64>, Refusal>
     requires { (0 < start) × StepsReach size n steps }
-    ensures { says_steps result ≡ looked segment_type start size n steps }
+    ensures { outcome result ≡ looked segment_type start size n steps }
 {
     if n == 0 {
-        return StepsAnswer::Is(steps);
+        return Ok(steps);
     }
-    match segment::fraction_at(segment_type, start, size, steps, n) {
-        FractionAnswer::Refused(refusal) => StepsAnswer::Refused(refusal),
-        FractionAnswer::Is(item) => {
-            let last = Item::Fraction(item.numer, Denom::Given(item.denom));
-            if scl_tables::is_beyond(last, n as usize) {
-                return StepsAnswer::Refused(generate::OUT_OF_REACH);
-            }
-            StepsAnswer::Is(steps)
-        }
+    let item = segment::fraction_at(segment_type, start, size, steps, n)?;
+    let last = Item::Fraction(item.numer, Some(item.denom));
+    if scl_tables::is_beyond(last, n as usize) {
+        return Err(generate::OUT_OF_REACH);
     }
+    Ok(steps)
 }
 
 // The steps of a segment, or 18.
-fn plan(segment_type: SegmentType, start: u16, size: u16, divisions: Divisions) -> StepsAnswer
+fn plan(
+    segment_type: SegmentType,
+    start: u16,
+    size: u16,
+    divisions: Option<u16>,
+) -> Result<Option<f64>, Refusal>
     requires { 0 < start }
-    ensures { says_steps result ≡ planned segment_type start size divisions }
+    ensures { outcome result ≡ planned segment_type start size divisions }
 {
-    match segment::steps_of(start, size, divisions) {
-        StepsAnswer::Refused(refusal) => StepsAnswer::Refused(refusal),
-        StepsAnswer::Is(steps) => {
-            look(
-                segment_type,
-                start,
-                size,
-                steps,
-                segment::count_of(size, divisions),
-            )
-        }
-    }
+    let steps = segment::steps_of(start, size, divisions)?;
+    look(
+        segment_type,
+        start,
+        size,
+        steps,
+        segment::count_of(size, divisions),
+    )
 }
 
 // The scale of a segment of the harmonic series, whole or in so many divisions, its items and their sorted list in the lent columns:
@@ -186,7 +184,7 @@ pub fn create_harmonics_scale(
     segment_type: SegmentType,
     segment_start: u16,
     segment_size: u16,
-    neji_divisions: Divisions,
+    neji_divisions: Option<u16>,
     kind: &mut [u8],
     cents: &mut [f64],
     numer: &mut [u32],
@@ -194,7 +192,7 @@ pub fn create_harmonics_scale(
     place: &mut [u32],
     ratio: &mut [f64],
     wraps: &mut [i32],
-) -> SclAnswer
+) -> Result<Scl, Refusal>
     ensures value { says_scl result ≡ counted_of (made_harmonics (item_table kind.old cents.old numer.old denom.old) (list_table place.old ratio.old wraps.old) segment_type segment_start segment_size neji_divisions) }
     ensures table_after { item_table kind.new cents.new numer.new denom.new
         ≡ items_left (made_harmonics (item_table kind.old cents.old numer.old denom.old) (list_table place.old ratio.old wraps.old) segment_type segment_start segment_size neji_divisions)
@@ -204,28 +202,26 @@ pub fn create_harmonics_scale(
         (item_table kind.old cents.old numer.old denom.old) (list_table place.old ratio.old wraps.old) }
 {
     if segment_start == 0 {
-        return SclAnswer::Refused(scl::NOT_USABLE);
+        return Err(scl::NOT_USABLE);
     }
     let n = segment::count_of(segment_size, neji_divisions);
     let room = scl_tables::room_of(kind, cents, numer, denom, place, ratio, wraps);
     if room <= (n as usize) {
-        return SclAnswer::Refused(generate::NO_PLACE);
+        return Err(generate::NO_PLACE);
     }
-    match plan(segment_type, segment_start, segment_size, neji_divisions) {
-        StepsAnswer::Refused(refusal) => SclAnswer::Refused(refusal),
-        StepsAnswer::Is(steps) => write(
-            segment_type,
-            segment_start,
-            segment_size,
-            steps,
-            n,
-            kind,
-            cents,
-            numer,
-            denom,
-            place,
-            ratio,
-            wraps,
-        ),
-    }
+    let steps = plan(segment_type, segment_start, segment_size, neji_divisions)?;
+    write(
+        segment_type,
+        segment_start,
+        segment_size,
+        steps,
+        n,
+        kind,
+        cents,
+        numer,
+        denom,
+        place,
+        ratio,
+        wraps,
+    )
 }

@@ -3,13 +3,12 @@
 //
 // An inner module: its fractions become items in lib.rt.
 ghost use Rattle.std.specs.Prelude.{◌≡◌};
+ghost use Rattle.base.specs.Said.{outcome};
 ghost use Rattle.std.specs.Float.Ieee.{to_unsigned};
-ghost use Rattle.harmonics.specs.Answers.{says_fraction, says_steps};
 ghost use Rattle.harmonics.specs.Segment.{harmonic_of, whole_at, near_at, fraction_at, steps_of, segment_count};
 
 use base::Refusal;
-use floats::FloatAnswer;
-use pitch::{Ratio, RatioAnswer};
+use pitch::Ratio;
 
 // Which segment: `n:n+1:n+2:..`, or `n/(n:n-1:n-2:..)`.
 #[derive(Clone, Copy)]
@@ -18,36 +17,10 @@ pub enum SegmentType {
     Utonal,
 }
 
-// Into how many equal divisions a segment is cut, where it is.
-#[derive(Clone, Copy)]
-pub enum Divisions {
-    Into(u16),
-    Lacking,
-}
-
-// What a segment's items are: each of its harmonics, or the harmonics near equal steps of this ratio.
-#[derive(Clone, Copy)]
-pub enum Steps {
-    Whole,
-    Equal(f64),
-}
-
 #[derive(Clone, Copy)]
 pub struct Fraction {
     pub numer: u32,
     pub denom: u32,
-}
-
-#[derive(Clone, Copy)]
-pub enum FractionAnswer {
-    Is(Fraction),
-    Refused(Refusal),
-}
-
-#[derive(Clone, Copy)]
-pub enum StepsAnswer {
-    Is(Steps),
-    Refused(Refusal),
 }
 
 // 2^32, where u32 ends.
@@ -123,52 +96,37 @@ pub fn fraction_at(
     segment_type: SegmentType,
     start: u16,
     size: u16,
-    steps: Steps,
+    steps: Option<f64>,
     j: u16,
-) -> FractionAnswer
-    ensures { says_fraction result ≡ fraction_at segment_type start size steps j }
+) -> Result<Fraction, Refusal>
+    ensures { outcome result ≡ fraction_at segment_type start size steps j }
 {
     match steps {
-        Steps::Whole => FractionAnswer::Is(whole_at(segment_type, start, size, j)),
-        Steps::Equal(step) => {
-            let one = Ratio(step);
-            match one.repeated(j as f64) {
-                RatioAnswer::Is(ratio) => {
-                    FractionAnswer::Is(near_at(segment_type, start, size, ratio.0))
-                }
-                RatioAnswer::Refused(refusal) => FractionAnswer::Refused(refusal),
-            }
+        None => Ok(whole_at(segment_type, start, size, j)),
+        Some(step) => {
+            let ratio = Ratio(step).repeated(f64::from(j))?;
+            Ok(near_at(segment_type, start, size, ratio.0))
         }
     }
 }
 
 // The steps of a segment: one equal step of its whole interval where it is divided, 18 for 0 divisions.
-pub fn steps_of(start: u16, size: u16, divisions: Divisions) -> StepsAnswer
-    ensures { says_steps result ≡ steps_of start size divisions }
+pub fn steps_of(start: u16, size: u16, divisions: Option<u16>) -> Result<Option<f64>, Refusal>
+    ensures { outcome result ≡ steps_of start size divisions }
 {
     match divisions {
-        Divisions::Lacking => StepsAnswer::Is(Steps::Whole),
-        Divisions::Into(number) => {
-            let interval = ((start as f64) + (size as f64)) / (start as f64);
-            match Ratio::from_float(interval) {
-                RatioAnswer::Is(ratio) => {
-                    match ratio.divided_into_equal_steps(number as f64) {
-                        RatioAnswer::Is(step) => StepsAnswer::Is(Steps::Equal(step.0)),
-                        RatioAnswer::Refused(refusal) => StepsAnswer::Refused(refusal),
-                    }
-                }
-                RatioAnswer::Refused(refusal) => StepsAnswer::Refused(refusal),
-            }
+        None => Ok(None),
+        Some(number) => {
+            let interval = (f64::from(start) + f64::from(size)) / f64::from(start);
+            let step = Ratio::from_float(interval)?.divided_into_equal_steps(f64::from(number))?;
+            Ok(Some(step.0))
         }
     }
 }
 
 // How many items a segment has: its size, or its divisions.
-pub fn count_of(size: u16, divisions: Divisions) -> u16
+pub fn count_of(size: u16, divisions: Option<u16>) -> u16
     ensures { result ≡ segment_count size divisions }
 {
-    match divisions {
-        Divisions::Lacking => size,
-        Divisions::Into(number) => number,
-    }
+    divisions.unwrap_or(size)
 }

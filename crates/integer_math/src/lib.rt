@@ -3,22 +3,15 @@
 #![tactic(auto)]
 
 ghost use Rattle.std.specs.Prelude.{◌≡◌, ◌<◌, ◌+ℤ◌, ◌-ℤ◌};
+ghost use Rattle.base.specs.Said.{outcome};
 ghost use Rattle.std.specs.Int.Signed.{mag};
 ghost use Rattle.base.specs.Integers.{floor_div, floor_mod, held};
-ghost use Rattle.integer_math.specs.Answers.{says_i32};
 
-use base::Refusal;
-
-// An i32, or why there is none.
-#[derive(Clone, Copy)]
-pub enum I32Answer {
-    Is(i32),
-    Refused(Refusal),
-}
+use base::{Reason, Refusal};
 
 // 11: a number is outside 32 bits.
 const PAST_I32: Refusal = Refusal {
-    number: base::OVERFLOW,
+    reason: Reason::Overflow,
     detail: 0,
 };
 
@@ -62,13 +55,13 @@ pub fn difference(a: i32, b: i32) -> i64
 }
 
 // The number where 32 bits hold it; else 11.
-pub fn to_i32(z: i64) -> I32Answer
-    ensures { says_i32 result ≡ held z }
+pub fn to_i32(z: i64) -> Result<i32, Refusal>
+    ensures { outcome result ≡ held z }
 {
     if -2147483648 <= z {
         if z <= 2147483647 {
-            return I32Answer::Is(z as i32);
+            return Ok(z as i32);
         }
     }
-    I32Answer::Refused(PAST_I32)
+    Err(PAST_I32)
 }

@@ -4,6 +4,9 @@ use mathlib.Core.List.{List, [], ◌∷◌, ◌++◌}
 use mathlib.Core.Bool.{Bool, true, false}
 use Prim.Native.Nat.{ℕ, ◌≤◌, ◌<◌}
 use native.Mathlib.Omega.{arith}
+use Rattle.std.specs.Char.{is_ascii_digit}
+use Rattle.std.proofs.lemmas.Bool.{cases_lt}
+use mathlib.Core.Logic.{inl, inr}
 use lib.Dec.{leb, ltb}
 use borrow.Author.Tests.{lt-ltb, le-ltb, le-leb, lt-leb, ltb-false, leb-true}
 use Rattle.base.specs.Said.{pick}
@@ -30,3 +33,11 @@ digit_is b e = go (ltb b 48) refl e
 pub all_append : (a b : List ℕ) → AllDigits a → AllDigits b → AllDigits (a ++ b)
 all_append [] b h k = k
 all_append (c ∷ a) b h k = (h.0, all_append a b h.1 k)
+
+-- std's test of a digit is this one
+pub ascii_digit : (b : ℕ) → is_digit b ≡ is_ascii_digit b
+ascii_digit b =
+    elim (cases_lt b 48) [
+      | inl l ↦ simp (lt-ltb b 48 l, lt-leb 48 b l)
+      | inr l ↦ simp (le-ltb b 48 l, le-leb 48 b l)
+    ]

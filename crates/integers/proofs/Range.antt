@@ -1,42 +1,38 @@
 -- THE LAW OF RANGE, and the law of casts, once over width and sign: what is read fits its type, and the code's casts keep its
 -- value. Assumes nothing.
-use mathlib.Core.Path.{◌≡◌, refl, sym, ◌∙◌, ap}
+use Rattle.std.specs.Prelude.{Some, None, Option}
+use mathlib.Core.Path.{◌≡◌, refl, ◌∙◌, ap}
 use mathlib.Core.List.{List, [], ◌∷◌}
 use mathlib.Core.Bool.{Bool, true, false}
 use Prim.Native.Nat.{ℕ, zero, suc, ◌+◌, ◌-◌, ◌*◌, ◌^◌, ◌≤◌, ◌<◌}
 use native.Mathlib.Omega.{arith}
-use lib.Dec.{leb, eqb, T}
-use lib.IntN.{ℤ, pos, negsuc, neg_ℤ, nat_abs, ◌-ℤ◌, +ℤ_idl}
-use lib.Signed.{non_neg, pos-nat_abs}
-use mir.Syntax.{Width, w64}
-use mir.Val.{Fits, SFits, bits, hbits, to_z, of_z}
+use lib.Dec.{leb, eqb}
+use lib.IntN.{ℤ, pos, neg_ℤ, ◌-ℤ◌, +ℤ_idl}
+use mir.Syntax.{w64}
+use mir.Val.{SFits, to_z, of_z}
 use mir.Facts.{to_z_pos, to_z-of_z}
 use borrow.Author.Tests.{leb-true}
 use Rattle.base.specs.Said.{pick}
-use Rattle.integers.specs.Integer.{scan, magnitude_of, value, signed_of, read_int, whole_of, plus, minus, read_signed}
+use Rattle.integers.specs.Integer.{InType, scan, magnitude_of, value, signed_of, read_int, plus, minus, read_signed}
 use Rattle.integers.specs.declared.Signed.{Signed}
 use Rattle.integers.specs.declared.Signed.TheVariants as signed
-use Rattle.integers.specs.declared.Whole.{Whole}
-use Rattle.integers.specs.declared.Whole.TheVariants as whole
-use Rattle.integers.specs.declared.Magnitude.{Magnitude}
-use Rattle.integers.specs.declared.Magnitude.TheVariants as magnitude
 use Rattle.integers.specs.Digits.{is_digit}
 
 -- a row of digits that is read is within its limit
-within : ℕ → Magnitude → Type 0
-within top (magnitude.Is n) = n ≤ top
-within top magnitude.IsNot = Unit {0}
+within : ℕ → Option ℕ → Type 0
+within top (Some n) = n ≤ top
+within top None = Unit {0}
 
 scan_within : (top acc : ℕ) (s : List ℕ) → within top (scan top acc s)
 unfolding within scan
 scan_within top acc [] = go (leb acc top) refl
   where
-    go : (t : Bool) → leb acc top ≡ t → within top (pick t (magnitude.Is acc) magnitude.IsNot)
+    go : (t : Bool) → leb acc top ≡ t → within top (pick t (Some acc) None)
     go true e = leb-true acc top e
     go false e = tt
 scan_within top acc (b ∷ s) = go (is_digit b) _ (scan_within top (acc * 10 + (b - 48)) s)
   where
-    go : (t : Bool) (m : Magnitude) → within top m → within top (pick t m magnitude.IsNot)
+    go : (t : Bool) (m : Option ℕ) → within top m → within top (pick t m None)
     go true m h = h
     go false m h = tt
 
@@ -46,61 +42,47 @@ mag_within top [] = tt
 mag_within top (b ∷ s) = scan_within top 0 (b ∷ s)
 
 -- the size of what is read is in the range of its type
-abbrev pub InRange : Bool → ℕ → Signed → Type 0
-InRange sign top (signed.Plus n) = n < top
-InRange sign top (signed.Minus n) = (sign ≡ true) × (n ≤ top)
-InRange sign top signed.IsNot = Unit {0}
+abbrev pub InRange : Bool → ℕ → Option Signed → Type 0
+InRange sign top (Some (signed.Plus n)) = n < top
+InRange sign top (Some (signed.Minus n)) = (sign ≡ true) × (n ≤ top)
+InRange sign top None = Unit {0}
 
 in_range : (sign : Bool) (top : ℕ) (s : List ℕ) → 0 < top → InRange sign top (read_signed sign top s)
 unfolding read_signed within
 in_range sign top [] h = tt
 in_range sign top (b ∷ s) h = by_minus (eqb b 45)
   where
-    plus_in : (m : Magnitude) → within (top - 1) m → InRange sign top (plus m)
-    plus_in (magnitude.Is n) w = omega arith
-    plus_in magnitude.IsNot w = tt
+    plus_in : (m : Option ℕ) → within (top - 1) m → InRange sign top (plus m)
+    plus_in (Some n) w = omega arith
+    plus_in None w = tt
 
-    minus_in : (m : Magnitude) → within top m → (t : Bool) → sign ≡ t → InRange sign top (pick t (minus m) signed.IsNot)
-    minus_in (magnitude.Is n) w true e = (e, w)
-    minus_in magnitude.IsNot w true e = tt
-    minus_in (magnitude.Is n) w false e = tt
-    minus_in magnitude.IsNot w false e = tt
+    minus_in : (m : Option ℕ) → within top m → (t : Bool) → sign ≡ t → InRange sign top (pick t (minus m) None)
+    minus_in (Some n) w true e = (e, w)
+    minus_in None w true e = tt
+    minus_in (Some n) w false e = tt
+    minus_in None w false e = tt
 
     by_plus : (t : Bool) → InRange sign top (pick t (plus (magnitude_of (top - 1) s)) (plus (magnitude_of (top - 1) (b ∷ s))))
     by_plus true = plus_in (magnitude_of (top - 1) s) (mag_within (top - 1) s)
     by_plus false = plus_in (magnitude_of (top - 1) (b ∷ s)) (mag_within (top - 1) (b ∷ s))
 
-    by_minus : (t : Bool) → InRange sign top (pick t (pick sign (minus (magnitude_of top s)) signed.IsNot)
+    by_minus : (t : Bool) → InRange sign top (pick t (pick sign (minus (magnitude_of top s)) None)
         (pick (eqb b 43) (plus (magnitude_of (top - 1) s)) (plus (magnitude_of (top - 1) (b ∷ s)))))
     by_minus true = minus_in (magnitude_of top s) (mag_within top s) sign refl
     by_minus false = by_plus (eqb b 43)
 
 -- the value of what is read is in the range of its type
-abbrev IntRange : Bool → ℕ → ℤ → Type 0
-IntRange sign top (pos n) = n < top
-IntRange sign top (negsuc n) = (sign ≡ true) × (n < top)
-
-range : (sign : Bool) (top : ℕ) (s : List ℕ) (z : ℤ) → 0 < top → value z ≡ read_int sign top s → IntRange sign top z
+pub range : (sign : Bool) (top : ℕ) (s : List ℕ) (z : ℤ) → 0 < top → value z ≡ read_int sign top s → InType sign top z
 range sign top s z h e = go (read_signed sign top s) (in_range sign top s h) e
   where
-    neg_in : (n : ℕ) → sign ≡ true → n ≤ top → IntRange sign top (neg_ℤ (pos n))
+    neg_in : (n : ℕ) → sign ≡ true → n ≤ top → InType sign top (neg_ℤ (pos n))
     neg_in zero g w = h
     neg_in (suc n) g w = (g, w)
 
-    go : (r : Signed) → InRange sign top r → value z ≡ signed_of r → IntRange sign top z
-    go (signed.Plus n) w e' = let p : z ≡ pos n = cc in rw p w
-    go (signed.Minus n) w e' = let p : z ≡ neg_ℤ (pos n) = cc in rw p (neg_in n w.0 w.1)
-    go signed.IsNot w e' = let q : ◌≡◌ {A = ℕ} 0 1 = cc in absurd (omega arith)
-
--- a number in the range of a signed type fits it, at every width
-fits_signed : (w : Width) (z : ℤ) → IntRange true (2 ^ hbits w) z → SFits w z
-fits_signed w (pos n) h = record { sfits = h }
-fits_signed w (negsuc n) h = record { sfits = h.1 }
-
--- and so of an unsigned one
-fits_unsigned : (w : Width) (z : ℤ) → IntRange false (2 ^ bits w) z → T (non_neg z) × Fits w (nat_abs z)
-fits_unsigned w (pos n) h = (tt, record { fits = h })
-fits_unsigned w (negsuc n) h = let p : false ≡ true = h.0 in let q : ◌≡◌ {A = ℕ} 0 1 = cc in absurd (omega arith)
+    go : (r : Option Signed) → InRange sign top r → value z ≡ signed_of r → InType sign top z
+    go (Some (signed.Plus n)) w e' = let p : z ≡ pos n = cc in rw p w
+    go (Some (signed.Minus n)) w e' = let p : z ≡ neg_ℤ (pos n) = cc in rw p (neg_in n w.0 w.1)
+    go None w e' = let q : ◌≡◌ {A = ℕ} 0 1 = cc in absurd (omega arith)
 
 pub whole_plus : (n : ℕ) → n < 2 ^ 63 → SFits w64 (pos n)
 whole_plus n h = record { sfits = h }
@@ -112,52 +94,54 @@ pub neg_fits : (n : ℕ) → n < 2 ^ 63 → SFits w64 (neg_ℤ (pos n))
 neg_fits zero h = record { sfits = omega arith }
 neg_fits (suc n) h = record { sfits = omega arith }
 
--- what a call of `read_signed` answered, and what a match made of it
-module _ (sign : Bool) (top : ℕ) (s : List ℕ) {r r' : Signed} (p : r ≡ read_signed sign top s) (q : r ≡ r') where
-  pub told_range : 0 < top → InRange sign top r'
-  told_range h = rw (← q, p) (in_range sign top s h)
+-- what a call of `read_signed` answered
+module _ (sign : Bool) (top : ℕ) (s : List ℕ) {r : Option Signed} (p : r ≡ read_signed sign top s) where
+  pub told_range : 0 < top → InRange sign top r
+  told_range h = rw p (in_range sign top s h)
 
-  pub told_int : signed_of r' ≡ read_int sign top s
-  told_int = rw (← q, p)
+  pub told_int : signed_of r ≡ read_int sign top s
+  told_int = rw p
 
--- THE TYPES: the limit of an integer type, by its sign and its width
-abbrev top_of : Bool → Width → ℕ
-top_of true w = 2 ^ hbits w
-top_of false w = 2 ^ bits w
+  pub told_type : 0 < top → {z : ℤ} → value z ≡ signed_of r → InType sign top z
+  told_type h e = range sign top s _ h (e ∙ told_int)
 
--- what a cast from an i64 to such a type asks
-abbrev CastFits : Bool → Width → ℤ → Type 0
-CastFits true w z = SFits w (to_z w64 (of_z w64 z))
-CastFits false w z = T (non_neg (to_z w64 (of_z w64 z))) × Fits w (nat_abs (to_z w64 (of_z w64 z)))
+-- what it answered, at the sign and the limit of a type, and what a match told of it
+pub told : {g sign : Bool} {t top : ℕ} (s : List ℕ) {f f' : Signed} → Some f ≡ read_signed g t s → g ≡ sign → t ≡ top → f ≡ f' → Some f' ≡ read_signed sign top s
+told s p a b q = rw (← a, ← b, ← q) p
 
--- what it gives
-abbrev cast_to : Bool → Width → ℤ → ℤ
-cast_to true w z = to_z w (of_z w (to_z w64 (of_z w64 z)))
-cast_to false w z = pos (nat_abs (to_z w64 (of_z w64 z)))
+-- THE LAW OF READING: what is read is cast and negated within an i64, and is in its type
+module _ (sign : Bool) (top : ℕ) (s : List ℕ) (some : 0 < top) (most : top ≤ 2 ^ 32) {n : ℕ} where
+  module _ (p : Some (signed.Plus n) ≡ read_signed sign top s) where
+    plus_small : n < 2 ^ 63
+    plus_small = let w : n < top = told_range sign top s p some in omega arith
 
-whole_fits : (sign : Bool) (top : ℕ) (z : ℤ) → top ≤ 2 ^ 63 → IntRange sign top z → SFits w64 z
-whole_fits sign top (pos n) b h = record { sfits = omega arith }
-whole_fits sign top (negsuc n) b h = record { sfits = omega (arith, h.1) }
+    pub plus_fits : SFits w64 (pos n)
+    plus_fits = whole_plus n plus_small
 
-cast_fits : (sign : Bool) (w : Width) (z : ℤ) → top_of sign w ≤ 2 ^ 63 → IntRange sign (top_of sign w) z → CastFits sign w z
-cast_fits true w z b h = rw (to_z-of_z (whole_fits true _ z b h)) (fits_signed w z h)
-cast_fits false w z b h = rw (to_z-of_z (whole_fits false _ z b h)) (fits_unsigned w z h)
+    plus_is : {z : ℤ} → z ≡ to_z w64 n → value z ≡ signed_of (Some (signed.Plus n))
+    plus_is e = ap value (e ∙ to_z_pos w64 plus_small)
 
-cast_value : (sign : Bool) (w : Width) (z : ℤ) → top_of sign w ≤ 2 ^ 63 → IntRange sign (top_of sign w) z → cast_to sign w z ≡ z
-cast_value true w z b h = rw (to_z-of_z (whole_fits true _ z b h), to_z-of_z (fits_signed w z h))
-cast_value false w z b h = rw (to_z-of_z (whole_fits false _ z b h)) (pos-nat_abs z (fits_unsigned w z h).0)
+    pub plus_value : {z : ℤ} → z ≡ to_z w64 n → value z ≡ read_int sign top s
+    plus_value e = plus_is e ∙ told_int sign top s p
 
--- THE LAW OF THE FOUR READERS: what `read_whole` answered, as a match told it, goes through the cast to its type and keeps its value
-module _ (sign : Bool) (w : Width) (s : List ℕ) {r : Whole} (p : whole_of r ≡ read_int sign (top_of sign w) s) where
-  module _ (some : 0 < top_of sign w) (narrow : top_of sign w ≤ 2 ^ 63) {z : ℤ} (q : r ≡ whole.Is z) where
-    in_type : IntRange sign (top_of sign w) z
-    in_type = range sign (top_of sign w) s z some (ap whole_of (sym q) ∙ p)
+    pub plus_type : {z : ℤ} → z ≡ to_z w64 n → InType sign top z
+    plus_type e = told_type sign top s p some (plus_is e)
 
-    pub cast_told : CastFits sign w z
-    cast_told = cast_fits sign w z narrow in_type
+  module _ (p : Some (signed.Minus n) ≡ read_signed sign top s) where
+    minus_small : n < 2 ^ 63
+    minus_small = let w : (sign ≡ true) × (n ≤ top) = told_range sign top s p some in omega (arith, w.1)
 
-    pub value_told : value (cast_to sign w z) ≡ read_int sign (top_of sign w) s
-    value_told = ap value (cast_value sign w z narrow in_type) ∙ ap whole_of (sym q) ∙ p
+    pub minus_fits : SFits w64 (pos n)
+    minus_fits = whole_plus n minus_small
 
-  pub none_told : r ≡ whole.IsNot → whole_of whole.IsNot ≡ read_int sign (top_of sign w) s
-  none_told q = ap whole_of (sym q) ∙ p
+    pub negated_fits : SFits w64 (pos 0 -ℤ to_z w64 n)
+    negated_fits = rw (whole_minus n minus_small) (neg_fits n minus_small)
+
+    minus_is : {z : ℤ} → z ≡ to_z w64 (of_z w64 (pos 0 -ℤ to_z w64 n)) → value z ≡ signed_of (Some (signed.Minus n))
+    minus_is e = ap value (e ∙ to_z-of_z negated_fits ∙ whole_minus n minus_small)
+
+    pub minus_value : {z : ℤ} → z ≡ to_z w64 (of_z w64 (pos 0 -ℤ to_z w64 n)) → value z ≡ read_int sign top s
+    minus_value e = minus_is e ∙ told_int sign top s p
+
+    pub minus_type : {z : ℤ} → z ≡ to_z w64 (of_z w64 (pos 0 -ℤ to_z w64 n)) → InType sign top z
+    minus_type e = told_type sign top s p some (minus_is e)

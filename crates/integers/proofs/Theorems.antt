@@ -1,25 +1,20 @@
 -- The theorems of integers that a user of the readers cites: a text has one value, it is refused exactly when it is no integer
 -- of the type, and two results of one input are equal. Assumes nothing.
-use mathlib.Core.Path.{◌≡◌, refl, sym, ◌∙◌}
+use mathlib.Core.Path.{◌≡◌, refl, sym, ap, ◌∙◌}
 use mathlib.Core.List.{List}
 use mathlib.Core.Bool.{Bool, true, false}
 use mathlib.Core.Logic.{◌↔◌}
 use Prim.Native.Nat.{ℕ, ◌^◌, ◌<◌}
 use native.Mathlib.Omega.{arith}
-use lib.IntN.{ℤ, nat_abs}
-use Rattle.base.specs.Said.{One}
-use Rattle.base.proofs.Said.{one_result}
+use lib.IntN.{ℤ, pos, nat_abs}
+use Rattle.std.specs.Prelude.{Option, Some, None}
+use Rattle.base.specs.Numbers.{int_value}
+use Rattle.base.specs.Said.{One, outcome_by}
+use Rattle.base.proofs.Said.{one_result, one_read}
 use Rattle.base.proofs.Apart.{one_back}
-use Rattle.integers.specs.Integer.{Int, value, none, read_int, u16_of, u32_of, i16_of, i32_of}
+use Rattle.integers.specs.AtLine.{int_at}
+use Rattle.integers.specs.Integer.{Int, value, none, read_int, int_by}
 use Rattle.integers.specs.IntegerText.{IntText}
-use Rattle.integers.specs.declared.U16.{U16}
-use Rattle.integers.specs.declared.U16.TheVariants as u16
-use Rattle.integers.specs.declared.U32.{U32}
-use Rattle.integers.specs.declared.U32.TheVariants as u32
-use Rattle.integers.specs.declared.I16.{I16}
-use Rattle.integers.specs.declared.I16.TheVariants as i16
-use Rattle.integers.specs.declared.I32.{I32}
-use Rattle.integers.specs.declared.I32.TheVariants as i32
 use Rattle.integers.proofs.Language.{sound, complete}
 
 module _ (sign : Bool) (top : ℕ) (h : 0 < top) (s : List ℕ) where
@@ -41,56 +36,75 @@ module _ (sign : Bool) (top : ℕ) (h : 0 < top) (s : List ℕ) where
       by_case (value z) e f = absurd (f z (sound sign top h z s (sym e)))
       by_case none e f = sym e
 
--- the answer that says an integer
-to_u16 : Int → U16
-to_u16 (value z) = u16.Is (nat_abs z)
-to_u16 none = u16.IsNot
+-- the answer that says an integer, by the value of a number
+answer : {A : Type 0} → (ℤ → A) → Int → Option A
+answer from (value z) = Some (from z)
+answer from none = None
 
-to_u32 : Int → U32
-to_u32 (value z) = u32.Is (nat_abs z)
-to_u32 none = u32.IsNot
+answer_same : {A : Type 0} (number : A → ℤ) (from : ℤ → A) → ((a : A) → from (number a) ≡ a) → (x : Option A) → answer from (int_by number x) ≡ x
+unfolding answer
+answer_same number from same (Some a) = ap Some (same a)
+answer_same number from same None = refl
 
-to_i16 : Int → I16
-to_i16 (value z) = i16.Is z
-to_i16 none = i16.IsNot
+-- where a number has one value, what is read does too
+pub read_one : {A : Type 0} (number : A → ℤ) (from : ℤ → A) → ((a : A) → from (number a) ≡ a) → (i : Int) → One (int_by number) i
+read_one number from same i = one_back (int_by number) (answer from) (answer_same number from same) i
 
-to_i32 : Int → I32
-to_i32 (value z) = i32.Is z
-to_i32 none = i32.IsNot
+same_pos : (m n : ℕ) → pos m ≡ pos n → m ≡ n
+same_pos m n e = cc
 
-same_u16 : (x : U16) → to_u16 (u16_of x) ≡ x
-unfolding to_u16
-same_u16 (u16.Is n) = refl
-same_u16 u16.IsNot = refl
-
-same_u32 : (x : U32) → to_u32 (u32_of x) ≡ x
-unfolding to_u32
-same_u32 (u32.Is n) = refl
-same_u32 u32.IsNot = refl
-
-same_i16 : (x : I16) → to_i16 (i16_of x) ≡ x
-unfolding to_i16
-same_i16 (i16.Is z) = refl
-same_i16 i16.IsNot = refl
-
-same_i32 : (x : I32) → to_i32 (i32_of x) ≡ x
-unfolding to_i32
-same_i32 (i32.Is z) = refl
-same_i32 i32.IsNot = refl
-
--- two results of one input are equal, for each call
+-- two results of one input are equal, for each type
 module _ (s : List ℕ) where
-  pub read_u16_one : One u16_of (read_int false (2 ^ 16) s)
-  read_u16_one = one_back u16_of to_u16 same_u16 (read_int false (2 ^ 16) s)
+  pub read_u16_one : One (int_by pos) (read_int false (2 ^ 16) s)
+  read_u16_one = read_one pos nat_abs (λ n. refl) (read_int false (2 ^ 16) s)
 
-  pub read_u32_one : One u32_of (read_int false (2 ^ 32) s)
-  read_u32_one = one_back u32_of to_u32 same_u32 (read_int false (2 ^ 32) s)
+  pub read_u32_one : One (int_by pos) (read_int false (2 ^ 32) s)
+  read_u32_one = read_one pos nat_abs (λ n. refl) (read_int false (2 ^ 32) s)
 
-  pub read_i16_one : One i16_of (read_int true (2 ^ 15) s)
-  read_i16_one = one_back i16_of to_i16 same_i16 (read_int true (2 ^ 15) s)
+  pub read_i16_one : One (int_by (λ z. z)) (read_int true (2 ^ 15) s)
+  read_i16_one = read_one (λ z. z) (λ z. z) (λ z. refl) (read_int true (2 ^ 15) s)
 
-  pub read_i32_one : One i32_of (read_int true (2 ^ 31) s)
-  read_i32_one = one_back i32_of to_i32 same_i32 (read_int true (2 ^ 31) s)
+  pub read_i32_one : One (int_by (λ z. z)) (read_int true (2 ^ 31) s)
+  read_i32_one = read_one (λ z. z) (λ z. z) (λ z. refl) (read_int true (2 ^ 31) s)
+
+-- and of a token at a line
+module _ (token : List ℕ) (line : ℕ) where
+  pub read_at_u16_one : One (outcome_by pos) (int_at int_value line (read_int false (2 ^ 16) token))
+  read_at_u16_one = one_read pos same_pos (int_at int_value line (read_int false (2 ^ 16) token))
+
+  pub read_at_u32_one : One (outcome_by pos) (int_at int_value line (read_int false (2 ^ 32) token))
+  read_at_u32_one = one_read pos same_pos (int_at int_value line (read_int false (2 ^ 32) token))
+
+  pub read_at_i16_one : One (outcome_by (λ z. z)) (int_at int_value line (read_int true (2 ^ 15) token))
+  read_at_i16_one = one_read (λ z. z) (λ a b e. e) (int_at int_value line (read_int true (2 ^ 15) token))
+
+  pub read_at_i32_one : One (outcome_by (λ z. z)) (int_at int_value line (read_int true (2 ^ 31) token))
+  read_at_i32_one = one_read (λ z. z) (λ a b e. e) (int_at int_value line (read_int true (2 ^ 31) token))
+
+-- an integer of each type has one number, and a number one integer
+pub number_u16_one : (n : ℕ) → One (λ r. r) (pos n)
+number_u16_one n = one_result (pos n)
+
+pub number_u32_one : (n : ℕ) → One (λ r. r) (pos n)
+number_u32_one n = one_result (pos n)
+
+pub number_i16_one : (z : ℤ) → One (λ r. r) z
+number_i16_one z = one_result z
+
+pub number_i32_one : (z : ℤ) → One (λ r. r) z
+number_i32_one z = one_result z
+
+pub from_number_u16_one : (z : ℤ) → One pos z
+from_number_u16_one z x y p q = same_pos x y (p ∙ sym q)
+
+pub from_number_u32_one : (z : ℤ) → One pos z
+from_number_u32_one z x y p q = same_pos x y (p ∙ sym q)
+
+pub from_number_i16_one : (z : ℤ) → One (λ r. r) z
+from_number_i16_one z = one_result z
+
+pub from_number_i32_one : (z : ℤ) → One (λ r. r) z
+from_number_i32_one z = one_result z
 
 pub wide_one : (b : ℕ) → One (λ r. r) b
 wide_one b = one_result b

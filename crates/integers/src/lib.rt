@@ -2,182 +2,203 @@
 // more digits, within the type. Each reader takes the part of the text that is the token; an empty one is no integer.
 #![tactic(auto)]
 
-ghost use Rattle.std.specs.Prelude.{◌≡◌, ◌+◌, ◌-◌, ◌*◌, ◌^◌, ◌≤◌, ◌<◌, length, drop, true, false};
-ghost use Rattle.integers.specs.Integer.{magnitude_of, plus, minus, read_int, read_signed, whole_of, u16_of, u32_of, i16_of, i32_of};
+ghost use Rattle.std.specs.Prelude.{◌≡◌, Bool, ℕ, ℤ, pos, ◌+◌, ◌-◌, ◌*◌, ◌^◌, ◌≤◌, ◌<◌, length, drop, true, false};
+ghost use Rattle.std.proofs.Common.{rules};
+ghost use Rattle.base.specs.Numbers.{int_value};
+ghost use Rattle.base.specs.Said.{outcome_by};
+ghost use Rattle.integers.specs.AtLine.{int_at};
+ghost use Rattle.integers.specs.Integer.{magnitude_of, read_int, read_signed, int_by, InType};
 
-// A row of digits within a limit, or none.
-#[derive(Clone, Copy)]
-pub enum Magnitude {
-    Is(u64),
-    IsNot,
-}
+use base::{Reason, Refusal};
 
-// The sign and the size of an integer, or none: -0 is kept apart from 0.
+// The sign and the size of an integer: -0 is kept apart from 0.
 #[derive(Clone, Copy)]
 pub enum Signed {
     Plus(u64),
     Minus(u64),
-    IsNot,
 }
 
-// An integer of any of the four types, or none.
-#[derive(Clone, Copy)]
-enum Whole {
-    Is(i64),
-    IsNot,
+// A type of integers that a text can hold: all below `TOP` and, if signed, down to its negative.
+pub trait Integer: Copy {
+    ghost SIGNED: { Bool };
+
+    const SIGNED: bool;
+
+    ghost TOP: { ℕ };
+
+    const TOP: u64;
+
+    ghost number: { Self → ℤ };
+
+    // The integer of its number.
+    fn from_number(z: i64) -> Self
+        requires { InType SIGNED TOP z }
+        ensures { number result ≡ z };
+
+    // The number of the integer.
+    fn number(self) -> i64
+        ensures { result ≡ number self };
+
+    ghost some: { 0 < TOP };
+
+    ghost most: { TOP ≤ 2 ^ 32 };
 }
 
-// A u16 of a text, or none.
-#[derive(Clone, Copy)]
-pub enum U16 {
-    Is(u16),
-    IsNot,
-}
+impl Integer for u16 {
+    ghost SIGNED = { false };
 
-// A u32 of a text, or none.
-#[derive(Clone, Copy)]
-pub enum U32 {
-    Is(u32),
-    IsNot,
-}
+    const SIGNED: bool = false;
 
-// An i16 of a text, or none.
-#[derive(Clone, Copy)]
-pub enum I16 {
-    Is(i16),
-    IsNot,
-}
+    ghost TOP = { 2 ^ 16 };
 
-// An i32 of a text, or none.
-#[derive(Clone, Copy)]
-pub enum I32 {
-    Is(i32),
-    IsNot,
-}
+    const TOP: u64 = 65536;
 
-// A byte as a number of 64 bits.
-pub fn wide(b: u8) -> u64
-    ensures { result ≡ b }
-{
-    b as u64
-}
+    ghost number = { pos };
 
-// The number that the digits from `from` on write, where there are some and it is at most `top`.
-fn read_magnitude(s: &[u8], from: usize, top: u64) -> Magnitude
-    requires { (from ≤ length s.now) × (top ≤ 2 ^ 32) }
-    ensures { result ≡ magnitude_of top (drop from s.now) }
-{
-    if s.len() <= from {
-        return Magnitude::IsNot;
+    fn from_number(z: i64) -> u16 {
+        z as u16
     }
-    let mut acc: u64 = 0;
-    let mut i = from;
-    while i < s.len() {
-        let b = s[i];
-        if b < 48 {
-            return Magnitude::IsNot;
+
+    fn number(self) -> i64 {
+        i64::from(self)
+    }
+
+    ghost some = { Prim.search rules };
+
+    ghost most = { Prim.search rules };
+}
+
+impl Integer for u32 {
+    ghost SIGNED = { false };
+
+    const SIGNED: bool = false;
+
+    ghost TOP = { 2 ^ 32 };
+
+    const TOP: u64 = 4294967296;
+
+    ghost number = { pos };
+
+    fn from_number(z: i64) -> u32 {
+        z as u32
+    }
+
+    fn number(self) -> i64 {
+        i64::from(self)
+    }
+
+    ghost some = { Prim.search rules };
+
+    ghost most = { Prim.search rules };
+}
+
+impl Integer for i16 {
+    ghost SIGNED = { true };
+
+    const SIGNED: bool = true;
+
+    ghost TOP = { 2 ^ 15 };
+
+    const TOP: u64 = 32768;
+
+    ghost number = { λ z. z };
+
+    fn from_number(z: i64) -> i16 {
+        z as i16
+    }
+
+    fn number(self) -> i64 {
+        i64::from(self)
+    }
+
+    ghost some = { Prim.search rules };
+
+    ghost most = { Prim.search rules };
+}
+
+impl Integer for i32 {
+    ghost SIGNED = { true };
+
+    const SIGNED: bool = true;
+
+    ghost TOP = { 2 ^ 31 };
+
+    const TOP: u64 = 2147483648;
+
+    ghost number = { λ z. z };
+
+    fn from_number(z: i64) -> i32 {
+        z as i32
+    }
+
+    fn number(self) -> i64 {
+        i64::from(self)
+    }
+
+    ghost some = { Prim.search rules };
+
+    ghost most = { Prim.search rules };
+}
+
+// The number that the digits write, where there are some and it is at most `top`.
+fn read_magnitude(digits: &[u8], top: u64) -> Option<u64>
+    requires { top ≤ 2 ^ 32 }
+    ensures { result ≡ magnitude_of top digits.now }
+{
+    if digits.is_empty() {
+        return None;
+    }
+    let mut number: u64 = 0;
+    for b in digits {
+        if !b.is_ascii_digit() {
+            return None;
         }
-        if 57 < b {
-            return Magnitude::IsNot;
+        number = number * 10 + u64::from(*b - b'0');
+        if number > top {
+            return None;
         }
-        acc = acc * 10 + wide(b - 48);
-        if top < acc {
-            return Magnitude::IsNot;
-        }
-        i += 1;
     }
-    Magnitude::Is(acc)
-}
-
-// A row of digits with nothing or `+` before it.
-fn plus_of(m: Magnitude) -> Signed
-    ensures { result ≡ plus m }
-{
-    match m {
-        Magnitude::Is(n) => Signed::Plus(n),
-        Magnitude::IsNot => Signed::IsNot,
-    }
-}
-
-// A row of digits with `-` before it.
-fn minus_of(m: Magnitude) -> Signed
-    ensures { result ≡ minus m }
-{
-    match m {
-        Magnitude::Is(n) => Signed::Minus(n),
-        Magnitude::IsNot => Signed::IsNot,
-    }
+    Some(number)
 }
 
 // The sign and the size of an integer of a type that holds what is below `top` and, if signed, what is down to its negative.
-fn read_signed(s: &[u8], signed: bool, top: u64) -> Signed
+fn read_signed(s: &[u8], signed: bool, top: u64) -> Option<Signed>
     requires { (0 < top) × (top ≤ 2 ^ 32) }
     ensures { result ≡ read_signed signed top s.now }
 {
-    if s.len() == 0 {
-        return Signed::IsNot;
-    }
-    let b = s[0];
-    if b == 45 {
+    let first = *s.first()?;
+    if first == b'-' {
         if signed {
-            return minus_of(read_magnitude(s, 1, top));
+            return Some(Signed::Minus(read_magnitude(&s[1..], top)?));
         }
-        return Signed::IsNot;
+        return None;
     }
-    if b == 43 {
-        return plus_of(read_magnitude(s, 1, top - 1));
+    if first == b'+' {
+        return Some(Signed::Plus(read_magnitude(&s[1..], top - 1)?));
     }
-    plus_of(read_magnitude(s, 0, top - 1))
+    Some(Signed::Plus(read_magnitude(s, top - 1)?))
 }
 
-// An integer of a type that holds what is below `top` and, if signed, what is down to its negative.
-fn read_whole(s: &[u8], signed: bool, top: u64) -> Whole
-    requires { (0 < top) × (top ≤ 2 ^ 32) }
-    ensures { whole_of result ≡ read_int signed top s.now }
+// The integer that `s` is.
+pub fn read<T: Integer>(s: &[u8]) -> Option<T>
+    ensures { int_by T.number result ≡ read_int T.SIGNED T.TOP s.now }
 {
-    match read_signed(s, signed, top) {
-        Signed::Plus(n) => Whole::Is(n as i64),
-        Signed::Minus(n) => Whole::Is(0 - (n as i64)),
-        Signed::IsNot => Whole::IsNot,
-    }
+    let z = match read_signed(s, T::SIGNED, T::TOP)? {
+        Signed::Plus(n) => n as i64,
+        Signed::Minus(n) => -(n as i64),
+    };
+    Some(T::from_number(z))
 }
 
-// The u16 that `s` is, 0 to 65535.
-pub fn read_u16(s: &[u8]) -> U16
-    ensures { u16_of result ≡ read_int false (2 ^ 16) s.now }
+// The integer that a token is, or its refusal at a line; 3.
+pub fn read_at<T: Integer>(token: &[u8], line: usize) -> Result<T, Refusal>
+    ensures { outcome_by T.number result ≡ int_at int_value line (read_int T.SIGNED T.TOP token.now) }
 {
-    match read_whole(s, false, 65536) {
-        Whole::Is(z) => U16::Is(z as u16),
-        Whole::IsNot => U16::IsNot,
-    }
-}
-
-// The u32 that `s` is, 0 to 4294967295.
-pub fn read_u32(s: &[u8]) -> U32
-    ensures { u32_of result ≡ read_int false (2 ^ 32) s.now }
-{
-    match read_whole(s, false, 4294967296) {
-        Whole::Is(z) => U32::Is(z as u32),
-        Whole::IsNot => U32::IsNot,
-    }
-}
-
-// The i16 that `s` is, -32768 to 32767.
-pub fn read_i16(s: &[u8]) -> I16
-    ensures { i16_of result ≡ read_int true (2 ^ 15) s.now }
-{
-    match read_whole(s, true, 32768) {
-        Whole::Is(z) => I16::Is(z as i16),
-        Whole::IsNot => I16::IsNot,
-    }
-}
-
-// The i32 that `s` is, -2147483648 to 2147483647.
-pub fn read_i32(s: &[u8]) -> I32
-    ensures { i32_of result ≡ read_int true (2 ^ 31) s.now }
-{
-    match read_whole(s, true, 2147483648) {
-        Whole::Is(z) => I32::Is(z as i32),
-        Whole::IsNot => I32::IsNot,
-    }
+    let Some(number) = read::<T>(token) else {
+        return Err(Refusal {
+            reason: Reason::IntValue,
+            detail: line,
+        });
+    };
+    Ok(number)
 }

@@ -1,12 +1,12 @@
 -- The degree at a distance, as the code comes to it. Assumes nothing.
+use Rattle.std.specs.Prelude.{Some, None, Option}
 use mathlib.Core.Path.{◌≡◌, refl, sym, ◌∙◌, ap}
-use mathlib.Core.Bool.{true, false}
+use mathlib.Core.Bool.{true}
 use mathlib.Core.List.{List, [], ◌∷◌}
 use Prim.Native.Nat.{ℕ, ◌<◌}
 use native.Mathlib.Omega.{arith}
 use lib.IntN.{ℤ, pos, ◌+ℤ◌, ◌*ℤ◌}
 use lib.ListN.{length, get_or}
-use lib.Signed.{le_z, lt_z}
 use mir.Syntax.{w16, w32, w64}
 use mir.Val.{SFits, to_z, of_z}
 use mir.Facts.{to_z-of_z}
@@ -14,27 +14,24 @@ use Rattle.base.specs.Integers.{Divides, floor_div, floor_mod, held}
 use Rattle.base.specs.Said.{Said, gives}
 use Rattle.base.proofs.Division.{divides_one}
 use Rattle.base.proofs.Integers.{floor_mod_lt}
-use Rattle.key.specs.declared.PianoKey.{PianoKey}
-use Rattle.kbm.specs.Degree.{degree_of_entry, degree_at, in_range}
+use Rattle.kbm.specs.Degree.{degree_of_entry, degree_at}
 use Rattle.kbm.specs.Table.{is_entry, entry_of, is_table, table_of}
-use Rattle.kbm.specs.declared.Entry.{Entry}
-use Rattle.kbm.specs.declared.Entry.TheVariants.{Mapped, Unmapped}
-use Rattle.kbm.proofs.Table.{table_length, table_at, table_usable, table_room}
+use Rattle.kbm.proofs.Table.{table_length, table_at, table_usable}
 
 -- with no entries the degree is the distance
-pub degree_none : (d octave : ℤ) (es : List Entry) → length es ≡ 0 → degree_at d octave es ≡ gives d
+pub degree_none : (d octave : ℤ) (es : List (Option ℤ)) → length es ≡ 0 → degree_at d octave es ≡ gives d
 unfolding degree_at
 degree_none d octave [] h = refl
 degree_none d octave (e ∷ es) h = absurd (omega (arith, h))
 
 -- else that of the entry reached
-pub degree_some : (d octave : ℤ) (es : List Entry) → 0 < length es → degree_at d octave es ≡ degree_of_entry (get_or es (floor_mod d (length es)) Unmapped) (floor_div d (length es)) octave
+pub degree_some : (d octave : ℤ) (es : List (Option ℤ)) → 0 < length es → degree_at d octave es ≡ degree_of_entry (get_or es (floor_mod d (length es)) None) (floor_div d (length es)) octave
 unfolding degree_at
 degree_some d octave [] h = absurd (omega (arith, h))
 degree_some d octave (e ∷ es) h = refl
 
 -- by any q and r that divide the distance: there are no others
-pub degree_by : {d q : ℤ} {r : ℕ} (octave : ℤ) (es : List Entry) → Divides d (length es) q r → degree_at d octave es ≡ degree_of_entry (get_or es r Unmapped) q octave
+pub degree_by : {d q : ℤ} {r : ℕ} (octave : ℤ) (es : List (Option ℤ)) → Divides d (length es) q r → degree_at d octave es ≡ degree_of_entry (get_or es r None) q octave
 degree_by {d} {q} {r} octave es by =
     let parts = divides_one by in
     rw (parts.0, parts.1) (degree_some d octave es (omega (arith, by.rest)))
@@ -54,9 +51,6 @@ module _ (count : ℕ) (map : List ℤ) (t : is_table count map ≡ true) {d : �
     pub place_in : place < count
     place_in = omega (arith, is_place, floor_mod_lt d count positive)
 
-    pub place_room : place < length map
-    place_room = omega (arith, place_in, table_room count map t)
-
     -- the number that is read there
     abbrev read : ℤ
     read = get_or map place (pos 0)
@@ -66,12 +60,12 @@ module _ (count : ℕ) (map : List ℤ) (t : is_table count map ≡ true) {d : �
 
     pub reached : (octave : ℤ) → degree_at d octave (table_of count map) ≡ degree_of_entry (entry_of read) (floor_div d count) octave
     reached octave =
-        let found : get_or (table_of count map) (floor_mod d count) Unmapped ≡ entry_of read = ap (λ i. get_or (table_of count map) i Unmapped) (sym is_place) ∙ table_at count map t place_in in
+        let found : get_or (table_of count map) (floor_mod d count) None ≡ entry_of read = ap (λ i. get_or (table_of count map) i None) (sym is_place) ∙ table_at count map t place_in in
         let whole = degree_some d octave (table_of count map) (omega (arith, table_length count map t, positive)) in
         whole ∙ rw (table_length count map t, found)
 
     -- e is what `entry_of` answered, e' what a match made of it
-    pub degree_of_read : {e e' : Entry} (octave : ℤ) → SFits w32 read → e ≡ entry_of (to_z w32 (of_z w32 read)) → e ≡ e' → degree_at d octave (table_of count map) ≡ degree_of_entry e' (floor_div d count) octave
+    pub degree_of_read : {e e' : (Option ℤ)} (octave : ℤ) → SFits w32 read → e ≡ entry_of (to_z w32 (of_z w32 read)) → e ≡ e' → degree_at d octave (table_of count map) ≡ degree_of_entry e' (floor_div d count) octave
     degree_of_read octave f told is =
         let entry_is = sym (rw (to_z-of_z f) at told) ∙ is in
         reached octave ∙ ap (λ e. degree_of_entry e (floor_div d count) octave) entry_is
@@ -79,17 +73,9 @@ module _ (count : ℕ) (map : List ℤ) (t : is_table count map ≡ true) {d : �
 -- the exact value of an entry and q formal octaves, as it comes through the machine
 pub held_shifted : {d entry octave q v : ℤ} {s : Said ℤ} (count : ℕ) → SFits w32 d → SFits w16 entry → SFits w16 octave → SFits w32 q → SFits w64 v →
     q ≡ floor_div (to_z w32 (of_z w32 d)) count → v ≡ to_z w16 (of_z w16 entry) +ℤ to_z w32 (of_z w32 q) *ℤ to_z w16 (of_z w16 octave) → s ≡ held (to_z w64 (of_z w64 v)) →
-    s ≡ degree_of_entry (Mapped entry) (floor_div d count) octave
+    s ≡ degree_of_entry (Some entry) (floor_div d count) octave
 held_shifted count fd fe fo fq fv q-is v_is s-is =
     let q-exact = rw (to_z-of_z fd) at q-is in
     let v-exact = rw (to_z-of_z fe, to_z-of_z fq, to_z-of_z fo) at v_is in
     let s-exact = rw (to_z-of_z fv) at s-is in
     s-exact ∙ ap held (rw q-exact at v-exact)
-
--- ---- the range
-module _ (start end key : PianoKey) (fs : SFits w32 start.0) (fk : SFits w32 key.0) where
-  pub range_under : le_z (to_z w32 (of_z w32 start.0)) (to_z w32 (of_z w32 key.0)) ≡ false → false ≡ in_range start end key
-  range_under low = rw (rw (to_z-of_z fs, to_z-of_z fk) at low)
-
-  pub range_over : SFits w32 end.0 → le_z (to_z w32 (of_z w32 start.0)) (to_z w32 (of_z w32 key.0)) ≡ true → lt_z (to_z w32 (of_z w32 key.0)) (to_z w32 (of_z w32 end.0)) ≡ in_range start end key
-  range_over fe low = rw (to_z-of_z fe, to_z-of_z fk, rw (to_z-of_z fs, to_z-of_z fk) at low)

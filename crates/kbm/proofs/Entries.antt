@@ -1,17 +1,17 @@
 -- Numbers of a lent table as the code meets them: which are entries, and which entry each is. Assumes nothing.
+use Rattle.std.specs.Prelude.{None}
 use mathlib.Core.Path.{◌≡◌, refl, sym, ◌∙◌}
 use mathlib.Core.Bool.{Bool, true, false, ◌&&◌, ◌||◌, true≢false}
 use Prim.Native.Nat.{suc, ◌-◌, ◌<◌}
 use native.Mathlib.Omega.{arith}
 use lib.Dec.{leb, eqb}
 use lib.IntN.{ℤ, pos, negsuc}
-use lib.Signed.{le_z, mag}
+use lib.Signed.{mag}
 use mir.Syntax.{w16, w32}
 use mir.Val.{SFits, to_z, of_z}
 use mir.Facts.{to_z-of_z}
 use borrow.Author.Tests.{leb-true, eq-eqb, ne_eqb, eqb-true, eqb-false}
 use Rattle.kbm.specs.Table.{is_unmapped, in_i16, is_entry, entry_of}
-use Rattle.kbm.specs.declared.Entry.TheVariants.{Mapped, Unmapped}
 
 -- both tests hold
 pub and_both : (x y : Bool) → (x && y) ≡ true → (x ≡ true) × (y ≡ true)
@@ -44,21 +44,12 @@ module _ {z : ℤ} (f : SFits w32 z) where
   pub unmapped_no : (of_z w32 z ≡ 2147483648 → ⊥) → is_unmapped z ≡ false
   unmapped_no n = sym (unmapped_bits z f) ∙ ne_eqb (of_z w32 z) 2147483648 n
 
-  pub entry_test : eqb (of_z w32 z) 2147483648 || (le_z (negsuc 32767) (to_z w32 (of_z w32 z)) && le_z (to_z w32 (of_z w32 z)) (pos 32767)) ≡ is_entry z
-  entry_test = rw (to_z-of_z f, unmapped_bits z f)
-
-  pub entry_none : of_z w32 z ≡ 2147483648 → Unmapped ≡ entry_of z
+  pub entry_none : of_z w32 z ≡ 2147483648 → None ≡ entry_of z
   entry_none e = rw (unmapped_yes e)
 
   module _ (n : of_z w32 z ≡ 2147483648 → ⊥) (e : is_entry z ≡ true) where
     mapped_fits : SFits w16 z
     mapped_fits = record { sfits = mag_i16 z (or_second (is_unmapped z) (in_i16 z) e (unmapped_no n)) }
-
-    pub mapped_cast : SFits w16 (to_z w32 (of_z w32 z))
-    mapped_cast = rw (to_z-of_z f) mapped_fits
-
-    pub entry_some : Mapped (to_z w16 (of_z w16 (to_z w32 (of_z w32 z)))) ≡ entry_of z
-    entry_some = rw (to_z-of_z f, to_z-of_z mapped_fits, unmapped_no n)
 
 -- what `is_entry` answered of a number that was read
 pub read_is : (z : ℤ) {t : Bool} → SFits w32 z → t ≡ is_entry (to_z w32 (of_z w32 z)) → t ≡ is_entry z

@@ -1,5 +1,6 @@
 -- What a key has, as document 01 says it, is what `scale_degree_of` answers: each case of `Has`, and no other.
 -- Assumes nothing.
+use Rattle.std.specs.Prelude.{Some, None, Option}
 use mathlib.Core.Path.{◌≡◌, refl, sym, ◌∙◌}
 use mathlib.Core.Logic.{◌↔◌, ◌⊎◌, inl, inr}
 use mathlib.Core.Bool.{Bool, true, false}
@@ -9,15 +10,13 @@ use native.Mathlib.Omega.{arith}
 use lib.IntN.{ℤ, ◌+ℤ◌, ◌*ℤ◌}
 use lib.ListN.{length}
 use Rattle.base.specs.Integers.{floor_div, floor_mod, in_i32, held}
-use Rattle.base.specs.Numbers.{overflow, key_out_of_range, unmapped_key}
+use Rattle.base.specs.Numbers.{overflow, key_out_of_range}
 use Rattle.base.specs.Said.{Said, gives, refuses, pick, and_then}
 use Rattle.base.proofs.Division.{floor_divides}
 use Rattle.base.proofs.Integers.{bool_cases}
 use Rattle.key.specs.declared.PianoKey.{PianoKey}
 use Rattle.kbm.specs.Degree.{degree_of_entry, degree_at, degree_of}
 use Rattle.kbm.specs.Keys.{in_keys, distance, Reaches, Has, Lacks, Gap, Passes}
-use Rattle.kbm.specs.declared.Entry.{Entry}
-use Rattle.kbm.specs.declared.Entry.TheVariants.{Mapped, Unmapped}
 use Rattle.kbm.specs.declared.Kbm.{Kbm}
 use Rattle.kbm.proofs.Degrees.{degree_none, degree_by}
 
@@ -29,15 +28,15 @@ held_no : (z : ℤ) → in_i32 z ≡ false → held z ≡ refuses overflow 0
 unfolding held
 held_no z h = rw h
 
-module _ (kbm : Kbm) (es : List Entry) (key : PianoKey) where
+module _ (kbm : Kbm) (es : List (Option ℤ)) (key : PianoKey) where
   abbrev d : ℤ
   d = distance kbm key
 
   -- ---- the answer is one of the cases
   module _ (w : in_keys kbm key ≡ true) (n : in_i32 d ≡ true) where
-    has_entry : (q : ℤ) (e : Entry) → Reaches es d q e → Has kbm es key (degree_of_entry e q kbm.octave)
-    has_entry q Unmapped at = Has.none w n q at refl
-    has_entry q (Mapped e) at = go (in_i32 (e +ℤ q *ℤ kbm.octave)) refl
+    has_entry : (q : ℤ) (e : (Option ℤ)) → Reaches es d q e → Has kbm es key (degree_of_entry e q kbm.octave)
+    has_entry q None at = Has.none w n q at refl
+    has_entry q (Some e) at = go (in_i32 (e +ℤ q *ℤ kbm.octave)) refl
       where
         go : (t : Bool) → in_i32 (e +ℤ q *ℤ kbm.octave) ≡ t → Has kbm es key (held (e +ℤ q *ℤ kbm.octave))
         go true h = rw (held_yes _ h) (Has.degree w n q e at h refl)
@@ -61,16 +60,16 @@ module _ (kbm : Kbm) (es : List Entry) (key : PianoKey) where
       go false w = Has.outside w refl
 
   -- ---- and there is no other answer
-  reached : {s : Said ℤ} (q : ℤ) (e : Entry) → in_keys kbm key ≡ true → in_i32 d ≡ true → Reaches es d q e → s ≡ degree_of_entry e q kbm.octave → s ≡ degree_of kbm es key
+  reached : {s : Said ℤ} (q : ℤ) (e : (Option ℤ)) → in_keys kbm key ≡ true → in_i32 d ≡ true → Reaches es d q e → s ≡ degree_of_entry e q kbm.octave → s ≡ degree_of kbm es key
   reached q e w n at p = rw (w, held_yes d n, degree_by kbm.octave es at.counted, at.found) p
 
   pub has_one : {s : Said ℤ} → Has kbm es key s → s ≡ degree_of kbm es key
   has_one (Has.outside w p) = rw w p
   has_one (Has.far w n p) = rw (w, held_no d n) p
   has_one (Has.plain w n l p) = rw (w, held_yes d n, degree_none d kbm.octave es l) p
-  has_one (Has.none w n q at p) = reached q Unmapped w n at p
-  has_one (Has.passed w n q e at h p) = reached q (Mapped e) w n at (p ∙ sym (held_no _ h))
-  has_one (Has.degree w n q e at h p) = reached q (Mapped e) w n at (p ∙ sym (held_yes _ h))
+  has_one (Has.none w n q at p) = reached q None w n at p
+  has_one (Has.passed w n q e at h p) = reached q (Some e) w n at (p ∙ sym (held_no _ h))
+  has_one (Has.degree w n q e at h p) = reached q (Some e) w n at (p ∙ sym (held_yes _ h))
 
 -- ---- which refusal, exactly when
 -- a refusal has one number, and is no value
@@ -88,7 +87,7 @@ passed_lacks : {s : Said ℤ} → s ≡ refuses overflow 0 → Lacks s → ⊥
 passed_lacks p (inl e) = omega (arith, same_number p e)
 passed_lacks p (inr e) = omega (arith, same_number p e)
 
-module _ (kbm : Kbm) (es : List Entry) (key : PianoKey) where
+module _ (kbm : Kbm) (es : List (Option ℤ)) (key : PianoKey) where
   lacks_there : {s : Said ℤ} → Has kbm es key s → Lacks s → (in_keys kbm key ≡ false) ⊎ Gap kbm es key
   lacks_there (Has.outside w p) l = inl w
   lacks_there (Has.far w n p) l = absurd (passed_lacks p l)

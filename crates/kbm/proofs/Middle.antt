@@ -1,4 +1,5 @@
 -- COUNTING FROM THE MIDDLE KEY, by the calls: each answers what document 02, W1, says of the key, and nothing else. Assumes nothing.
+use Rattle.std.specs.Prelude.{Option}
 use mathlib.Core.Path.{◌≡◌, refl, sym, ◌∙◌, ap, subst}
 use mathlib.Core.Logic.{◌↔◌, ◌⊎◌}
 use mathlib.Core.Bool.{Bool, true, false, true≢false}
@@ -20,7 +21,6 @@ use Rattle.kbm.specs.Keys.{in_keys, distance, Has, Lacks, Gap, Passes}
 use Rattle.kbm.specs.Middle.{middle_of, at_middle, scale_degree_from_middle, StartsAtZero, of_reference, reference_degree}
 use Rattle.kbm.specs.ReferenceKey.{ReferenceHas}
 use Rattle.kbm.specs.Table.{is_table, table_of}
-use Rattle.kbm.specs.declared.Entry.{Entry}
 use Rattle.kbm.specs.declared.Kbm.{Kbm}
 use Rattle.kbm.proofs.Degrees.{degree_by}
 use Rattle.kbm.proofs.Language.{has, has_one}
@@ -48,7 +48,7 @@ module _ (kbm : Kbm) (o : kbm.root.offset ≡ pos 0) where
   same_degree map k = rw one_key
 
   -- the reference key has degree 0 where the first entry is 0, or there is none
-  pub reference_zero : (es : List Entry) → StartsAtZero es → reference_degree kbm es ≡ gives (pos 0)
+  pub reference_zero : (es : List (Option ℤ)) → StartsAtZero es → reference_degree kbm es ≡ gives (pos 0)
   unfolding degree_at held
   reference_zero [] z = rw (one_key, +ℤ_invr kbm.root.reference.0)
   reference_zero (e ∷ es) z =
@@ -73,7 +73,7 @@ module _ (kbm : Kbm) (map : List ℤ) (k : PianoKey) where
     middle_overflows w = key_overflows (at_middle kbm) map k t w
 
   -- "19 [..] never for a degree"
-  not_nineteen : {es : List Entry} {s : Said ℤ} {d : ℕ} → Has (at_middle kbm) es k s → s ≡ refuses reference_unmapped d → ⊥
+  not_nineteen : {es : List (Option ℤ)} {s : Said ℤ} {d : ℕ} → Has (at_middle kbm) es k s → s ≡ refuses reference_unmapped d → ⊥
   not_nineteen (Has.outside w p) e = omega (arith, (same_refuses (sym p ∙ e)).0)
   not_nineteen (Has.far w n p) e = omega (arith, (same_refuses (sym p ∙ e)).0)
   not_nineteen (Has.plain w n l p) e = no_value (sym e ∙ p)
@@ -89,7 +89,7 @@ module _ (kbm : Kbm) (map : List ℤ) (k : PianoKey) where
       go false t = omega (arith, (same_refuses (sym (table_refused (at_middle kbm) map k t) ∙ e)).0)
 
 -- ---- the reference key
-module _ (kbm : Kbm) (es : List Entry) where
+module _ (kbm : Kbm) (es : List (Option ℤ)) where
   abbrev reference : PianoKey
   reference = kbm.root.reference
 

@@ -1,4 +1,5 @@
 -- A lent table as a list of entries: how the code goes over it, and what stands at a place. Assumes nothing.
+use Rattle.std.specs.Prelude.{Some, None, Option}
 use mathlib.Core.Path.{◌≡◌, refl, sym, ◌∙◌, ap}
 use mathlib.Core.Bool.{Bool, true, false, ◌&&◌}
 use mathlib.Core.List.{List, [], ◌∷◌}
@@ -13,8 +14,6 @@ use lib.Seq.{drop-cons, get_or-take, length-take-le}
 use borrow.Author.Tests.{le-leb, lt-leb, leb-true, ne_eqb}
 use Rattle.base.specs.Said.{pick}
 use Rattle.kbm.specs.Table.{number_of, numbers_of, is_unmapped, in_i16, IsI16, AreI16, is_entry, entry_of, are_entries, entries_of, is_table, table_of}
-use Rattle.kbm.specs.declared.Entry.{Entry}
-use Rattle.kbm.specs.declared.Entry.TheVariants.{Mapped, Unmapped}
 use Rattle.kbm.proofs.Entries.{and_both, or_second, mag_i16}
 
 and_true : (a : Bool) → (a && true) ≡ a
@@ -55,7 +54,7 @@ module _ {count : ℕ} {map : List ℤ} {all : Bool} {i : ℕ} (s : Gone count m
       record { end = omega (arith, h); room = s.room; same = rw add-one (s.same ∙ ap (λ (x : Bool). all && x) next ∙ and_assoc all t (are_entries (drop (suc i) (take count map)))) }
 
 -- ---- what stands at a place
-pub length_numbers : (es : List Entry) → length (numbers_of es) ≡ length es
+pub length_numbers : (es : List (Option ℤ)) → length (numbers_of es) ≡ length es
 unfolding numbers_of
 length_numbers [] = refl
 length_numbers (e ∷ es) = ap suc (length_numbers es)
@@ -65,7 +64,7 @@ unfolding entries_of
 length_entries [] = refl
 length_entries (z ∷ zs) = ap suc (length_entries zs)
 
-entry_at : (zs : List ℤ) (i : ℕ) → i < length zs → get_or (entries_of zs) i Unmapped ≡ entry_of (get_or zs i (pos 0))
+entry_at : (zs : List ℤ) (i : ℕ) → i < length zs → get_or (entries_of zs) i None ≡ entry_of (get_or zs i (pos 0))
 unfolding entries_of
 entry_at [] i h = absurd (omega (arith, h))
 entry_at (z ∷ zs) zero h = refl
@@ -91,7 +90,7 @@ module _ (count : ℕ) (map : List ℤ) (t : is_table count map ≡ true) where
     in_table : i < length (take count map)
     in_table = omega (arith, length-take-le count map table_room, h)
 
-    pub table_at : get_or (table_of count map) i Unmapped ≡ entry_of (get_or map i (pos 0))
+    pub table_at : get_or (table_of count map) i None ≡ entry_of (get_or map i (pos 0))
     table_at = entry_at (take count map) i in_table ∙ ap entry_of (get_or-take count map i (pos 0) h)
 
     pub table_usable : is_entry (get_or map i (pos 0)) ≡ true
@@ -102,21 +101,21 @@ not_unmapped : (z : ℤ) → in_i16 z ≡ true → is_unmapped z ≡ false
 not_unmapped (pos a) h = refl
 not_unmapped (negsuc a) h = ne_eqb a 2147483647 (λ e. omega (arith, mag_i16 (negsuc a) h))
 
-number_usable : (e : Entry) → IsI16 e → is_entry (number_of e) ≡ true
-number_usable (Mapped degree) h = rw (not_unmapped degree h) h
-number_usable Unmapped h = refl
+number_usable : (e : (Option ℤ)) → IsI16 e → is_entry (number_of e) ≡ true
+number_usable (Some degree) h = rw (not_unmapped degree h) h
+number_usable None h = refl
 
 -- an entry is read back from its number
-pub entry_back : (e : Entry) → IsI16 e → entry_of (number_of e) ≡ e
-entry_back (Mapped degree) h = rw (not_unmapped degree h)
-entry_back Unmapped h = refl
+pub entry_back : (e : (Option ℤ)) → IsI16 e → entry_of (number_of e) ≡ e
+entry_back (Some degree) h = rw (not_unmapped degree h)
+entry_back None h = refl
 
-pub numbers_usable : (es : List Entry) → AreI16 es → are_entries (numbers_of es) ≡ true
+pub numbers_usable : (es : List (Option ℤ)) → AreI16 es → are_entries (numbers_of es) ≡ true
 unfolding are_entries numbers_of
 numbers_usable [] h = refl
 numbers_usable (e ∷ es) h = rw (number_usable e h.0) (numbers_usable es h.1)
 
-pub numbers_back : (es : List Entry) → AreI16 es → entries_of (numbers_of es) ≡ es
+pub numbers_back : (es : List (Option ℤ)) → AreI16 es → entries_of (numbers_of es) ≡ es
 unfolding entries_of numbers_of
 numbers_back [] h = refl
 numbers_back (e ∷ es) h = rw (entry_back e h.0, numbers_back es h.1)
@@ -129,6 +128,6 @@ entries_typed (z ∷ zs) h =
     let both = and_both (is_entry z) (are_entries zs) h in
     (go (is_unmapped z) refl both.0, entries_typed zs both.1)
   where
-    go : (b : Bool) → is_unmapped z ≡ b → is_entry z ≡ true → IsI16 (pick b Unmapped (Mapped z))
+    go : (b : Bool) → is_unmapped z ≡ b → is_entry z ≡ true → IsI16 (pick b None (Some z))
     go true e t = tt
     go false e t = or_second (is_unmapped z) (in_i16 z) t e

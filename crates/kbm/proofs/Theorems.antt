@@ -1,30 +1,27 @@
 -- What the calls on a mapping come to, and that each has one result. Document 01, "Keys" and "What is taken", 5.
 -- Assumes nothing.
-use mathlib.Core.Path.{◌≡◌, refl, sym, ◌∙◌}
-use mathlib.Core.Logic.{◌↔◌, ◌⊎◌, inl, inr}
+use Rattle.std.specs.Prelude.{Option}
+use mathlib.Core.Path.{◌≡◌, sym, ◌∙◌}
+use mathlib.Core.Logic.{◌↔◌, ◌⊎◌}
 use mathlib.Core.Bool.{true, false}
 use mathlib.Core.List.{List}
 use Prim.Native.Nat.{ℕ}
 use lib.IntN.{ℤ}
 use Rattle.base.specs.Integers.{in_i32}
 use Rattle.base.specs.Numbers.{unusable, overflow}
-use Rattle.base.specs.Said.{Said, refuses, One}
-use Rattle.base.proofs.Said.{Split, one_result, one_plain, one_answer}
+use Rattle.base.specs.Said.{Said, refuses, One, outcome}
+use Rattle.base.proofs.Said.{one_result, one_said, one_read}
 use Rattle.key.specs.declared.PianoKey.{PianoKey}
 use Rattle.pitch.specs.declared.Pitch.{Pitch}
-use Rattle.kbm.specs.Answers.{says_root, says_degree, says_kbm}
+use Rattle.kbm.specs.Answers.{says_degree}
 use Rattle.kbm.specs.Degree.{degree_of, scale_degree_of}
 use Rattle.kbm.specs.Keys.{in_keys, distance, Has, Lacks, Gap, Passes}
 use Rattle.kbm.specs.Middle.{scale_degree_from_middle, reference_degree, counted}
 use Rattle.kbm.specs.Root.{root_of, is_root}
 use Rattle.kbm.specs.Table.{number_of, is_table, table_of}
 use Rattle.kbm.specs.declared.Counting.{Counting}
-use Rattle.kbm.specs.declared.DegreeAnswer.TheVariants as OfDegree
-use Rattle.kbm.specs.declared.Entry.{Entry}
 use Rattle.kbm.specs.declared.Kbm.{Kbm}
-use Rattle.kbm.specs.declared.KbmAnswer.TheVariants as OfKbm
 use Rattle.kbm.specs.declared.KbmRoot.{KbmRoot}
-use Rattle.kbm.specs.declared.RootAnswer.TheVariants as OfRoot
 use Rattle.kbm.proofs.Language.{has, has_one, lacks, overflows}
 
 -- ---- the degree of a key
@@ -55,27 +52,14 @@ module _ (kbm : Kbm) (map : List ℤ) (key : PianoKey) where
     pub key_overflows : in_keys kbm key ≡ true → (scale_degree_of kbm map key ≡ refuses overflow 0) ↔ ((in_i32 (distance kbm key) ≡ false) ⊎ Passes kbm (table_of kbm.count map) key)
     key_overflows w = rw table_used (overflows kbm (table_of kbm.count map) key w)
 
--- ---- two results of one input are equal
-pub root_split : Split OfRoot.Is OfRoot.Refused
-root_split (OfRoot.Is x) = inl (x, refl)
-root_split (OfRoot.Refused r) = inr (r, refl)
-
-pub degree_split : Split OfDegree.Is OfDegree.Refused
-degree_split (OfDegree.Is x) = inl (x, refl)
-degree_split (OfDegree.Refused r) = inr (r, refl)
-
-pub kbm_split : Split OfKbm.Is OfKbm.Refused
-kbm_split (OfKbm.Is x) = inl (x, refl)
-kbm_split (OfKbm.Refused r) = inr (r, refl)
-
 pub degree_one : (s : Said ℤ) → One says_degree s
-degree_one = one_answer degree_split says_degree (λ d. d.0) (λ a b e i. record { 0 = e i }) (λ a. refl) (λ r. refl)
+degree_one = one_read (λ d. d.0) (λ a b e i. record { 0 = e i })
 
-pub kbm_one : (s : Said Kbm) → One says_kbm s
-kbm_one = one_plain kbm_split says_kbm (λ a. refl) (λ r. refl)
+pub kbm_one : (s : Said Kbm) → One outcome s
+kbm_one = one_said
 
-pub root_new_one : (k : PianoKey) (p : Pitch) (offset : ℤ) → One says_root (root_of k p offset)
-root_new_one k p offset = one_plain root_split says_root (λ a. refl) (λ r. refl) (root_of k p offset)
+pub root_new_one : (k : PianoKey) (p : Pitch) (offset : ℤ) → One outcome (root_of k p offset)
+root_new_one k p offset = one_said (root_of k p offset)
 
 pub is_root_one : (root : KbmRoot) → One (λ r. r) (is_root root)
 is_root_one root = one_result (is_root root)
@@ -83,7 +67,7 @@ is_root_one root = one_result (is_root root)
 pub is_table_one : (map : List ℤ) (count : ℕ) → One (λ r. r) (is_table count map)
 is_table_one map count = one_result (is_table count map)
 
-pub number_of_one : (e : Entry) → One (λ r. r) (number_of e)
+pub number_of_one : (e : (Option ℤ)) → One (λ r. r) (number_of e)
 number_of_one e = one_result (number_of e)
 
 pub scale_degree_of_one : (kbm : Kbm) (map : List ℤ) (key : PianoKey) → One says_degree (scale_degree_of kbm map key)

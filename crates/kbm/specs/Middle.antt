@@ -1,6 +1,6 @@
 -- COUNTING FROM THE MIDDLE KEY: document 02, W1. "d is key minus middle key [..] Middle is the exact sum of reference and offset". All else
 -- is document 01, "Keys", over exact integers: the middle key need not be a number of 32 bits. Assumes nothing.
-use Rattle.std.specs.Prelude.{ℤ, pos, ◌+ℤ◌, eqb, ◌≡◌, List, [], ◌∷◌}
+use Rattle.std.specs.Prelude.{ℤ, pos, ◌+ℤ◌, eqb, ◌≡◌, List, [], ◌∷◌, Some, Option}
 use Rattle.base.specs.Numbers.{unmapped_key, reference_unmapped}
 use Rattle.base.specs.Said.{Said, gives, refuses, pick}
 use Rattle.key.specs.Keys.{key}
@@ -8,8 +8,6 @@ use Rattle.key.specs.declared.PianoKey.{PianoKey}
 use Rattle.kbm.specs.Degree.{degree_from, scale_degree_of}
 use Rattle.kbm.specs.declared.Counting.{Counting}
 use Rattle.kbm.specs.declared.Counting.TheVariants.{Reference, Middle}
-use Rattle.kbm.specs.declared.Entry.{Entry}
-use Rattle.kbm.specs.declared.Entry.TheVariants.{Mapped}
 use Rattle.kbm.specs.declared.Kbm.{Kbm}
 use Rattle.kbm.specs.declared.KbmRoot.{KbmRoot}
 
@@ -43,14 +41,14 @@ of_reference (gives z) = gives z
 of_reference (refuses n d) = pick (eqb n unmapped_key) (refuses reference_unmapped d) (refuses n d)
 
 -- the reference key's own degree. "The range doesn't limit the reference key"; "for the reference key 11 for d, 19, 11"
-abbrev pub reference_degree : Kbm → List Entry → Said ℤ
+abbrev pub reference_degree : Kbm → List (Option ℤ) → Said ℤ
 reference_degree kbm es = of_reference (degree_from (key (middle_of kbm.root)) kbm.root.reference kbm.octave es)
 
 -- no entry, or 0 the first: where middle and reference key are one, the reference key then has degree 0 (`reference_zero` of
 -- proofs/Middle.antt)
-abbrev pub StartsAtZero : List Entry → Type 0
+abbrev pub StartsAtZero : List (Option ℤ) → Type 0
 StartsAtZero [] = Unit {0}
-StartsAtZero (e ∷ es) = e ≡ Mapped (pos 0)
+StartsAtZero (e ∷ es) = e ≡ Some (pos 0)
 
 -- ---- "a Scala counting beside the old one, chosen by the caller"
 -- the key that is counted from

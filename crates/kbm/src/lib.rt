@@ -5,28 +5,20 @@
 #![tactic(auto)]
 
 ghost use Rattle.std.specs.Prelude.{◌≡◌, true, ◌+ℤ◌, ◌-ℤ◌, ◌*ℤ◌};
+ghost use Rattle.base.specs.Said.{outcome, refusal};
 ghost use Rattle.base.specs.Integers.{held};
-ghost use Rattle.integer_math.specs.Answers.{says_i32};
-ghost use Rattle.kbm.specs.Answers.{says_root, says_degree};
+ghost use Rattle.kbm.specs.Answers.{says_degree};
 ghost use Rattle.kbm.specs.Degree.{in_range, degree_at, degree_from, degree_of, scale_degree_of};
 ghost use Rattle.kbm.specs.Middle.{middle_of, scale_degree_from_middle, of_reference, reference_degree, origin, counted};
 ghost use Rattle.kbm.specs.Root.{root_of, is_root};
 ghost use Rattle.kbm.specs.Table.{number_of, is_entry, entry_of, is_table, table_of};
 
-use base::Refusal;
-use integer_math::I32Answer;
+use base::{Reason, Refusal};
 use key::{Degree, PianoKey};
 use pitch::Pitch;
 
 // The number that stands for an unmapped entry in a lent table.
 pub const UNMAPPED: i32 = -2147483648;
-
-// An entry of a mapping: the degree of its key, or none.
-#[derive(Clone, Copy)]
-pub enum Entry {
-    Mapped(i16),
-    Unmapped,
-}
 
 // Where a tuning is anchored: the reference key, its pitch, and how far the middle key lies above it.
 #[derive(Clone, Copy)]
@@ -34,12 +26,6 @@ pub struct KbmRoot {
     pub reference: PianoKey,
     pub pitch: Pitch,
     pub offset: i32,
-}
-
-#[derive(Clone, Copy)]
-pub enum RootAnswer {
-    Is(KbmRoot),
-    Refused(Refusal),
 }
 
 // A mapping, beside its table of `count` entries: keys from `start` up to, not including, `end`; `octave` degrees make a
@@ -53,18 +39,6 @@ pub struct Kbm {
     pub count: u16,
 }
 
-#[derive(Clone, Copy)]
-pub enum KbmAnswer {
-    Is(Kbm),
-    Refused(Refusal),
-}
-
-#[derive(Clone, Copy)]
-pub enum DegreeAnswer {
-    Is(Degree),
-    Refused(Refusal),
-}
-
 // Which key the first entry is for: the reference key, as in the Rust, or the middle key, as in Scala.
 #[derive(Clone, Copy)]
 pub enum Counting {
@@ -74,19 +48,19 @@ pub enum Counting {
 
 // 10: a lent table, a state or a pitch cannot be used.
 pub const NOT_USABLE: Refusal = Refusal {
-    number: base::UNUSABLE,
+    reason: Reason::Unusable,
     detail: 0,
 };
 
 // 16: the key is outside the mapping's range.
 const OUT_OF_RANGE: Refusal = Refusal {
-    number: base::KEY_OUT_OF_RANGE,
+    reason: Reason::KeyOutOfRange,
     detail: 0,
 };
 
 // 17: the key is unmapped.
 const NO_DEGREE: Refusal = Refusal {
-    number: base::UNMAPPED_KEY,
+    reason: Reason::UnmappedKey,
     detail: 0,
 };
 
@@ -100,17 +74,17 @@ pub fn is_root(root: KbmRoot) -> bool
 
 impl KbmRoot {
     // The root of a reference key, its pitch and the steps up to the middle key; 10 for a pitch outside 2^-10..2^20.
-    pub fn new(reference: PianoKey, pitch: Pitch, offset: i32) -> RootAnswer
-        ensures { says_root result ≡ root_of reference pitch offset }
+    pub fn new(reference: PianoKey, pitch: Pitch, offset: i32) -> Result<KbmRoot, Refusal>
+        ensures { outcome result ≡ root_of reference pitch offset }
     {
         if floats::is_in_pitch(pitch.0) {
-            RootAnswer::Is(KbmRoot {
+            Ok(KbmRoot {
                 reference,
                 pitch,
                 offset,
             })
         } else {
-            RootAnswer::Refused(NOT_USABLE)
+            Err(NOT_USABLE)
         }
     }
 }
@@ -119,32 +93,25 @@ impl KbmRoot {
 fn is_entry(z: i32) -> bool
     ensures { result ≡ is_entry z }
 {
-    let none = z == UNMAPPED;
-    let low = -32768 <= z;
-    let high = z <= 32767;
-    none | (low & high)
+    (z == UNMAPPED) | ((-32768 <= z) & (z <= 32767))
 }
 
 // The number of an entry.
-pub fn number_of(entry: Entry) -> i32
+pub fn number_of(entry: Option<i16>) -> i32
     ensures { result ≡ number_of entry }
 {
     match entry {
-        Entry::Mapped(degree) => degree as i32,
-        Entry::Unmapped => UNMAPPED,
+        Some(degree) => i32::from(degree),
+        None => UNMAPPED,
     }
 }
 
 // The entry of its number.
-fn entry_of(z: i32) -> Entry
+fn entry_of(z: i32) -> Option<i16>
     requires { is_entry z ≡ true }
     ensures { result ≡ entry_of z }
 {
-    if z == UNMAPPED {
-        Entry::Unmapped
-    } else {
-        Entry::Mapped(z as i16)
-    }
+    if z == UNMAPPED { None } else { Some(z as i16) }
 }
 
 // Whether the table has `count` places and each of them holds an entry. No branch is taken on an entry, so that the compiler can
@@ -156,10 +123,8 @@ pub fn is_table(map: &[i32], count: usize) -> bool
         return false;
     }
     let mut all = true;
-    let mut i = 0;
-    while i < count {
-        all = all & is_entry(map[i]);
-        i += 1;
+    for z in &map[..count] {
+        all = all & is_entry(*z);
     }
     all
 }
@@ -168,49 +133,36 @@ pub fn is_table(map: &[i32], count: usize) -> bool
 fn is_in_range(start: PianoKey, end: PianoKey, key: PianoKey) -> bool
     ensures { result ≡ in_range start end key }
 {
-    let number = key.0;
-    let first = start.0;
-    let stop = end.0;
-    if first <= number {
-        return number < stop;
-    }
-    false
+    start.0 <= key.0 && key.0 < end.0
 }
 
 // The exact degree q formal octaves above an entry.
 fn shifted(entry: i16, q: i32, octave: i16) -> i64
     ensures { result ≡ entry +ℤ q *ℤ octave }
 {
-    (entry as i64) + (q as i64) * (octave as i64)
+    i64::from(entry) + i64::from(q) * i64::from(octave)
 }
 
 // The degree of a number; 11 outside 32 bits.
-fn checked_degree(z: i64) -> DegreeAnswer
+fn checked_degree(z: i64) -> Result<Degree, Refusal>
     ensures { says_degree result ≡ held z }
 {
-    match integer_math::to_i32(z) {
-        I32Answer::Is(number) => DegreeAnswer::Is(Degree(number)),
-        I32Answer::Refused(refusal) => DegreeAnswer::Refused(refusal),
-    }
+    Ok(Degree(integer_math::to_i32(z)?))
 }
 
 // The degree at a distance d from the key that the table's first entry is for; 17, 11.
-fn degree_at(d: i32, octave: i16, map: &[i32], count: u16) -> DegreeAnswer
+fn degree_at(d: i32, octave: i16, map: &[i32], count: u16) -> Result<Degree, Refusal>
     requires { is_table count map.now ≡ true }
     ensures { says_degree result ≡ degree_at d octave (table_of count map.now) }
 {
     if count == 0 {
-        return DegreeAnswer::Is(Degree(d));
+        return Ok(Degree(d));
     }
     let size = count as u32;
     let place = integer_math::remainder(d, size) as usize;
     match entry_of(map[place]) {
-        Entry::Mapped(entry) => checked_degree(shifted(
-            entry,
-            integer_math::quotient(d, size),
-            octave,
-        )),
-        Entry::Unmapped => DegreeAnswer::Refused(NO_DEGREE),
+        Some(entry) => checked_degree(shifted(entry, integer_math::quotient(d, size), octave)),
+        None => Err(NO_DEGREE),
     }
 }
 
@@ -218,20 +170,20 @@ fn degree_at(d: i32, octave: i16, map: &[i32], count: u16) -> DegreeAnswer
 fn steps_from_middle(number: i32, reference: i32, offset: i32) -> i64
     ensures { result ≡ number -ℤ (reference +ℤ offset) }
 {
-    (number as i64) - integer_math::sum(reference, offset)
+    i64::from(number) - integer_math::sum(reference, offset)
 }
 
 // The same where 32 bits hold it; else 11.
-fn distance_from_middle(root: KbmRoot, key: PianoKey) -> I32Answer
-    ensures { says_i32 result ≡ held (key.0 -ℤ middle_of root) }
+fn distance_from_middle(root: KbmRoot, key: PianoKey) -> Result<i32, Refusal>
+    ensures { outcome result ≡ held (key.0 -ℤ middle_of root) }
 {
     let reference = root.reference;
     integer_math::to_i32(steps_from_middle(key.0, reference.0, root.offset))
 }
 
 // How many keys a key lies above the one that is counted from; 11 outside 32 bits.
-fn distance(counting: Counting, root: KbmRoot, key: PianoKey) -> I32Answer
-    ensures { says_i32 result ≡ held (key.0 -ℤ (origin counting root).0) }
+fn distance(counting: Counting, root: KbmRoot, key: PianoKey) -> Result<i32, Refusal>
+    ensures { outcome result ≡ held (key.0 -ℤ (origin counting root).0) }
 {
     let reference = root.reference;
     match counting {
@@ -248,41 +200,49 @@ fn degree_from(
     octave: i16,
     map: &[i32],
     count: u16,
-) -> DegreeAnswer
+) -> Result<Degree, Refusal>
     requires { is_table count map.now ≡ true }
     ensures { says_degree result ≡ degree_from (origin counting root) key octave (table_of count map.now) }
 {
-    match distance(counting, root, key) {
-        I32Answer::Is(d) => degree_at(d, octave, map, count),
-        I32Answer::Refused(refusal) => DegreeAnswer::Refused(refusal),
-    }
+    let d = distance(counting, root, key)?;
+    degree_at(d, octave, map, count)
 }
 
 // The degree of a key in a table that can be used: 16 outside the range, 11 for the distance, 17 unmapped, 11. For callers that have
 // tested the table.
-pub fn degree_in(counting: Counting, kbm: Kbm, map: &[i32], key: PianoKey) -> DegreeAnswer
+pub fn degree_in(
+    counting: Counting,
+    kbm: Kbm,
+    map: &[i32],
+    key: PianoKey,
+) -> Result<Degree, Refusal>
     requires { is_table kbm.count map.now ≡ true }
     ensures { says_degree result ≡ degree_of (counted counting kbm) (table_of kbm.count map.now) key }
 {
     if is_in_range(kbm.start, kbm.end, key) {
         return degree_from(counting, kbm.root, key, kbm.octave, map, kbm.count);
     }
-    DegreeAnswer::Refused(OUT_OF_RANGE)
+    Err(OUT_OF_RANGE)
 }
 
 // The degree of a key in either counting: 10 for a table that cannot be used, 16, 11 for the distance, 17, 11.
-fn tested_degree(counting: Counting, kbm: Kbm, map: &[i32], key: PianoKey) -> DegreeAnswer
+fn tested_degree(
+    counting: Counting,
+    kbm: Kbm,
+    map: &[i32],
+    key: PianoKey,
+) -> Result<Degree, Refusal>
     ensures { says_degree result ≡ scale_degree_of (counted counting kbm) map.now key }
 {
     if is_table(map, kbm.count as usize) {
         return degree_in(counting, kbm, map, key);
     }
-    DegreeAnswer::Refused(NOT_USABLE)
+    Err(NOT_USABLE)
 }
 
 // The degree of a key: 10 for a table that cannot be used, 16 outside the range, 11 for the distance, 17 unmapped, 11.
 // Entries 0, x, 2, octave 5, keys 0..127, reference 60: key 59 has degree -3, key 61 is 17, key 128 is 16.
-pub fn scale_degree_of(kbm: Kbm, map: &[i32], key: PianoKey) -> DegreeAnswer
+pub fn scale_degree_of(kbm: Kbm, map: &[i32], key: PianoKey) -> Result<Degree, Refusal>
     ensures { says_degree result ≡ scale_degree_of kbm map.now key }
 {
     tested_degree(Counting::Reference, kbm, map, key)
@@ -290,42 +250,38 @@ pub fn scale_degree_of(kbm: Kbm, map: &[i32], key: PianoKey) -> DegreeAnswer
 
 // The degree of a key, counted from the middle key, the exact sum of reference and offset: 10, 16, 11 for the distance, 17, 11.
 // The same mapping with middle key 62: key 62 has degree 0, key 61 has -3, key 60 is 17.
-pub fn scale_degree_from_middle(kbm: Kbm, map: &[i32], key: PianoKey) -> DegreeAnswer
+pub fn scale_degree_from_middle(kbm: Kbm, map: &[i32], key: PianoKey) -> Result<Degree, Refusal>
     ensures { says_degree result ≡ scale_degree_from_middle kbm map.now key }
 {
     tested_degree(Counting::Middle, kbm, map, key)
 }
 
 // 17 becomes 19: it is the reference key that is unmapped.
-fn of_reference(answer: DegreeAnswer) -> DegreeAnswer
-    ensures { says_degree result ≡ of_reference (says_degree answer) }
+fn of_reference(why: Refusal) -> Refusal
+    ensures { refusal result ≡ of_reference (refusal why) }
 {
-    match answer {
-        DegreeAnswer::Is(degree) => DegreeAnswer::Is(degree),
-        DegreeAnswer::Refused(refusal) => {
-            if refusal.number == base::UNMAPPED_KEY {
-                return DegreeAnswer::Refused(Refusal {
-                    number: base::REFERENCE_UNMAPPED,
-                    detail: refusal.detail,
-                });
-            }
-            DegreeAnswer::Refused(refusal)
-        }
+    match why.reason {
+        Reason::UnmappedKey => Refusal {
+            reason: Reason::ReferenceUnmapped,
+            detail: why.detail,
+        },
+        _ => why,
     }
 }
 
 // The reference key's own degree in a table that can be used, counted from the middle key; no range limits it: 11 for the distance, 19, 11.
-pub fn reference_degree_in(kbm: Kbm, map: &[i32]) -> DegreeAnswer
+pub fn reference_degree_in(kbm: Kbm, map: &[i32]) -> Result<Degree, Refusal>
     requires { is_table kbm.count map.now ≡ true }
     ensures { says_degree result ≡ reference_degree kbm (table_of kbm.count map.now) }
 {
     let root = kbm.root;
-    of_reference(degree_from(
+    degree_from(
         Counting::Middle,
         root,
         root.reference,
         kbm.octave,
         map,
         kbm.count,
-    ))
+    )
+    .map_err(of_reference)
 }

@@ -1,5 +1,6 @@
 -- A BUILD SAYS 25 exactly for a backwards range, where neither 10 nor 15 is to be said, however many entries there are (document 02, W8).
 -- Assumes nothing.
+use Rattle.std.specs.Prelude.{Some, None, Option}
 use mathlib.Core.Path.{◌≡◌, refl, ◌∙◌, ap}
 use mathlib.Core.Bool.{Bool, true, false}
 use mathlib.Core.List.{List}
@@ -15,8 +16,6 @@ use Rattle.base.proofs.Order.{at_most, passed}
 use Rattle.base.proofs.Said.{no_refusal, same_refuses}
 use Rattle.kbm_build.specs.Builder.{is_ready, is_backwards, kbm_with, kbm_of, built, built_mapping, OctaveIs, BackwardsBuild}
 use Rattle.kbm_build.specs.declared.KbmBuilder.{KbmBuilder}
-use Rattle.kbm_build.specs.declared.Octave.{Octave}
-use Rattle.kbm_build.specs.declared.Octave.TheVariants.{Given, Missing}
 
 module _ (b : KbmBuilder) (map : List ℤ) where
   -- ---- what is said of the range
@@ -34,10 +33,10 @@ module _ (b : KbmBuilder) (map : List ℤ) where
   backwards_with z h = rw (passed h)
 
   -- ---- after the formal octave
-  octave_backwards : (o : Octave) → b.octave ≡ o → kbm_of b o ≡ refuses backwards_range 0 →
+  octave_backwards : (o : (Option ℤ)) → b.octave ≡ o → kbm_of b o ≡ refuses backwards_range 0 →
       ((z : ℤ) × OctaveIs b z) × (b.end.0 ≤ℤ b.start.0)
-  octave_backwards (Given z) is e = ((z, inl is), range_backwards z e)
-  octave_backwards Missing is e = go (ltb 0 b.count) refl e
+  octave_backwards (Some z) is e = ((z, inl is), range_backwards z e)
+  octave_backwards None is e = go (ltb 0 b.count) refl e
     where
       go : (t : Bool) → ltb 0 b.count ≡ t → pick t (refuses formal_octave_missing 0) (kbm_with b (pos 0)) ≡ refuses backwards_range 0 →
           ((z : ℤ) × OctaveIs b z) × (b.end.0 ≤ℤ b.start.0)

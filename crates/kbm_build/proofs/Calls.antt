@@ -1,5 +1,6 @@
 -- "Builder calls act, push for push, as appending to a plain list. [..] a refused push appends nothing" (document 01, "What is taken",
 -- 5): after any run of calls from a new builder, refused pushes among them, the builder acts as the plain list. Assumes nothing.
+use Rattle.std.specs.Prelude.{Option, Some, None}
 use mathlib.Core.Path.{◌≡◌, refl, sym, ◌∙◌, ap}
 use mathlib.Core.Bool.{Bool, true, false}
 use mathlib.Core.List.{List, [], ◌∷◌, ◌++◌, append_assoc, append-nil}
@@ -14,20 +15,17 @@ use Rattle.base.specs.Numbers.{no_room}
 use Rattle.base.specs.Said.{Said, gives, refuses, pick}
 use Rattle.kbm.specs.Root.{is_root}
 use Rattle.kbm.specs.Table.{number_of, IsI16, is_table, table_of}
-use Rattle.kbm.specs.declared.Entry.{Entry}
 use Rattle.kbm.specs.declared.KbmRoot.{KbmRoot}
 use Rattle.kbm.proofs.Entries.{and_both}
 use Rattle.kbm_build.specs.Builder.{builder_of, empty, with_one_more, fits_table, pushed, set_where, kbm_of, built}
 use Rattle.kbm_build.specs.Calls.{Call, OfTypes, beside, builder_after, after_call, after_calls, Plain, fresh, appended, plain_call, plain_calls, entries_pushed, plain_built, builder_for, Acts}
 use Rattle.kbm_build.specs.declared.KbmBuilder.{KbmBuilder}
-use Rattle.kbm_build.specs.declared.Octave.{Octave}
-use Rattle.kbm_build.specs.declared.Octave.TheVariants.{Given, Missing}
 use Rattle.kbm_build.proofs.Appends.{table_set, table_set_usable}
 use Rattle.kbm_build.proofs.Plain.{new_is_empty, empty_usable, empty_entries}
 use Rattle.kbm_build.proofs.Pushes.{fitting, push_full, push_more}
 
 -- what a push leaves, by what is said of it
-left_by : (b : KbmBuilder) (t : List ℤ) (e : Entry) {s : Said KbmBuilder} → pushed b t ≡ s → after_call (beside b t) (Call.push e) ≡ beside (builder_after b s) (set_where s t b.count (number_of e))
+left_by : (b : KbmBuilder) (t : List ℤ) (e : (Option ℤ)) {s : Said KbmBuilder} → pushed b t ≡ s → after_call (beside b t) (Call.push e) ≡ beside (builder_after b s) (set_where s t b.count (number_of e))
 left_by b t e h = ap (λ (s : Said KbmBuilder). beside (builder_after b s) (set_where s t b.count (number_of e))) h
 
 module _ (map : List ℤ) where
@@ -54,11 +52,11 @@ module _ (map : List ℤ) where
     unfolding built
     built_plain = rw (fits, h.usable, h.root) (go p.octave)
       where
-        go : (o : Octave) → kbm_of (state p) o ≡ plain_built p o
-        go (Given z) = refl
-        go Missing = refl
+        go : (o : (Option ℤ)) → kbm_of (state p) o ≡ plain_built p o
+        go (Some z) = refl
+        go None = refl
 
-    module _ (e : Entry) where
+    module _ (e : (Option ℤ)) where
       more : length (p.entries ++ (e ∷ [])) ≡ length p.entries + 1
       more = length-append p.entries (e ∷ [])
 
@@ -88,7 +86,7 @@ module _ (map : List ℤ) where
           let room : n < length t = omega (arith, h.places) in
           let behind : drop (n + 1) t ≡ drop (n + 1) map = sym (drop-drop 1 n t) ∙ ap (drop 1) h.others ∙ drop-drop 1 n map in
           record {
-            entries = rw more (table_set n t e room i ∙ ap (λ (es : List Entry). es ++ (e ∷ [])) h.entries);
+            entries = rw more (table_set n t e room i ∙ ap (λ (es : List (Option ℤ)). es ++ (e ∷ [])) h.entries);
             others = rw more (drop-set-lt (n + 1) t n (number_of e) (omega arith) ∙ behind);
             places = length-set t n (number_of e) ∙ h.places;
             usable = rw more (table_set_usable n t e room i h.usable);
@@ -130,7 +128,7 @@ module _ (map : List ℤ) where
 -- and the plain list is what was pushed, as far as there are places
 pub plain_pushed : (room : ℕ) (cs : List Call) (p : Plain) → (plain_calls room p cs).entries ≡ p.entries ++ take (room - length p.entries) (entries_pushed cs)
 unfolding plain_calls entries_pushed
-plain_pushed room [] p = rw (take_all {A = Entry} (room - length p.entries) [] (omega arith)) (sym (append-nil p.entries))
+plain_pushed room [] p = rw (take_all {A = (Option ℤ)} (room - length p.entries) [] (omega arith)) (sym (append-nil p.entries))
 plain_pushed room (Call.range start end ∷ cs) p = plain_pushed room cs (plain_call room p (Call.range start end))
 plain_pushed room (Call.octave z ∷ cs) p = plain_pushed room cs (plain_call room p (Call.octave z))
 plain_pushed room (Call.push e ∷ cs) p = go (ltb (length p.entries) room) refl (plain_pushed room cs (appended p e)) (plain_pushed room cs p)

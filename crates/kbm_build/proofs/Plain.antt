@@ -1,5 +1,6 @@
 -- A mapping that is built holds the plain list of what was pushed: from a new builder, through any run of pushes, to the build.
 -- Assumes nothing.
+use Rattle.std.specs.Prelude.{Option, Some}
 use mathlib.Core.Path.{◌≡◌, refl, sym, ◌∙◌, ap}
 use mathlib.Core.Bool.{true, false}
 use mathlib.Core.List.{List, []}
@@ -12,10 +13,8 @@ use Rattle.base.specs.Said.{gives}
 use Rattle.kbm_build.specs.Builder.{builder_of, with_octave, fits_table, Built, pushed_all, Appended, is_backwards, built, built_mapping, empty}
 use Rattle.kbm.specs.Root.{is_root}
 use Rattle.kbm.specs.Table.{AreI16, are_entries, entries_of, is_table, table_of}
-use Rattle.kbm.specs.declared.Entry.{Entry}
 use Rattle.kbm.specs.declared.KbmRoot.{KbmRoot}
 use Rattle.kbm_build.specs.declared.KbmBuilder.{KbmBuilder}
-use Rattle.kbm_build.specs.declared.Octave.TheVariants.{Given}
 use Rattle.kbm_build.proofs.Appends.{run_appends}
 use Rattle.kbm_build.proofs.Pushes.{fitting}
 
@@ -36,11 +35,11 @@ module _ (root : KbmRoot) (map : List ℤ) where
 
 -- a build where nothing is at fault
 built_gives : (b : KbmBuilder) (map : List ℤ) (z : ℤ) → fits_table b map ≡ true → is_table b.count map ≡ true → is_root b.root ≡ true →
-    is_backwards b.start b.end ≡ false → b.count ≤ 65535 → b.octave ≡ Given z → built b map ≡ gives (built_mapping b z)
+    is_backwards b.start b.end ≡ false → b.count ≤ 65535 → b.octave ≡ Some z → built b map ≡ gives (built_mapping b z)
 unfolding built
 built_gives b map z f t r w n o = rw (f, t, r, o, w, le-leb b.count 65535 n)
 
-module _ (root : KbmRoot) (map : List ℤ) (es : List Entry) (octave : ℤ) (r : is_root root ≡ true) (i : AreI16 es) (room : length es ≤ length map) (small : length es ≤ 65535) where
+module _ (root : KbmRoot) (map : List ℤ) (es : List (Option ℤ)) (octave : ℤ) (r : is_root root ≡ true) (i : AreI16 es) (room : length es ≤ length map) (small : length es ≤ 65535) where
   pub run : (left : Built) × ((pushed_all (empty root map) map es ≡ gives left) × Appended (empty root map) map es left)
   run = run_appends es (empty root map) map (empty_fits root map) i (omega (arith, room))
 

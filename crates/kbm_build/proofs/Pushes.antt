@@ -1,4 +1,5 @@
 -- What a push and a build come to, by the tests that the code makes. Assumes nothing.
+use Rattle.std.specs.Prelude.{Option}
 use mathlib.Core.Path.{◌≡◌, sym, ap}
 use mathlib.Core.Bool.{true, false}
 use mathlib.Core.List.{List}
@@ -11,7 +12,6 @@ use Rattle.base.specs.Numbers.{unusable, no_room}
 use Rattle.base.specs.Said.{Said, gives, refuses}
 use Rattle.kbm_build.specs.Builder.{fits_table, with_one_more, pushed, set_where, after_push}
 use Rattle.kbm.specs.Table.{number_of}
-use Rattle.kbm.specs.declared.Entry.{Entry}
 use Rattle.kbm_build.specs.declared.KbmBuilder.{KbmBuilder}
 
 module _ (b : KbmBuilder) (map : List ℤ) where
@@ -23,7 +23,7 @@ module _ (b : KbmBuilder) (map : List ℤ) where
   unfolding pushed
   push_other differ = rw (not_fitting differ)
 
-  pub after_push_law : {s : Said KbmBuilder} (e : Entry) → pushed b map ≡ s → set_where s map b.count (number_of e) ≡ after_push b map e
+  pub after_push_law : {s : Said KbmBuilder} (e : (Option ℤ)) → pushed b map ≡ s → set_where s map b.count (number_of e) ≡ after_push b map e
   after_push_law e is = ap (λ s. set_where s map b.count (number_of e)) (sym is)
 
   module _ (room : b.room ≡ length map) where

@@ -1,4 +1,5 @@
 -- What a build leaves, and that each call of the builder has one result. Document 01, "What is taken", 5. Assumes nothing.
+use Rattle.std.specs.Prelude.{Some, None, Option}
 use mathlib.Core.Path.{◌≡◌, refl}
 use mathlib.Core.Logic.{inl, inr}
 use mathlib.Core.Bool.{Bool, true, false, ◌&&◌}
@@ -9,24 +10,18 @@ use lib.Dec.{leb, ltb}
 use lib.IntN.{ℤ, pos}
 use borrow.Author.Tests.{leb-true, ltb-false}
 use Rattle.base.specs.Numbers.{unusable, too_large, backwards_range}
-use Rattle.base.specs.Said.{Said, gives, refuses, pick, One}
+use Rattle.base.specs.Said.{Said, gives, refuses, pick, One, outcome}
 use Rattle.base.proofs.Order.{below}
-use Rattle.base.proofs.Said.{Split, one_result, one_plain}
+use Rattle.base.proofs.Said.{one_result, one_said}
 use Rattle.key.specs.declared.PianoKey.{PianoKey}
-use Rattle.kbm.specs.Answers.{says_kbm}
 use Rattle.kbm.specs.Root.{is_root}
 use Rattle.kbm.specs.Table.{is_table}
-use Rattle.kbm.specs.declared.Entry.TheVariants.{Mapped, Unmapped}
 use Rattle.kbm.specs.declared.Kbm.{Kbm}
 use Rattle.kbm.specs.declared.KbmRoot.{KbmRoot}
 use Rattle.kbm.proofs.Entries.{and_both}
 use Rattle.kbm.proofs.Theorems.{kbm_one}
-use Rattle.kbm_build.specs.Answers.{says_builder}
 use Rattle.kbm_build.specs.Builder.{builder_of, with_range, with_octave, fits_table, pushed, after_push, is_ready, is_backwards, kbm_with, kbm_of, built, OctaveIs, built_mapping, Leaves}
-use Rattle.kbm_build.specs.declared.BuilderAnswer.TheVariants as OfBuilder
 use Rattle.kbm_build.specs.declared.KbmBuilder.{KbmBuilder}
-use Rattle.kbm_build.specs.declared.Octave.{Octave}
-use Rattle.kbm_build.specs.declared.Octave.TheVariants.{Given, Missing}
 
 -- ---- what a build leaves
 no_mapping : {n d : ℕ} {kbm : Kbm} → refuses n d ≡ gives kbm → ⊥
@@ -52,9 +47,9 @@ with_leaves b map z kbm r o = go (is_backwards b.start b.end) refl (leb b.count 
           same = refl;
         })
 
-octave_leaves : (b : KbmBuilder) (map : List ℤ) (kbm : Kbm) → is_ready b map ≡ true → (o : Octave) → b.octave ≡ o → kbm_of b o ≡ gives kbm → Leaves b map kbm
-octave_leaves b map kbm r (Given z) o e = with_leaves b map z kbm r (inl o) e
-octave_leaves b map kbm r Missing o e = go (ltb 0 b.count) refl e
+octave_leaves : (b : KbmBuilder) (map : List ℤ) (kbm : Kbm) → is_ready b map ≡ true → (o : (Option ℤ)) → b.octave ≡ o → kbm_of b o ≡ gives kbm → Leaves b map kbm
+octave_leaves b map kbm r (Some z) o e = with_leaves b map z kbm r (inl o) e
+octave_leaves b map kbm r None o e = go (ltb 0 b.count) refl e
   where
     go : (t : Bool) → ltb 0 b.count ≡ t → pick t (refuses 15 0) (kbm_with b (pos 0)) ≡ gives kbm → Leaves b map kbm
     go true t e = absurd (no_mapping e)
@@ -69,15 +64,10 @@ build_leaves b map kbm e = go (is_ready b map) refl e
     go true r e = octave_leaves b map kbm r b.octave refl e
     go false r e = absurd (no_mapping e)
 
--- ---- two results of one input are equal
-pub builder_split : Split OfBuilder.Is OfBuilder.Refused
-builder_split (OfBuilder.Is x) = inl (x, refl)
-builder_split (OfBuilder.Refused r) = inr (r, refl)
+pub builder_one : (s : Said KbmBuilder) → One outcome s
+builder_one = one_said
 
-pub builder_one : (s : Said KbmBuilder) → One says_builder s
-builder_one = one_plain builder_split says_builder (λ a. refl) (λ r. refl)
-
-pub builder_new_one : (root : KbmRoot) (map : List ℤ) → One says_builder (builder_of root map)
+pub builder_new_one : (root : KbmRoot) (map : List ℤ) → One outcome (builder_of root map)
 builder_new_one root map = builder_one (builder_of root map)
 
 pub range_one : (b : KbmBuilder) (start end : PianoKey) → One (λ r. r) (with_range b start end)
@@ -87,11 +77,11 @@ pub formal_octave_one : (b : KbmBuilder) (octave : ℤ) → One (λ r. r) (with_
 formal_octave_one b octave = one_result (with_octave b octave)
 
 -- a push, and the table it leaves
-pub push_mapped_key_one : (b : KbmBuilder) (map : List ℤ) (degree : ℤ) → One says_builder (pushed b map) × One (λ r. r) (after_push b map (Mapped degree))
-push_mapped_key_one b map degree = (builder_one (pushed b map), one_result (after_push b map (Mapped degree)))
+pub push_mapped_key_one : (b : KbmBuilder) (map : List ℤ) (degree : ℤ) → One outcome (pushed b map) × One (λ r. r) (after_push b map (Some degree))
+push_mapped_key_one b map degree = (builder_one (pushed b map), one_result (after_push b map (Some degree)))
 
-pub push_unmapped_key_one : (b : KbmBuilder) (map : List ℤ) → One says_builder (pushed b map) × One (λ r. r) (after_push b map Unmapped)
-push_unmapped_key_one b map = (builder_one (pushed b map), one_result (after_push b map Unmapped))
+pub push_unmapped_key_one : (b : KbmBuilder) (map : List ℤ) → One outcome (pushed b map) × One (λ r. r) (after_push b map None)
+push_unmapped_key_one b map = (builder_one (pushed b map), one_result (after_push b map None))
 
-pub build_one : (b : KbmBuilder) (map : List ℤ) → One says_kbm (built b map)
+pub build_one : (b : KbmBuilder) (map : List ℤ) → One outcome (built b map)
 build_one b map = kbm_one (built b map)

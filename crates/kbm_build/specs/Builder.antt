@@ -2,7 +2,7 @@
 -- list. A push gives 10 by the readers' limits, then 12; a refused push appends nothing. [..] A build gives 15, then 13".
 -- Document 02, W8: "Refuse a mapping whose last key is below its first [..]: 25 [..]; in a builder, detail 0, after 15 and before 13". A
 -- state that does not fit its lent table gives 10 first. Assumes nothing.
-use Rattle.std.specs.Prelude.{Bool, true, ◌&&◌, ◌≡◌, List, [], ◌∷◌, ◌++◌, ◌⊎◌, ℕ, ◌+◌, ◌≤◌, eqb, leb, ltb, ℤ, pos, length, drop, set, ◌≤ℤ◌, ◌<ℤ◌}
+use Rattle.std.specs.Prelude.{Bool, true, ◌&&◌, ◌≡◌, List, [], ◌∷◌, ◌++◌, ◌⊎◌, ℕ, ◌+◌, ◌≤◌, eqb, leb, ltb, ℤ, pos, length, drop, set, ◌≤ℤ◌, ◌<ℤ◌, Option, Some, None}
 use Rattle.std.specs.Int.Signed.{le_z}
 use Rattle.base.specs.Numbers.{unusable, no_room, too_large, formal_octave_missing, backwards_range}
 use Rattle.base.specs.Said.{Said, gives, refuses, pick, and_then}
@@ -10,16 +10,13 @@ use Rattle.key.specs.Keys.{key}
 use Rattle.key.specs.declared.PianoKey.{PianoKey}
 use Rattle.kbm.specs.Root.{is_root}
 use Rattle.kbm.specs.Table.{is_table, table_of, number_of}
-use Rattle.kbm.specs.declared.Entry.{Entry}
 use Rattle.kbm.specs.declared.Kbm.{Kbm}
 use Rattle.kbm.specs.declared.KbmRoot.{KbmRoot}
 use Rattle.kbm_build.specs.declared.KbmBuilder.{KbmBuilder}
-use Rattle.kbm_build.specs.declared.Octave.{Octave}
-use Rattle.kbm_build.specs.declared.Octave.TheVariants.{Given, Missing}
 
 -- a builder with nothing pushed: keys 0..127, no formal octave, and the table's room
 abbrev pub empty : KbmRoot → List ℤ → KbmBuilder
-empty root map = record { root = root; start = key (pos 0); end = key (pos 128); octave = Missing; room = length map; count = 0 }
+empty root map = record { root = root; start = key (pos 0); end = key (pos 128); octave = None; room = length map; count = 0 }
 
 -- "A root gives 10 by the pitch limits"
 abbrev pub builder_of : KbmRoot → List ℤ → Said KbmBuilder
@@ -31,7 +28,7 @@ with_range b start end = record { root = b.root; start = start; end = end; octav
 
 -- the same builder with a formal octave
 abbrev pub with_octave : KbmBuilder → ℤ → KbmBuilder
-with_octave b octave = record { root = b.root; start = b.start; end = b.end; octave = Given octave; room = b.room; count = b.count }
+with_octave b octave = record { root = b.root; start = b.start; end = b.end; octave = Some octave; room = b.room; count = b.count }
 
 -- the same builder with one entry more
 abbrev pub with_one_more : KbmBuilder → KbmBuilder
@@ -52,7 +49,7 @@ set_where (gives b) map place number = set map place number
 set_where (refuses n detail) map place number = map
 
 -- the table after the push of an entry
-abbrev pub after_push : KbmBuilder → List ℤ → Entry → List ℤ
+abbrev pub after_push : KbmBuilder → List ℤ → (Option ℤ) → List ℤ
 after_push b map entry = set_where (pushed b map) map b.count (number_of entry)
 
 -- a builder, and the table it stands beside
@@ -61,7 +58,7 @@ pub record Built : Type 0 where
   pub table : List ℤ
 
 -- these entries pushed one after the other, up to the first refusal
-unfoldable pub pushed_all : KbmBuilder → List ℤ → List Entry → Said Built
+unfoldable pub pushed_all : KbmBuilder → List ℤ → List (Option ℤ) → Said Built
 pushed_all b map [] = gives (record { builder = b; table = map })
 pushed_all b map (e ∷ es) = and_then (pushed b map) (λ b'. pushed_all b' (after_push b map e) es)
 
@@ -70,7 +67,7 @@ abbrev pub with_count : KbmBuilder → ℕ → KbmBuilder
 with_count b n = record { root = b.root; start = b.start; end = b.end; octave = b.octave; room = b.room; count = n }
 
 -- what a run of accepted pushes leaves: the entries before and those of the run, one count more for each, all other places as they were
-pub record Appended (b : KbmBuilder) (map : List ℤ) (es : List Entry) (left : Built) : Type 0 where
+pub record Appended (b : KbmBuilder) (map : List ℤ) (es : List (Option ℤ)) (left : Built) : Type 0 where
   pub entries : table_of left.builder.count left.table ≡ table_of b.count map ++ es
   pub counted : left.builder ≡ with_count b (b.count + length es)
   pub others : drop (b.count + length es) left.table ≡ drop (b.count + length es) map
@@ -94,9 +91,9 @@ kbm_with b octave =
     (refuses too_large 0))
 
 -- 15 for entries and no formal octave; with neither the octave is 0
-abbrev pub kbm_of : KbmBuilder → Octave → Said Kbm
-kbm_of b (Given octave) = kbm_with b octave
-kbm_of b Missing = pick (ltb 0 b.count) (refuses formal_octave_missing 0) (kbm_with b (pos 0))
+abbrev pub kbm_of : KbmBuilder → (Option ℤ) → Said Kbm
+kbm_of b (Some octave) = kbm_with b octave
+kbm_of b None = pick (ltb 0 b.count) (refuses formal_octave_missing 0) (kbm_with b (pos 0))
 
 -- a build: 10, then 15, then 25, then 13
 unfoldable pub built : KbmBuilder → List ℤ → Said Kbm
@@ -104,7 +101,7 @@ built b map = pick (is_ready b map) (kbm_of b b.octave) (refuses unusable 0)
 
 -- the formal octave that was given, or 0 where there are no entries
 abbrev pub OctaveIs : KbmBuilder → ℤ → Type 0
-OctaveIs b z = (b.octave ≡ Given z) ⊎ ((b.octave ≡ Missing) × ((b.count ≡ 0) × (z ≡ pos 0)))
+OctaveIs b z = (b.octave ≡ Some z) ⊎ ((b.octave ≡ None) × ((b.count ≡ 0) × (z ≡ pos 0)))
 
 abbrev pub built_mapping : KbmBuilder → ℤ → Kbm
 built_mapping b z = record { root = b.root; start = b.start; end = b.end; octave = z; count = b.count }

@@ -1,24 +1,21 @@
 -- A RUN OF BUILDER CALLS, in any order and refused ones too, and the plain list beside it: document 01, "What is taken", 5: "Builder
 -- calls act, push for push, as appending to a plain list. [..] a refused push appends nothing". Assumes nothing.
-use Rattle.std.specs.Prelude.{◌≡◌, true, List, [], ◌∷◌, ◌++◌, ℕ, leb, ltb, ℤ, pos, length, drop}
+use Rattle.std.specs.Prelude.{◌≡◌, true, List, [], ◌∷◌, ◌++◌, ℕ, leb, ltb, ℤ, pos, length, drop, Option, Some, None}
 use Rattle.base.specs.Numbers.{no_room, too_large, formal_octave_missing, backwards_range}
 use Rattle.base.specs.Said.{Said, gives, refuses, pick}
 use Rattle.key.specs.Keys.{key}
 use Rattle.key.specs.declared.PianoKey.{PianoKey}
 use Rattle.kbm.specs.Table.{IsI16, is_table, table_of}
-use Rattle.kbm.specs.declared.Entry.{Entry}
 use Rattle.kbm.specs.declared.Kbm.{Kbm}
 use Rattle.kbm.specs.declared.KbmRoot.{KbmRoot}
 use Rattle.kbm_build.specs.Builder.{with_range, with_octave, pushed, after_push, Built, is_backwards, built}
 use Rattle.kbm_build.specs.declared.KbmBuilder.{KbmBuilder}
-use Rattle.kbm_build.specs.declared.Octave.{Octave}
-use Rattle.kbm_build.specs.declared.Octave.TheVariants.{Given, Missing}
 
 -- a call on a builder: `range`, `formal_octave`, or the push of an entry, mapped or not
 pub data Call : Type 0 where
   range : PianoKey → PianoKey → Call
   octave : ℤ → Call
-  push : Entry → Call
+  push : (Option ℤ) → Call
 
 -- each degree pushed is a number of 16 bits, as the call's type has it
 abbrev pub OfTypes : List Call → Type 0
@@ -53,21 +50,21 @@ pub record Plain : Type 0 where
   pub root : KbmRoot
   pub start : PianoKey
   pub end : PianoKey
-  pub octave : Octave
-  pub entries : List Entry
+  pub octave : (Option ℤ)
+  pub entries : List (Option ℤ)
 
 -- before the first call: keys 0..127, no formal octave, no entries
 abbrev pub fresh : KbmRoot → Plain
-fresh root = record { root = root; start = key (pos 0); end = key (pos 128); octave = Missing; entries = [] }
+fresh root = record { root = root; start = key (pos 0); end = key (pos 128); octave = None; entries = [] }
 
 -- one entry more
-abbrev pub appended : Plain → Entry → Plain
+abbrev pub appended : Plain → (Option ℤ) → Plain
 appended p e = record { root = p.root; start = p.start; end = p.end; octave = p.octave; entries = p.entries ++ (e ∷ []) }
 
 -- a call: a push appends its entry, and nothing where so many places are taken
 abbrev pub plain_call : ℕ → Plain → Call → Plain
 plain_call room p (Call.range start end) = record { root = p.root; start = start; end = end; octave = p.octave; entries = p.entries }
-plain_call room p (Call.octave z) = record { root = p.root; start = p.start; end = p.end; octave = Given z; entries = p.entries }
+plain_call room p (Call.octave z) = record { root = p.root; start = p.start; end = p.end; octave = Some z; entries = p.entries }
 plain_call room p (Call.push e) = pick (ltb (length p.entries) room) (appended p e) p
 
 unfoldable pub plain_calls : ℕ → Plain → List Call → Plain
@@ -75,7 +72,7 @@ plain_calls room p [] = p
 plain_calls room p (c ∷ cs) = plain_calls room (plain_call room p c) cs
 
 -- the entries of all pushes
-unfoldable pub entries_pushed : List Call → List Entry
+unfoldable pub entries_pushed : List Call → List (Option ℤ)
 entries_pushed [] = []
 entries_pushed (Call.range start end ∷ cs) = entries_pushed cs
 entries_pushed (Call.octave z ∷ cs) = entries_pushed cs
@@ -90,9 +87,9 @@ plain_with p z =
     (gives (record { root = p.root; start = p.start; end = p.end; octave = z; count = length p.entries }))
     (refuses too_large 0))
 
-abbrev pub plain_built : Plain → Octave → Said Kbm
-plain_built p (Given z) = plain_with p z
-plain_built p Missing = pick (ltb 0 (length p.entries)) (refuses formal_octave_missing 0) (plain_with p (pos 0))
+abbrev pub plain_built : Plain → (Option ℤ) → Said Kbm
+plain_built p (Some z) = plain_with p z
+plain_built p None = pick (ltb 0 (length p.entries)) (refuses formal_octave_missing 0) (plain_with p (pos 0))
 
 -- ---- both
 -- the builder of a plain list, of a table of so many places
@@ -107,5 +104,5 @@ pub record Acts (map : List ℤ) (p : Plain) (s : Built) : Type 0 where
   pub others : drop (length p.entries) s.table ≡ drop (length p.entries) map
   pub places : length s.table ≡ length map
   pub usable : is_table (length p.entries) s.table ≡ true
-  pub next : (e : Entry) → pushed s.builder s.table ≡ pick (ltb (length p.entries) (length map)) (gives (builder_for (length map) (appended p e))) (refuses no_room 0)
+  pub next : (e : (Option ℤ)) → pushed s.builder s.table ≡ pick (ltb (length p.entries) (length map)) (gives (builder_for (length map) (appended p e))) (refuses no_room 0)
   pub mapping : built s.builder s.table ≡ plain_built p p.octave

@@ -1,4 +1,3 @@
 pub mod Builder
-pub mod Answers
 pub mod Calls
 pub mod Samples

@@ -5,79 +5,64 @@
 // `formal_octave(12)`, then `build(&map)` is a mapping of one entry, 0, for keys 0..127.
 #![tactic(auto)]
 
-ghost use Rattle.std.specs.Prelude.{◌≡◌};
-ghost use Rattle.kbm.specs.Answers.{says_kbm};
-ghost use Rattle.kbm.specs.declared.Entry.TheVariants.{Mapped, Unmapped};
-ghost use Rattle.kbm_build.specs.Answers.{says_builder};
+ghost use Rattle.std.specs.Prelude.{◌≡◌, Some, None};
+ghost use Rattle.base.specs.Said.{outcome};
 ghost use Rattle.kbm_build.specs.Builder.{builder_of, with_range, with_octave, pushed, after_push, is_ready, kbm_with, built};
 
-use base::Refusal;
-use kbm::{Entry, Kbm, KbmAnswer, KbmRoot};
+use base::{Reason, Refusal};
+use kbm::{Kbm, KbmRoot};
 use key::PianoKey;
-
-// A formal octave, where one was given.
-#[derive(Clone, Copy)]
-pub enum Octave {
-    Given(i16),
-    Missing,
-}
 
 #[derive(Clone, Copy)]
 pub struct KbmBuilder {
     pub root: KbmRoot,
     pub start: PianoKey,
     pub end: PianoKey,
-    pub octave: Octave,
+    pub octave: Option<i16>,
     pub room: usize,
     pub count: usize,
 }
 
-#[derive(Clone, Copy)]
-pub enum BuilderAnswer {
-    Is(KbmBuilder),
-    Refused(Refusal),
-}
-
 // 12: the table is full.
 const NO_PLACE: Refusal = Refusal {
-    number: base::NO_ROOM,
+    reason: Reason::NoRoom,
     detail: 0,
 };
 
 // 13: over 65,535 entries.
 const TOO_MANY: Refusal = Refusal {
-    number: base::TOO_LARGE,
+    reason: Reason::TooLarge,
     detail: 0,
 };
 
 // 25: the end is not above the start, so the last key is below the first.
 const BACKWARDS: Refusal = Refusal {
-    number: base::BACKWARDS_RANGE,
+    reason: Reason::BackwardsRange,
     detail: 0,
 };
 
 // 15: entries, and no formal octave.
 const NO_OCTAVE: Refusal = Refusal {
-    number: base::FORMAL_OCTAVE_MISSING,
+    reason: Reason::FormalOctaveMissing,
     detail: 0,
 };
 
 impl KbmBuilder {
     // A builder for keys 0..127 with nothing pushed; 10 for a root outside the pitch limits.
-    pub fn new(root: KbmRoot, map: &[i32]) -> BuilderAnswer
-        ensures { says_builder result ≡ builder_of root map.now }
+    pub fn new(root: KbmRoot, map: &[i32]) -> Result<KbmBuilder, Refusal>
+        ensures { outcome result ≡ builder_of root map.now }
     {
         if kbm::is_root(root) {
-            return BuilderAnswer::Is(KbmBuilder {
+            return Ok(KbmBuilder {
                 root,
                 start: PianoKey(0),
                 end: PianoKey(128),
-                octave: Octave::Missing,
+                octave: None,
                 room: map.len(),
                 count: 0,
             });
         }
-        BuilderAnswer::Refused(kbm::NOT_USABLE)
+        Err(kbm::NOT_USABLE)
     }
 
     // The same for keys from `start` up to, not including, `end`; a build refuses an `end` that is not above `start` (25).
@@ -90,25 +75,16 @@ impl KbmBuilder {
     }
 
     // The same with a formal octave.
-    pub fn formal_octave(self, octave: i16) -> KbmBuilder
+    pub fn formal_octave(mut self, octave: i16) -> KbmBuilder
         ensures { result ≡ with_octave self octave }
     {
-        let root = self.root;
-        let start = self.start;
-        let end = self.end;
-        KbmBuilder {
-            root,
-            start,
-            end,
-            octave: Octave::Given(octave),
-            room: self.room,
-            count: self.count,
-        }
+        self.octave = Some(octave);
+        self
     }
 
     // One entry more, at the next place; 10 for a state that does not fit the table, 12 with no place left.
-    fn push(mut self, map: &mut [i32], entry: Entry) -> BuilderAnswer
-        ensures { (says_builder result ≡ pushed self map.old) × (map.new ≡ after_push self map.old entry) }
+    fn push(mut self, map: &mut [i32], entry: Option<i16>) -> Result<KbmBuilder, Refusal>
+        ensures { (outcome result ≡ pushed self map.old) × (map.new ≡ after_push self map.old entry) }
     {
         let room = self.room;
         let count = self.count;
@@ -116,84 +92,70 @@ impl KbmBuilder {
             if count < room {
                 map[count] = kbm::number_of(entry);
                 self.count = count + 1;
-                return BuilderAnswer::Is(self);
+                return Ok(self);
             }
             if count == room {
-                return BuilderAnswer::Refused(NO_PLACE);
+                return Err(NO_PLACE);
             }
         }
-        BuilderAnswer::Refused(kbm::NOT_USABLE)
+        Err(kbm::NOT_USABLE)
     }
 
     // One mapped entry more; 10, 12.
-    pub fn push_mapped_key(self, map: &mut [i32], degree: i16) -> BuilderAnswer
-        ensures { (says_builder result ≡ pushed self map.old) × (map.new ≡ after_push self map.old (Mapped degree)) }
+    pub fn push_mapped_key(self, map: &mut [i32], degree: i16) -> Result<KbmBuilder, Refusal>
+        ensures { (outcome result ≡ pushed self map.old) × (map.new ≡ after_push self map.old (Some degree)) }
     {
-        self.push(map, Entry::Mapped(degree))
+        self.push(map, Some(degree))
     }
 
     // One unmapped entry more; 10, 12.
-    pub fn push_unmapped_key(self, map: &mut [i32]) -> BuilderAnswer
-        ensures { (says_builder result ≡ pushed self map.old) × (map.new ≡ after_push self map.old Unmapped) }
+    pub fn push_unmapped_key(self, map: &mut [i32]) -> Result<KbmBuilder, Refusal>
+        ensures { (outcome result ≡ pushed self map.old) × (map.new ≡ after_push self map.old None) }
     {
-        self.push(map, Entry::Unmapped)
+        self.push(map, None)
     }
 
     // Whether state, table and root can be used.
     fn is_ready(self, map: &[i32]) -> bool
         ensures { result ≡ is_ready self map.now }
     {
-        let room = self.room;
-        let count = self.count;
-        if room == map.len() {
-            if count <= room {
-                if kbm::is_table(map, count) {
-                    return kbm::is_root(self.root);
-                }
-            }
-        }
-        false
+        self.room == map.len()
+            && self.count <= self.room
+            && kbm::is_table(map, self.count)
+            && kbm::is_root(self.root)
     }
 
     // The mapping with a formal octave; 25 where the last key is below the first, then 13 over 65,535 entries.
-    fn finish(self, octave: i16) -> KbmAnswer
-        ensures { says_kbm result ≡ kbm_with self octave }
+    fn finish(self, octave: i16) -> Result<Kbm, Refusal>
+        ensures { outcome result ≡ kbm_with self octave }
     {
-        let root = self.root;
-        let start = self.start;
-        let end = self.end;
-        let count = self.count;
-        if end.0 <= start.0 {
-            return KbmAnswer::Refused(BACKWARDS);
+        if self.end.0 <= self.start.0 {
+            return Err(BACKWARDS);
         }
-        if count <= 65535 {
-            return KbmAnswer::Is(Kbm {
-                root,
-                start,
-                end,
-                octave,
-                count: count as u16,
-            });
+        if 65535 < self.count {
+            return Err(TOO_MANY);
         }
-        KbmAnswer::Refused(TOO_MANY)
+        Ok(Kbm {
+            root: self.root,
+            start: self.start,
+            end: self.end,
+            octave,
+            count: self.count as u16,
+        })
     }
 
     // The mapping: 10 where state, table or root cannot be used, 15 for entries and no formal octave, 25, 13.
-    pub fn build(self, map: &[i32]) -> KbmAnswer
-        ensures { says_kbm result ≡ built self map.now }
+    #[tactic(auto, unfolding(crate::specs::Builder::built))]
+    pub fn build(self, map: &[i32]) -> Result<Kbm, Refusal>
+        ensures { outcome result ≡ built self map.now }
     {
-        if self.is_ready(map) {
-            let octave = self.octave;
-            return match octave {
-                Octave::Given(degrees) => self.finish(degrees),
-                Octave::Missing => {
-                    if 0 < self.count {
-                        return KbmAnswer::Refused(NO_OCTAVE);
-                    }
-                    self.finish(0)
-                }
-            };
+        if !self.is_ready(map) {
+            return Err(kbm::NOT_USABLE);
         }
-        KbmAnswer::Refused(kbm::NOT_USABLE)
+        match self.octave {
+            Some(octave) => self.finish(octave),
+            None if 0 < self.count => Err(NO_OCTAVE),
+            None => self.finish(0),
+        }
     }
 }

@@ -1,5 +1,7 @@
 -- A BACKWARDS RANGE IS REFUSED (document 02, W8): 25 is drawn exactly by its texts, at the line of the last key, whatever follows and in
 -- whatever room. Assumes nothing.
+use Rattle.std.specs.Prelude.{ℤ}
+use Rattle.std.specs.Prelude.{Option}
 use mathlib.Core.Path.{◌≡◌, refl, ◌∙◌, ap, subst}
 use mathlib.Core.List.{List, [], ◌∷◌, ◌++◌}
 use mathlib.Core.Logic.{◌↔◌, inl, inr}
@@ -8,7 +10,6 @@ use native.Mathlib.Omega.{arith}
 use lib.ListN.{length, length-append}
 use Rattle.base.specs.Numbers.{backwards_range}
 use Rattle.base.specs.Said.{refuses}
-use Rattle.kbm.specs.declared.Entry.{Entry}
 use Rattle.listing.specs.Listing.{seen_from, WrongLine, WrongEntry, Fault}
 use Rattle.text.specs.Reading.{Meaning, invalid, blank, comment, content}
 use Rattle.kbm_read.specs.Backwards.{BackwardsText}
@@ -44,7 +45,7 @@ before_last (a ∷ b ∷ c ∷ d ∷ f ∷ g ∷ []) more e = let z : ◌≡◌ 
 before_last (a ∷ b ∷ c ∷ d ∷ f ∷ g ∷ h ∷ done) more e = absurd (omega (arith, ap length e, length-append done (Required.last ∷ more)))
 
 module _ (room : ℕ) (s : List ℕ) (d : ℕ) where
-  abbrev End : Values required → List Entry → ℕ → Type 0
+  abbrev End : Values required → List (Option ℤ) → ℕ → Type 0
   End vs es n = WrongEnd room (size_of vs) es n
 
   -- the fault is of a line with content, where the last key is due
@@ -84,14 +85,14 @@ module _ (room : ℕ) (s : List ℕ) (d : ℕ) where
           below = k.4;
         }
 
-    after_head : (es : List Entry) (line : Meaning) → WrongEntry mapping room es line backwards_range → ⊥
+    after_head : (es : List (Option ℤ)) (line : Meaning) → WrongEntry mapping room es line backwards_range → ⊥
     after_head es invalid w = omega (arith, w)
     after_head es blank w = w
     after_head es comment w = w
     after_head es (content m x) (inl w) = omega (arith, w.0)
     after_head es (content m x) (inr w) = omega (arith, w.0)
 
-    at_end : (top : ℕ) (es : List Entry) → WrongEnd room top es backwards_range → ⊥
+    at_end : (top : ℕ) (es : List (Option ℤ)) → WrongEnd room top es backwards_range → ⊥
     at_end top es (inl w) = omega (arith, w.0)
     at_end top es (inr (inl w)) = omega (arith, w.0)
     at_end top es (inr (inr w)) = omega (arith, w.0)

@@ -1,5 +1,7 @@
 -- THE LANGUAGE OF MAPPINGS IN 01'S WORDS, "the texts that draw none of 1 to 11, 13, 14 and 18", and 25 of 02: whatever the room, and in
 -- ample room, where none draws 12. Assumes nothing.
+use Rattle.std.specs.Prelude.{ℤ}
+use Rattle.std.specs.Prelude.{Option}
 use mathlib.Core.Path.{◌≡◌, refl, sym, ◌∙◌, ap}
 use mathlib.Core.List.{List}
 use mathlib.Core.Logic.{◌⊎◌, ◌↔◌, inl, inr}
@@ -9,7 +11,6 @@ use lib.ListN.{length}
 use Rattle.base.specs.Numbers.{no_room}
 use Rattle.base.specs.Said.{Said, gives, refuses}
 use Rattle.base.proofs.Said.{no_value}
-use Rattle.kbm.specs.declared.Entry.{Entry}
 use Rattle.kbm.specs.declared.Kbm.{Kbm}
 use Rattle.listing.specs.Drawn.{Ample}
 use Rattle.listing.proofs.Ample.{not_no_room, says_few, fault_drawn, fault_stays}
@@ -40,7 +41,7 @@ module _ (n : ℕ) where
   bad_drawn : (t : List ℕ) → NoEntry t n → DrawnOr25 n
   bad_drawn t w = early (omega (arith, w.0), omega (arith, w.0))
 
-  end_drawn : (room top : ℕ) (es : List Entry) → top ≤ room → WrongEnd room top es n → DrawnOr25 n
+  end_drawn : (room top : ℕ) (es : List (Option ℤ)) → top ≤ room → WrongEnd room top es n → DrawnOr25 n
   end_drawn room top es h (inl w) = absurd (omega (arith, w.2))
   end_drawn room top es h (inr (inl w)) = inl (inr (inl w.0))
   end_drawn room top es h (inr (inr w)) = inl (inr (inr (inl w.0)))
@@ -50,7 +51,7 @@ module _ (n : ℕ) where
   other (inl w) e = not_no_room n w e
   other (inr w) e = omega (arith, w)
 
-  end_stays : (room more top : ℕ) (es : List Entry) → (n ≡ no_room → ⊥) → WrongEnd room top es n → WrongEnd more top es n
+  end_stays : (room more top : ℕ) (es : List (Option ℤ)) → (n ≡ no_room → ⊥) → WrongEnd room top es n → WrongEnd more top es n
   end_stays room more top es other (inl w) = absurd (other w.0)
   end_stays room more top es other (inr w) = inr w
 
@@ -67,11 +68,11 @@ module _ (room : ℕ) (s : List ℕ) (a : Ample room s) where
   pub never_no_room : (d : ℕ) → read_of room s ≡ refuses no_room d → ⊥
   never_no_room d e = other no_room (ample_drawn no_room d ((refuses_fault room s no_room d).0 e)) refl
 
-  fits : {x : Kbm} {es : List Entry} → MappingText s x es → length es ≤ room
+  fits : {x : Kbm} {es : List (Option ℤ)} → MappingText s x es → length es ≤ room
   fits t = omega (arith, ap length t.entries, t.not_large, a)
 
   -- a text is accepted exactly when it is in the language, with this one reading
-  pub accepts_ample : (x : Kbm) (es : List Entry) → ((read_of room s ≡ gives x) × (entries_in x.count s ≡ es)) ↔ MappingText s x es
+  pub accepts_ample : (x : Kbm) (es : List (Option ℤ)) → ((read_of room s ≡ gives x) × (entries_in x.count s ≡ es)) ↔ MappingText s x es
   accepts_ample x es = (λ r. ((accepts room s x es).0 r).0, λ t. (accepts room s x es).1 (t, fits t))
 
   -- it is in the language, or has a fault of such a number

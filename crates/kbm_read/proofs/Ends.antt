@@ -1,18 +1,18 @@
 -- The end of a text, and the entries that its lines give, in the language's terms. Assumes nothing.
+use Rattle.std.specs.Prelude.{ℤ}
+use Rattle.std.specs.Prelude.{Option}
 use mathlib.Core.Path.{◌≡◌, refl, sym, ◌∙◌, ap}
 use mathlib.Core.Bool.{Bool, true, false}
-use mathlib.Core.List.{List, [], ◌∷◌, ◌++◌}
+use mathlib.Core.List.{List, [], ◌∷◌}
 use mathlib.Core.Logic.{inl, inr}
 use Prim.Native.Nat.{ℕ, zero, suc, ◌+◌, ◌-◌, ◌^◌, ◌≤◌, ◌<◌}
 use native.Mathlib.Omega.{arith}
 use lib.Dec.{ltb}
-use lib.IntN.{pos}
 use lib.ListN.{length, length-append}
 use borrow.Author.Tests.{lt-ltb, le-ltb, ltb-true, ltb-false}
 use Rattle.base.specs.Numbers.{no_room, too_large, inconsistent_count}
 use Rattle.base.specs.Said.{gives, refuses, pick}
 use Rattle.base.proofs.Said.{same_value, no_value, no_refusal, same_refuses}
-use Rattle.kbm.specs.declared.Entry.{Entry}
 use Rattle.kbm.specs.declared.Kbm.{Kbm}
 use Rattle.integers.proofs.AtLine.{int_below}
 use Rattle.listing.proofs.Given.{given_entries}
@@ -29,7 +29,7 @@ unfolding blanks
 length_blanks zero = refl
 length_blanks (suc n) = ap suc (length_blanks n)
 
-pub length_added : (n : ℕ) (es : List Entry) → length (added n es) ≡ length es + (n - length es)
+pub length_added : (n : ℕ) (es : List (Option ℤ)) → length (added n es) ≡ length es + (n - length es)
 length_added n es = length-append es (blanks (n - length es)) ∙ ap (λ x. length es + x) (length_blanks (n - length es))
 
 -- a size is below 65,536
@@ -37,11 +37,11 @@ size_below : (first : List (List ℕ)) (vs : Values required) → GiveAll unseen
 size_below [] vs g = absurd g
 size_below (t ∷ ts) vs g = int_below (2 ^ 16) t vs.0 g.0
 
-pub small_size : {ms : List Meaning} {vs : Values required} {es : List Entry} → Begins ms required vs es → size_of vs < 65536
+pub small_size : {ms : List Meaning} {vs : Values required} {es : List (Option ℤ)} → Begins ms required vs es → size_of vs < 65536
 small_size {vs = vs} b = size_below b.first vs b.values
 
 -- THE ENTRIES that the lines give are those of the language
-pub given_is : {ms : List Meaning} {vs : Values required} {es : List Entry} → Begins ms required vs es → given_from 7 ms ≡ es
+pub given_is : {ms : List Meaning} {vs : Values required} {es : List (Option ℤ)} → Begins ms required vs es → given_from 7 ms ≡ es
 given_is b = given_entries mapping (λ m t. listed (entry_in t)) (λ m t e x. ap listed (text_entry t e x)) b
 
 -- THE END, where nothing is required any more
@@ -50,7 +50,7 @@ pub record Accepted (room : ℕ) (h : Head) (n : ℕ) (x : Kbm) : Type 0 where
   pub not_more : n ≤ h.size
   pub is : mapping_of h ≡ x
 
-module _ (room : ℕ) (h : Head) (es : List Entry) where
+module _ (room : ℕ) (h : Head) (es : List (Option ℤ)) where
   pub end_gives : {x : Kbm} → finish_on room h es ≡ gives x → Accepted room h (length es) x
   end_gives {x} e = by_room (ltb room h.size) refl e
     where

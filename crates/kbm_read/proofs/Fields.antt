@@ -1,5 +1,6 @@
 -- What a required line is read as, and that this is what the language says of it: its value, or the first number of document
 -- 01's order. Assumes nothing.
+use Rattle.std.specs.Prelude.{Ok, Err, Result}
 use mathlib.Core.Path.{◌≡◌, refl, sym, ◌∙◌, ap}
 use mathlib.Core.Bool.{Bool, true, false}
 use mathlib.Core.List.{List}
@@ -19,8 +20,8 @@ use Rattle.decimals.specs.DecimalScan.{read_decimal}
 use Rattle.decimals.specs.DecimalText.{DecimalText}
 use Rattle.integers.specs.AtLine.{int_at}
 use Rattle.integers.specs.Integer.{read_int}
-use Rattle.decimals.specs.declared.DecimalAnswer.{DecimalAnswer}
-use Rattle.decimals.specs.declared.DecimalAnswer.TheVariants as decimal
+use Rattle.decimals.specs.declared.DecimalError.{DecimalError}
+use Rattle.decimals.specs.declared.DecimalError.TheVariants as decimal
 use Rattle.kbm_read.specs.Language.{Required, Seen, Value, Gives, Wrong}
 use Rattle.kbm_read.proofs.LastKey.{last_key_at, last_gives, gives_last, last_refuses, backwards_said}
 
@@ -68,10 +69,10 @@ read_gives Required.middle key k t v e = int_is int_value true (2 ^ 15) (lit< tt
 read_gives Required.reference key k t v e = int_is int_value true (2 ^ 15) (lit< tt) k t v e
 read_gives Required.pitch key k t v e = go (read_decimal t) refl e
   where
-    go : (x : DecimalAnswer) → read_decimal t ≡ x → and_then (says_decimal float_value k x) (pitch_of k) ≡ gives v → DecimalText t v × (in_pitch v ≡ true)
-    go (decimal.Is u) p q = let g = pitch_gives k u v q in rw (sym g.0) (gives_sound t u p, g.1)
-    go decimal.Unsupported p q = no_value q
-    go decimal.Bad p q = no_value q
+    go : (x : (Result Float DecimalError)) → read_decimal t ≡ x → and_then (says_decimal float_value k x) (pitch_of k) ≡ gives v → DecimalText t v × (in_pitch v ≡ true)
+    go (Ok u) p q = let g = pitch_gives k u v q in rw (sym g.0) (gives_sound t u p, g.1)
+    go (Err decimal.Unsupported) p q = no_value q
+    go (Err decimal.Bad) p q = no_value q
 read_gives Required.octave key k t v e = int_is int_value true (2 ^ 15) (lit< tt) k t v e
 
 pub gives_read : (f : Required) (key : Seen) (k : ℕ) (t : List ℕ) (v : Value f) → Gives f key t v → read_as f key k t ≡ gives v
@@ -95,10 +96,10 @@ read_wrong Required.middle key k t n d e = int_wrong int_value true (2 ^ 15) (li
 read_wrong Required.reference key k t n d e = int_wrong int_value true (2 ^ 15) (lit< tt) k t (λ z. z) e
 read_wrong Required.pitch key k t n d e = go (read_decimal t) refl e
   where
-    go : (x : DecimalAnswer) → read_decimal t ≡ x → and_then (says_decimal float_value k x) (pitch_of k) ≡ refuses n d → (d ≡ k) × Wrong Required.pitch key t n
-    go (decimal.Is u) p q = let g = pitch_refuses k u q in (g.0, inr (inr (g.1, u, gives_sound t u p, g.2)))
-    go decimal.Unsupported p q = let r = same_refuses q in (sym r.1, inr (inl (sym r.0, leaves_sound t p)))
-    go decimal.Bad p q = let r = same_refuses q in (sym r.1, inl (sym r.0, refuses_sound t p))
+    go : (x : (Result Float DecimalError)) → read_decimal t ≡ x → and_then (says_decimal float_value k x) (pitch_of k) ≡ refuses n d → (d ≡ k) × Wrong Required.pitch key t n
+    go (Ok u) p q = let g = pitch_refuses k u q in (g.0, inr (inr (g.1, u, gives_sound t u p, g.2)))
+    go (Err decimal.Unsupported) p q = let r = same_refuses q in (sym r.1, inr (inl (sym r.0, leaves_sound t p)))
+    go (Err decimal.Bad) p q = let r = same_refuses q in (sym r.1, inl (sym r.0, refuses_sound t p))
 read_wrong Required.octave key k t n d e = int_wrong int_value true (2 ^ 15) (lit< tt) k t (λ z. z) e
 
 pub wrong_read : (f : Required) (key : Seen) (k : ℕ) (t : List ℕ) (n : ℕ) → Wrong f key t n → read_as f key k t ≡ refuses n k

@@ -1,4 +1,5 @@
 -- The laws of the second pass: what stands in the table after each entry, and after the padding. Assumes nothing.
+use Rattle.std.specs.Prelude.{None, Some, Option}
 use mathlib.Core.Path.{◌≡◌, refl, sym, ◌∙◌, ap}
 use mathlib.Core.Bool.{Bool, true, false}
 use mathlib.Core.List.{List, [], ◌∷◌, ◌++◌, append_assoc, append-nil}
@@ -12,13 +13,10 @@ use Rattle.base.specs.Said.{pick}
 use Rattle.base.specs.Tables.{over}
 use Rattle.kbm.proofs.Table.{length_numbers}
 use Rattle.kbm.specs.Table.{unmapped, number_of, numbers_of}
-use Rattle.kbm.specs.declared.Entry.{Entry}
 use Rattle.listing.specs.Reader.{given_after}
 use Rattle.text.specs.Reading.{Meaning, invalid, blank, comment, content}
 use Rattle.kbm_read.specs.Language.{blanks}
 use Rattle.kbm_read.specs.Reader.{entry_in, found_entry, found_in, listed, given_from, padded}
-use Rattle.kbm_read.specs.declared.line.EntryRead.{EntryRead}
-use Rattle.kbm_read.specs.declared.line.EntryRead.TheVariants as entry
 use Rattle.kbm_read.specs.declared.line.Found.{Found}
 use Rattle.kbm_read.specs.declared.line.Found.TheVariants as found
 
@@ -28,12 +26,12 @@ over_snoc [] xs y h = absurd (omega arith)
 over_snoc (x ∷ d) [] y h = refl
 over_snoc (x ∷ d) (a ∷ xs) y h = ap (λ l. a ∷ l) (over_snoc d xs y (omega arith))
 
-pub numbers_append : (es fs : List Entry) → numbers_of (es ++ fs) ≡ numbers_of es ++ numbers_of fs
+pub numbers_append : (es fs : List (Option ℤ)) → numbers_of (es ++ fs) ≡ numbers_of es ++ numbers_of fs
 unfolding numbers_of
 numbers_append [] fs = refl
 numbers_append (e ∷ es) fs = ap (λ l. number_of e ∷ l) (numbers_append es fs)
 
-numbers_one : (e : Entry) → numbers_of (e ∷ []) ≡ number_of e ∷ []
+numbers_one : (e : (Option ℤ)) → numbers_of (e ∷ []) ≡ number_of e ∷ []
 unfolding numbers_of
 numbers_one e = refl
 
@@ -44,13 +42,13 @@ required_some n blank e = let z : ◌≡◌ {A = ℕ} 0 1 = cc in absurd (omega 
 required_some n comment e = let z : ◌≡◌ {A = ℕ} 0 1 = cc in absurd (omega arith)
 required_some n (content m t) e = go (ltb 0 n) refl (entry_in t) e
   where
-    go : (b : Bool) → ltb 0 n ≡ b → (r : EntryRead) → found.Required ≡ pick b found.Required (found_entry r) → 0 < n
+    go : (b : Bool) → ltb 0 n ≡ b → (r : (Option (Option ℤ))) → found.Required ≡ pick b found.Required (found_entry r) → 0 < n
     go true p r q = ltb-true 0 n p
-    go false p (entry.Is x) q = let z : ◌≡◌ {A = ℕ} 0 1 = cc in absurd (omega arith)
-    go false p entry.IsNot q = let z : ◌≡◌ {A = ℕ} 0 1 = cc in absurd (omega arith)
+    go false p (Some x) q = let z : ◌≡◌ {A = ℕ} 0 1 = cc in absurd (omega arith)
+    go false p None q = let z : ◌≡◌ {A = ℕ} 0 1 = cc in absurd (omega arith)
 
 -- what is given with one line more, by what the line gives
-abbrev with_found : Found → ℕ → List Meaning → List Entry
+abbrev with_found : Found → ℕ → List Meaning → List (Option ℤ)
 with_found (found.Is e) n ms = e ∷ given_from n ms
 with_found found.Required n ms = given_from (n - 1) ms
 with_found found.Nothing n ms = given_from n ms
@@ -63,14 +61,14 @@ given_turn n comment ms = refl
 given_turn (suc n) (content m t) ms = let z : suc n - 1 ≡ n = omega arith in rw (lt-ltb 0 (suc n) (omega arith), z)
 given_turn zero (content m t) ms = go (entry_in t)
   where
-    go : (r : EntryRead) → listed r ++ given_from 0 ms ≡ with_found (found_entry r) 0 ms
-    go (entry.Is e) = refl
-    go entry.IsNot = refl
+    go : (r : (Option (Option ℤ))) → listed r ++ given_from 0 ms ≡ with_found (found_entry r) 0 ms
+    go (Some e) = refl
+    go None = refl
 
 -- THE SECOND PASS ON LISTS: of what the lines say, ms, `rest` is left, with `left` required lines in it; the entries `done`, n of
 -- them, stand in the table, which was `old`
 pub record Filled (ms : List Meaning) (old : List ℤ) (left : ℕ) (rest : List Meaning) (map : List ℤ) (n : ℕ) : Type 0 where
-  pub done : List Entry
+  pub done : List (Option ℤ)
   pub whole : given_from 7 ms ≡ done ++ given_from left rest
   pub count : n ≡ length done
   pub table : map ≡ over old (numbers_of done)
@@ -89,7 +87,7 @@ module _ (ms : List Meaning) (old : List ℤ) where
 
     module _ {m : Meaning} {rest' : List Meaning} (q : rest ≡ m ∷ rest') {x : Found} (p : x ≡ found_in left m) where
       left_turn : {y : Found} → x ≡ y → given_from 7 ms ≡ f.done ++ with_found y left rest'
-      left_turn g = f.whole ∙ ap (λ (l : List Entry). f.done ++ l) (ap (given_from left) q ∙ given_turn left m rest' ∙ ap (λ z. with_found z left rest') (sym p ∙ g))
+      left_turn g = f.whole ∙ ap (λ (l : List (Option ℤ)). f.done ++ l) (ap (given_from left) q ∙ given_turn left m rest' ∙ ap (λ z. with_found z left rest') (sym p ∙ g))
 
       pub filled_nothing : x ≡ found.Nothing → Filled ms old left rest' map n
       filled_nothing g = record { done = f.done; whole = left_turn g; count = f.count; table = f.table }
@@ -97,7 +95,7 @@ module _ (ms : List Meaning) (old : List ℤ) where
       pub filled_required : x ≡ found.Required → Filled ms old (left - 1) rest' map n
       filled_required g = record { done = f.done; whole = left_turn g; count = f.count; table = f.table }
 
-      module _ {e : Entry} (g : x ≡ found.Is e) (fits : length (given_from 7 ms) ≤ length old) where
+      module _ {e : (Option ℤ)} (g : x ≡ found.Is e) (fits : length (given_from 7 ms) ≤ length old) where
         pub filled_place : n < length old
         filled_place = omega (arith, f.count, ap length (left_turn g), length-append f.done (e ∷ given_from left rest'))
 

@@ -1,5 +1,6 @@
 -- FORWARD (document 02, W8): a mapping file's first key is in its range; and "demand 3's language shrinks by these texts": it is the
 -- language but for this rule, without exactly those whose last key is below their first, which are refused by 25. Assumes nothing.
+use Rattle.std.specs.Prelude.{Option}
 use mathlib.Core.Path.{◌≡◌, refl, sym, subst}
 use mathlib.Core.Bool.{Bool, true, false}
 use mathlib.Core.List.{List, [], ◌∷◌, ◌++◌}
@@ -10,7 +11,6 @@ use lib.ListN.{length}
 use lib.Signed.{le_z, ◌≤ℤ◌, ◌<ℤ◌, clash_ℤ}
 use Rattle.base.specs.Said.{gives}
 use Rattle.base.proofs.Order.{at_most, below, before_end, end_after}
-use Rattle.kbm.specs.declared.Entry.{Entry}
 use Rattle.kbm.specs.declared.Kbm.{Kbm}
 use Rattle.listing.specs.Listing as listing
 use Rattle.listing.proofs.Parted.{word_at}
@@ -45,7 +45,7 @@ ordered (a ∷ b ∷ []) vs g = absurd g.1.1
 ordered (a ∷ b ∷ c ∷ ts) vs g = g.1.1.0.2
 
 -- A MAPPING FILE'S RANGE HAS A KEY: its first
-pub forward : {s : List ℕ} {k : Kbm} {es : List Entry} → MappingText s k es → k.start.0 <ℤ k.end.0
+pub forward : {s : List ℕ} {k : Kbm} {es : List (Option ℤ)} → MappingText s k es → k.start.0 <ℤ k.end.0
 forward t = rw t.mapping (after_last (ordered t.lines.first t.values t.lines.values))
 
 pub read_forward : (room : ℕ) (s : List ℕ) (k : Kbm) → read_of room s ≡ gives k → k.start.0 <ℤ k.end.0
@@ -77,7 +77,7 @@ narrow (a ∷ b ∷ c ∷ d ∷ e ∷ f ∷ []) vs g o = absurd g.1.1.1.1.1.1
 narrow (a ∷ b ∷ c ∷ d ∷ e ∷ f ∷ h ∷ []) vs (size, (first, (last, more))) o = (size, (first, ((last.0, last.1, o), more)))
 narrow (a ∷ b ∷ c ∷ d ∷ e ∷ f ∷ h ∷ i ∷ ts) vs g o = absurd g.1.1.1.1.1.1.1
 
-module _ {s : List ℕ} {k : Kbm} {es : List Entry} where
+module _ {s : List ℕ} {k : Kbm} {es : List (Option ℤ)} where
   -- THE LANGUAGE SHRANK: it is the one but for this rule, with the first key in the range
   pub shrinks : MappingText s k es ↔ (UnorderedText s k es × (k.start.0 <ℤ k.end.0))
   shrinks = (λ t. (any t, forward t), λ w. some w.0 w.1)

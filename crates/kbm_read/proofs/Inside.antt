@@ -1,6 +1,7 @@
 -- The detail of a fault is a line of the text, or of 2 which required line is missing; the places behind the last entry keep their
 -- values. Assumes nothing.
-use mathlib.Core.Path.{◌≡◌, sym, ◌∙◌, ap}
+use Rattle.std.specs.Prelude.{Option}
+use mathlib.Core.Path.{◌≡◌, sym, ap}
 use mathlib.Core.List.{List}
 use mathlib.Core.Logic.{inl, inr}
 use Prim.Native.Nat.{ℕ, ◌^◌, ◌≤◌, ◌<◌}
@@ -11,7 +12,6 @@ use lib.Seq.{drop-append_seam}
 use Rattle.base.specs.Tables.{over}
 use Rattle.kbm.proofs.Table.{length_numbers}
 use Rattle.kbm.specs.Table.{numbers_of}
-use Rattle.kbm.specs.declared.Entry.{Entry}
 use Rattle.kbm.specs.declared.Kbm.{Kbm}
 use Rattle.listing.specs.Refusals.{DetailOf}
 use Rattle.listing.proofs.Details.{lines_few, says_lines, fault_line}
@@ -33,13 +33,13 @@ detail_small {s} f h = elim (detail_line f (the_lines s)) [
 ]
 
 -- ---- what an accepted read leaves: its entries, and behind them what was there
-pub read_over : (text : List ℕ) (old : List ℤ) {k : Kbm} {es : List Entry} → MappingText text k es → length es ≤ length old →
+pub read_over : (text : List ℕ) (old : List ℤ) {k : Kbm} {es : List (Option ℤ)} → MappingText text k es → length es ≤ length old →
     after_read text old ≡ over old (numbers_of es)
 read_over text old {k} {es} t h =
     let a = (accepts (length old) text k es).1 (t, h) in
-    rw a.0 (ap (λ (l : List Entry). over old (numbers_of l)) a.1)
+    rw a.0 (ap (λ (l : List (Option ℤ)). over old (numbers_of l)) a.1)
 
-pub read_behind : (text : List ℕ) (old : List ℤ) {k : Kbm} {es : List Entry} → MappingText text k es → length es ≤ length old →
+pub read_behind : (text : List ℕ) (old : List ℤ) {k : Kbm} {es : List (Option ℤ)} → MappingText text k es → length es ≤ length old →
     drop (length es) (after_read text old) ≡ drop (length es) old
 read_behind text old {k} {es} t h =
     let n = length_numbers es in

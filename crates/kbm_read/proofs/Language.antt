@@ -1,5 +1,7 @@
 -- THE THEOREMS OF MAPPING FILES (document 01, "What the contracts settle", demand 3): given room, a text is accepted exactly when
 -- it is in the language, with its one reading; and it is refused exactly for its earliest fault. Assumes nothing.
+use Rattle.std.specs.Prelude.{ℤ}
+use Rattle.std.specs.Prelude.{Option}
 use mathlib.Core.Path.{◌≡◌, refl, sym, ◌∙◌, ap}
 use mathlib.Core.List.{List}
 use mathlib.Core.Logic.{◌↔◌}
@@ -8,7 +10,6 @@ use native.Mathlib.Omega.{arith}
 use lib.ListN.{length}
 use Rattle.base.specs.Said.{gives, refuses}
 use Rattle.base.proofs.Said.{same_value, same_refuses}
-use Rattle.kbm.specs.declared.Entry.{Entry}
 use Rattle.kbm.specs.declared.Kbm.{Kbm}
 use Rattle.listing.proofs.Language.{Good, at_start, accepts_good}
 use Rattle.listing.proofs.Language as listing
@@ -16,13 +17,13 @@ use Rattle.listing.proofs.Walks.{head_from, walk_on}
 use Rattle.text.proofs.LineLanguage.{strict_text, one_strict_text}
 use Rattle.text.specs.ReadLine.{said_in}
 use Rattle.text.specs.Reading.{Meaning}
-use Rattle.kbm_read.specs.Language.{required, Values, Begins, mapping, size_of, mapping_from, MappingText, WrongEnd, FaultText}
-use Rattle.kbm_read.specs.Reader.{mapping_of, unread, read_of, given_from, given_in, entries_in}
+use Rattle.kbm_read.specs.Language.{required, Values, Begins, mapping, size_of, MappingText, WrongEnd, FaultText}
+use Rattle.kbm_read.specs.Reader.{unread, read_of, given_from, given_in, entries_in}
 use Rattle.kbm_read.proofs.Ends.{length_added, small_size, given_is, end_gives, gives_end, end_wrong, wrong_end}
 use Rattle.kbm_read.proofs.Stands.{reads, finish_on, same_walk}
 
 -- the end, judged of lines of the language
-module _ (room : ℕ) (ms : List Meaning) (vs : Values required) (es : List Entry) (b : Begins ms required vs es) (f : length es ≤ room) where
+module _ (room : ℕ) (ms : List Meaning) (vs : Values required) (es : List (Option ℤ)) (b : Begins ms required vs es) (f : length es ≤ room) where
   ends_wrong : (n d : ℕ) → finish_on room (head_from mapping reads required unread.head vs) es ≡ refuses n d → (d ≡ 0) × WrongEnd room (size_of vs) es n
   ends_wrong n d e = end_wrong room (head_from mapping reads required unread.head vs) es f (small_size b) e
 
@@ -30,7 +31,7 @@ module _ (room : ℕ) (ms : List Meaning) (vs : Values required) (es : List Entr
   wrong_ends n w = wrong_end room (head_from mapping reads required unread.head vs) es f (small_size b) n w
 
 -- the entries of a text of the language are those that its lines give
-pub given_in_law : {s : List ℕ} {k : Kbm} {es : List Entry} (t : MappingText s k es) → given_in s ≡ t.given
+pub given_in_law : {s : List ℕ} {k : Kbm} {es : List (Option ℤ)} (t : MappingText s k es) → given_in s ≡ t.given
 given_in_law {s} t = ap (given_from 7) (one_strict_text s t.says t.text) ∙ given_is t.lines
 
 module _ (room : ℕ) (s : List ℕ) where
@@ -55,7 +56,7 @@ module _ (room : ℕ) (s : List ℕ) where
         omega (arith, a.room_for),
       )
 
-  text_good : {x : Kbm} {es : List Entry} (t : MappingText s x es) → length es ≤ room → Accepts x
+  text_good : {x : Kbm} {es : List (Option ℤ)} (t : MappingText s x es) → length es ≤ room → Accepts x
   text_good {x} {es} t f =
       let n = length_added (size_of t.values) t.given in
       let all = ap length t.entries in
@@ -73,11 +74,11 @@ module _ (room : ℕ) (s : List ℕ) where
   accepted x e = good_text x ((accepts_good mapping reads (finish_on room) room unread.head refl (said_in s) x).0 (sym (same_walk room (said_in s)) ∙ e))
 
   -- a text of the language is accepted, given room
-  pub in_language : {x : Kbm} {es : List Entry} → MappingText s x es → length es ≤ room → read_of room s ≡ gives x
+  pub in_language : {x : Kbm} {es : List (Option ℤ)} → MappingText s x es → length es ≤ room → read_of room s ≡ gives x
   in_language {x} t f = same_walk room (said_in s) ∙ (accepts_good mapping reads (finish_on room) room unread.head refl (said_in s) x).1 (text_good t f)
 
   -- ACCEPTED EXACTLY WHEN IN THE LANGUAGE, with this one reading: "acceptance and the one reading"
-  pub accepts : (x : Kbm) (es : List Entry) → ((read_of room s ≡ gives x) × (entries_in x.count s ≡ es)) ↔ (MappingText s x es × (length es ≤ room))
+  pub accepts : (x : Kbm) (es : List (Option ℤ)) → ((read_of room s ≡ gives x) × (entries_in x.count s ≡ es)) ↔ (MappingText s x es × (length es ≤ room))
   accepts x es = (forth, back)
     where
       forth : (read_of room s ≡ gives x) × (entries_in x.count s ≡ es) → MappingText s x es × (length es ≤ room)
@@ -110,7 +111,7 @@ module _ (room : ℕ) (s : List ℕ) where
           (listing.refuses_fault mapping reads (finish_on room) room unread.head refl (λ vs es c. WrongEnd room (size_of vs) es c) (ends_wrong room) (wrong_ends room) t.says n d).1 t.fault
 
 -- ONE READING: a text is a mapping file of one mapping and one list of entries
-pub one_reading : (s : List ℕ) (x y : Kbm) (es fs : List Entry) → MappingText s x es → MappingText s y fs → (x ≡ y) × (es ≡ fs)
+pub one_reading : (s : List ℕ) (x y : Kbm) (es fs : List (Option ℤ)) → MappingText s x es → MappingText s y fs → (x ≡ y) × (es ≡ fs)
 one_reading s x y es fs t u =
     let a = (accepts (length es + length fs) s x es).1 (t, omega arith) in
     let b = (accepts (length es + length fs) s y fs).1 (u, omega arith) in

@@ -1,7 +1,8 @@
 -- What `read_kbm` says is a mapping, one of document 01's numbers, or 25. Assumes nothing.
-use mathlib.Core.Bool.{Bool, true, false}
+use Rattle.std.specs.Prelude.{None, Some, Option, Ok, Err, Result, Float}
+use mathlib.Core.Bool.{true, false}
 use mathlib.Core.List.{List, [], ◌∷◌}
-use Prim.Native.Nat.{ℕ, ◌+◌, ◌^◌, ◌≤◌}
+use Prim.Native.Nat.{ℕ, ◌+◌, ◌^◌}
 use native.Mathlib.Omega.{arith}
 use lib.Dec.{leb, ltb}
 use lib.IntN.{ℤ, pos}
@@ -12,20 +13,17 @@ use Rattle.base.proofs.Said.{numbered_pick, numbered_then, or_pick, or_then}
 use Rattle.floats.specs.Ranges.{in_pitch}
 use Rattle.decimals.specs.Answers.{says_decimal}
 use Rattle.decimals.specs.DecimalScan.{read_decimal}
-use Rattle.decimals.specs.declared.DecimalAnswer.{DecimalAnswer}
-use Rattle.decimals.specs.declared.DecimalAnswer.TheVariants as decimal
+use Rattle.decimals.specs.declared.DecimalError.{DecimalError}
+use Rattle.decimals.specs.declared.DecimalError.TheVariants as decimal
 use Rattle.integers.specs.AtLine.{int_at}
 use Rattle.listing.specs.Reader.{walk_lines}
 use Rattle.text.specs.ReadLine.{said_in}
 use Rattle.integers.specs.Integer.{Int, value, none, read_int}
 use Rattle.text.specs.Reading.{Meaning, invalid, blank, comment, content}
-use Rattle.kbm.specs.declared.Kbm.{Kbm}
 use Rattle.kbm_read.specs.Steps.{last_taken}
 use Rattle.kbm_read.specs.Reader.{entry_placed, entry_in, take_due, take_token, take_meaning, which_of, mapping_of, finished, walk, unread, read_of}
 use Rattle.kbm_read.specs.declared.line.Due.{Due}
 use Rattle.kbm_read.specs.declared.line.Due.TheVariants as due
-use Rattle.kbm_read.specs.declared.line.EntryRead.{EntryRead}
-use Rattle.kbm_read.specs.declared.line.EntryRead.TheVariants as entry
 use Rattle.kbm_read.specs.declared.line.Head.{Head}
 use Rattle.kbm_read.specs.declared.line.State.{State}
 
@@ -33,14 +31,14 @@ int_numbered : (k : ℕ) (i : Int) → Numbered (int_at int_value k i)
 int_numbered k (value z) = Numbered.value z
 int_numbered k none = Numbered.number {n = 3} (omega arith) (omega arith)
 
-decimal_numbered : (k : ℕ) (x : DecimalAnswer) → Numbered (says_decimal float_value k x)
-decimal_numbered k (decimal.Is v) = Numbered.value v
-decimal_numbered k decimal.Unsupported = Numbered.number {n = 9} (omega arith) (omega arith)
-decimal_numbered k decimal.Bad = Numbered.number {n = 7} (omega arith) (omega arith)
+decimal_numbered : (k : ℕ) (x : (Result Float DecimalError)) → Numbered (says_decimal float_value k x)
+decimal_numbered k (Ok v) = Numbered.value v
+decimal_numbered k (Err decimal.Unsupported) = Numbered.number {n = 9} (omega arith) (omega arith)
+decimal_numbered k (Err decimal.Bad) = Numbered.number {n = 7} (omega arith) (omega arith)
 
-placed_numbered : (room k : ℕ) (s : State) (e : EntryRead) → Numbered (entry_placed room k s e)
-placed_numbered room k s (entry.Is e) = numbered_pick (leb room s.count) (Numbered.number (omega arith) (omega arith)) (Numbered.value _)
-placed_numbered room k s entry.IsNot = Numbered.number {n = 8} (omega arith) (omega arith)
+placed_numbered : (room k : ℕ) (s : State) (e : (Option (Option ℤ))) → Numbered (entry_placed room k s e)
+placed_numbered room k s (Some e) = numbered_pick (leb room s.count) (Numbered.number (omega arith) (omega arith)) (Numbered.value _)
+placed_numbered room k s None = Numbered.number {n = 8} (omega arith) (omega arith)
 
 -- the last key: 11, and 25 after it
 last_numbered : (k : ℕ) (h : Head) (z : ℤ) → NumberedOr backwards_range (last_taken k h z)

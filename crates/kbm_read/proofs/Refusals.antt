@@ -1,4 +1,6 @@
 -- WHATEVER A READ OF A MAPPING REFUSES WITH IS IN THE HEADER'S LIST. Assumes nothing.
+use Rattle.std.specs.Prelude.{ℤ}
+use Rattle.std.specs.Prelude.{Option}
 use mathlib.Core.Path.{◌≡◌, refl}
 use mathlib.Core.List.{List, [], ◌∷◌}
 use mathlib.Core.Logic.{inl, inr}
@@ -6,7 +8,6 @@ use Prim.Native.Nat.{ℕ, zero, suc, ◌≤◌}
 use native.Mathlib.Omega.{arith}
 use lib.ListN.{length}
 use Rattle.base.specs.Said.{refuses}
-use Rattle.kbm.specs.declared.Entry.{Entry}
 use Rattle.listing.specs.Refusals.{OneOf}
 use Rattle.listing.proofs.Details.{each_one}
 use Rattle.listing.proofs.Refusals.{DrawnAt, drawn_at}
@@ -42,7 +43,7 @@ wrong_line Required.octave key t n e = inr (inl e.0)
 bad_line : (t : List ℕ) (n : ℕ) → NoEntry t n → Line n
 bad_line t n e = inr (inr (inr (inl e.0)))
 
-wrong_end : (room top : ℕ) (es : List Entry) (n : ℕ) → WrongEnd room top es n → Last n
+wrong_end : (room top : ℕ) (es : List (Option ℤ)) (n : ℕ) → WrongEnd room top es n → Last n
 wrong_end room top es n (inl e) = inl e.0
 wrong_end room top es n (inr (inl e)) = inr (inl e.0)
 wrong_end room top es n (inr (inr e)) = inr (inr (inl e.0))
@@ -60,7 +61,7 @@ which (suc (suc (suc (suc (suc (suc (suc zero))))))) a b = inr (inr (inr (inr (i
 which (suc (suc (suc (suc (suc (suc (suc (suc k)))))))) a b = absurd (omega (arith, b))
 
 module _ {room : ℕ} {s : List ℕ} {n d : ℕ} (t : FaultText room s n d) where
-  abbrev End : Values required → List Entry → ℕ → Type 0
+  abbrev End : Values required → List (Option ℤ) → ℕ → Type 0
   End vs es k = WrongEnd room (size_of vs) es k
 
   pub fault_listed : MayRefuse s n d

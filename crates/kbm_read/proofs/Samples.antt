@@ -1,11 +1,11 @@
 -- Worked mapping files, computed: document 01's example of `kbmcopy`, and faults of it. Assumes nothing.
+use Rattle.std.specs.Prelude.{Some, None}
 use mathlib.Core.Path.{◌≡◌, refl}
 use mathlib.Core.List.{List, [], ◌∷◌, ◌++◌}
 use Prim.Native.Nat.{ℕ}
 use lib.Ieee.{binary64, of_bits, round, le}
 use lib.IntN.{pos}
 use Rattle.base.specs.Said.{gives, refuses}
-use Rattle.kbm.specs.declared.Entry.TheVariants.{Mapped, Unmapped}
 use Rattle.kbm.specs.declared.Kbm.{Kbm}
 use Rattle.key.specs.Keys.{key}
 use Rattle.numerals.specs.Scan.{spelled, scan_of}
@@ -57,7 +57,7 @@ sixty_alone =
 pub record Samples : Type 0 where
   -- with `0`, `X` after them it is read, and one entry is added as unmapped
   pub mapping : read_of 8 (seven ++ 48 ∷ 10 ∷ 88 ∷ 10 ∷ []) ≡ gives example
-  pub entries : entries_in 3 (seven ++ 48 ∷ 10 ∷ 88 ∷ 10 ∷ []) ≡ Mapped (pos 0) ∷ Unmapped ∷ Unmapped ∷ []
+  pub entries : entries_in 3 (seven ++ 48 ∷ 10 ∷ 88 ∷ 10 ∷ []) ≡ Some (pos 0) ∷ None ∷ None ∷ []
   -- with room for two the added entry has no place
   pub no_place : read_of 2 (seven ++ 48 ∷ 10 ∷ 88 ∷ 10 ∷ []) ≡ refuses 12 0
   -- `0`, `y`: the ninth line is no entry; and a comment before it counts

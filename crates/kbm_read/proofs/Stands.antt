@@ -1,9 +1,10 @@
 -- The reader's walk is the walk of the format: its state stands to a place by what is due, what was said, and how many entries were
 -- given. Assumes nothing.
+use Rattle.std.specs.Prelude.{None, Some, Option, Ok, Err, Result}
 use mathlib.Core.Path.{◌≡◌, refl, sym, ◌∙◌, ap}
 use mathlib.Core.Bool.{Bool, true, false}
 use mathlib.Core.List.{List, [], ◌∷◌, ◌++◌}
-use Prim.Native.Nat.{ℕ, zero, suc, ◌+◌, ◌^◌}
+use Prim.Native.Nat.{ℕ, ◌+◌, ◌^◌}
 use native.Mathlib.Omega.{arith}
 use lib.Dec.{leb, ltb}
 use lib.Ieee.{Float}
@@ -13,14 +14,13 @@ use lib.Signed.{le_z}
 use Rattle.base.specs.Numbers.{int_value, line_missing, float_value, keyboard_mapping, unusable, overflow, no_room, too_large, inconsistent_count, backwards_range}
 use Rattle.base.specs.Said.{Said, gives, refuses, pick, and_then}
 use Rattle.floats.specs.Ranges.{in_pitch}
-use Rattle.kbm.specs.declared.Entry.{Entry}
 use Rattle.kbm.specs.declared.Kbm.{Kbm}
 use Rattle.decimals.specs.Answers.{says_decimal}
 use Rattle.decimals.specs.DecimalScan.{read_decimal}
 use Rattle.integers.specs.AtLine.{int_at}
 use Rattle.integers.specs.Integer.{Int, value, none, read_int}
-use Rattle.decimals.specs.declared.DecimalAnswer.{DecimalAnswer}
-use Rattle.decimals.specs.declared.DecimalAnswer.TheVariants as decimal
+use Rattle.decimals.specs.declared.DecimalError.{DecimalError}
+use Rattle.decimals.specs.declared.DecimalError.TheVariants as decimal
 use Rattle.listing.proofs.Given.{Alike}
 use Rattle.listing.proofs.Given as walks
 use Rattle.listing.proofs.Language.{at_start}
@@ -30,8 +30,6 @@ use Rattle.kbm_read.specs.Language.{Required, Value, required, see, mapping}
 use Rattle.kbm_read.specs.Reader.{goes_on, entry_placed, entry_in, take_due, take_token, take_meaning, which_of, mapping_of, finished, unread, walk}
 use Rattle.kbm_read.specs.declared.line.Due.{Due}
 use Rattle.kbm_read.specs.declared.line.Due.TheVariants as due
-use Rattle.kbm_read.specs.declared.line.EntryRead.{EntryRead}
-use Rattle.kbm_read.specs.declared.line.EntryRead.TheVariants as entry
 use Rattle.kbm_read.specs.declared.line.Head.{Head}
 use Rattle.kbm_read.specs.declared.line.State.{State}
 use Rattle.kbm_read.proofs.EntryTexts.{entry_text, text_entry, no_entry, entry_none}
@@ -60,17 +58,17 @@ seen_put Required.pitch h v = refl
 seen_put Required.octave h v = refl
 
 -- an entry at line k, or 8
-abbrev pub entry_said : ℕ → EntryRead → Said Entry
-entry_said k (entry.Is e) = gives e
-entry_said k entry.IsNot = refuses keyboard_mapping k
+abbrev pub entry_said : ℕ → (Option (Option ℤ)) → Said (Option ℤ)
+entry_said k (Some e) = gives e
+entry_said k None = refuses keyboard_mapping k
 
-pub said_is : (k : ℕ) (r : EntryRead) (e : Entry) → entry_said k r ≡ gives e → r ≡ entry.Is e
-said_is k (entry.Is x) e q = ap entry.Is (same_value x e q)
-said_is k entry.IsNot e q = no_value q
+pub said_is : (k : ℕ) (r : (Option (Option ℤ))) (e : (Option ℤ)) → entry_said k r ≡ gives e → r ≡ Some e
+said_is k (Some x) e q = ap Some (same_value x e q)
+said_is k None e q = no_value q
 
-pub said_not : (k : ℕ) (r : EntryRead) (n d : ℕ) → entry_said k r ≡ refuses n d → (d ≡ k) × (n ≡ keyboard_mapping) × (r ≡ entry.IsNot)
-said_not k (entry.Is x) n d q = no_refusal q
-said_not k entry.IsNot n d q = let r = same_refuses q in (sym r.1, sym r.0, refl)
+pub said_not : (k : ℕ) (r : (Option (Option ℤ))) (n d : ℕ) → entry_said k r ≡ refuses n d → (d ≡ k) × (n ≡ keyboard_mapping) × (r ≡ None)
+said_not k (Some x) n d q = no_refusal q
+said_not k None n d q = let r = same_refuses q in (sym r.1, sym r.0, refl)
 
 -- HOW A MAPPING IS READ
 abbrev pub reads : Reads mapping
@@ -121,7 +119,7 @@ record Stands (s : State) (p : Place mapping reads) : Type 0 where
   early : Early s.due s.count
 
 -- A REQUIRED LINE, where no entry was given
-module _ (k : ℕ) (es : List Entry) (z : length es ≡ 0) (d : Due) (start : Early d 0) where
+module _ (k : ℕ) (es : List (Option ℤ)) (z : length es ≡ 0) (d : Due) (start : Early d 0) where
   goes : (h : Head) → Stands (record { due = d; head = h; count = 0 }) (record { fields = fields_from d; head = h; es = es })
   goes h = record { fields = refl; head = refl; count = sym z; early = start }
 
@@ -146,21 +144,21 @@ module _ (k : ℕ) (es : List Entry) (z : length es ≡ 0) (d : Due) (start : Ea
       go false false = Alike.refusals _ _
   last_alike key none w = Alike.refusals _ _
 
-  pitch_alike : (x : DecimalAnswer) (w : Float → Head) →
+  pitch_alike : (x : (Result Float DecimalError)) (w : Float → Head) →
       Alike Stands (and_then (says_decimal float_value k x) (λ v. pick (in_pitch v) (goes_on d (w v)) (refuses unusable k)))
       (and_then (and_then (says_decimal float_value k x) (pitch_of k)) (λ a. gives (record { fields = fields_from d; head = w a; es = es })))
-  pitch_alike (decimal.Is v) w = go (in_pitch v)
+  pitch_alike (Ok v) w = go (in_pitch v)
     where
       go : (b : Bool) → Alike Stands (pick b (goes_on d (w v)) (refuses unusable k)) (and_then (pick b (gives v) (refuses unusable k)) (λ a. gives (record { fields = fields_from d; head = w a; es = es })))
       go true = Alike.values _ _ (goes (w v))
       go false = Alike.refusals _ _
-  pitch_alike decimal.Unsupported w = Alike.refusals _ _
-  pitch_alike decimal.Bad w = Alike.refusals _ _
+  pitch_alike (Err decimal.Unsupported) w = Alike.refusals _ _
+  pitch_alike (Err decimal.Bad) w = Alike.refusals _ _
 
 -- AN ENTRY
-entry_alike : (room k : ℕ) (s : State) (es : List Entry) → s.count ≡ length es → (r : EntryRead) →
+entry_alike : (room k : ℕ) (s : State) (es : List (Option ℤ)) → s.count ≡ length es → (r : (Option (Option ℤ))) →
     Alike Stands (entry_placed room k s r) (and_then (entry_said k r) (placed mapping reads room k s.head es))
-entry_alike room k s es c (entry.Is e) = rw (sym c) (go (leb room s.count))
+entry_alike room k s es c (Some e) = rw (sym c) (go (leb room s.count))
   where
     go : (b : Bool) →
         Alike Stands (pick b (refuses no_room k) (gives (record { due = due.Entries; head = s.head; count = s.count + 1 })))
@@ -168,10 +166,10 @@ entry_alike room k s es c (entry.Is e) = rw (sym c) (go (leb room s.count))
     go true = Alike.refusals _ _
     go false = Alike.values (record { due = due.Entries; head = s.head; count = s.count + 1 }) (record { fields = []; head = s.head; es = es ++ e ∷ [] })
         (record { fields = refl; head = refl; count = omega (arith, c, length-append es (e ∷ [])); early = tt })
-entry_alike room k s es c entry.IsNot = Alike.refusals keyboard_mapping k
+entry_alike room k s es c None = Alike.refusals keyboard_mapping k
 
 -- THE LINE THAT IS DUE
-due_alike : (room k : ℕ) (t : List ℕ) (s : State) (es : List Entry) → s.count ≡ length es → (d : Due) → Early d s.count →
+due_alike : (room k : ℕ) (t : List ℕ) (s : State) (es : List (Option ℤ)) → s.count ≡ length es → (d : Due) → Early d s.count →
     Alike Stands (take_due room k t s d) (word_on mapping reads room k t s.head es (fields_from d))
 due_alike room k t s es c due.Size z = int_alike k es (sym c ∙ z) due.FirstKey refl (read_int false (2 ^ 16) t) nat_abs (with_field Required.size s.head)
 due_alike room k t s es c due.FirstKey z = int_alike k es (sym c ∙ z) due.LastKey refl (read_int true (2 ^ 31) t) (λ y. y) (with_field Required.first s.head)
@@ -190,7 +188,7 @@ steps room k comment s p x = Alike.values s p x
 steps room k (content m t) s p x = rw (x.fields, x.head) (due_alike room k t s p.es x.count s.due x.early)
 
 -- THE END
-abbrev pub finish_on : ℕ → Head → List Entry → Said Kbm
+abbrev pub finish_on : ℕ → Head → List (Option ℤ) → Said Kbm
 finish_on room h es =
     pick (ltb room h.size) (refuses no_room 0)
     (pick (ltb 65535 (length es)) (refuses too_large 0)

@@ -7,7 +7,7 @@ use Prim.Native.Nat.{ℕ, ◌^◌}
 use native.Mathlib.Omega.{arith}
 use lib.Dec.{lit<, lit≤}
 use lib.Ieee.{binary64, of_bits, round, le}
-use lib.IntN.{ℤ, pos}
+use lib.IntN.{pos}
 use lib.Signed.{le_z_yes, ◌≤ℤ◌}
 use Rattle.integers.proofs.Language.{sound}
 use Rattle.integers.specs.Integer.{scan, magnitude_of, read_signed}

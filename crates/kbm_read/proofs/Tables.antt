@@ -1,21 +1,20 @@
 -- WHAT AN ACCEPTED READ LEAVES in the table passes every later call's test of it, and is read back as the mapping's entries.
 -- Assumes nothing.
+use Rattle.std.specs.Prelude.{Option}
 use mathlib.Core.Path.{◌≡◌, sym, ◌∙◌, ap}
-use mathlib.Core.Bool.{true, ◌&&◌}
+use mathlib.Core.Bool.{true}
 use mathlib.Core.List.{List, [], ◌∷◌, ◌++◌}
 use Prim.Native.Nat.{ℕ, zero, suc, ◌-◌, ◌^◌, ◌≤◌}
 use native.Mathlib.Omega.{arith}
 use lib.Dec.{leb, lit≤}
-use lib.IntN.{ℤ, pos, negsuc}
+use lib.IntN.{ℤ}
 use lib.ListN.{length, take, drop, length-append}
-use lib.Signed.{le_z}
 use lib.Seq.{take-append-le, take-length}
 use borrow.Author.Tests.{le-leb}
 use Rattle.base.specs.Said.{gives}
 use Rattle.base.specs.Tables.{over}
 use Rattle.kbm.proofs.Table.{length_numbers, numbers_usable, numbers_back}
 use Rattle.kbm.specs.Table.{numbers_of, IsI16, AreI16, is_table, table_of}
-use Rattle.kbm.specs.declared.Entry.{Entry}
 use Rattle.kbm.specs.declared.Kbm.{Kbm}
 use Rattle.integers.proofs.AtLine.{typed_int}
 use Rattle.kbm_read.specs.Language.{EntryText, Entries, blanks, size_of, MappingText}
@@ -24,12 +23,12 @@ use Rattle.kbm_read.proofs.Ends.{length_added}
 use Rattle.kbm_read.proofs.Language.{accepted, accepts}
 
 -- so a degree is of 16 bits
-typed_text : (t : List ℕ) (e : Entry) → EntryText t e → IsI16 e
+typed_text : (t : List ℕ) (e : (Option ℤ)) → EntryText t e → IsI16 e
 typed_text t e (EntryText.small p) = tt
 typed_text t e (EntryText.large p) = tt
 typed_text t e (EntryText.degree z i) = typed_int (2 ^ 15) 32767 (lit≤ tt) i
 
-pub typed_all : (ts : List (List ℕ)) (es : List Entry) → Entries ts es → AreI16 es
+pub typed_all : (ts : List (List ℕ)) (es : List (Option ℤ)) → Entries ts es → AreI16 es
 typed_all [] [] x = tt
 typed_all [] (e ∷ es) x = absurd x
 typed_all (t ∷ ts) [] x = absurd x
@@ -40,16 +39,16 @@ unfolding blanks
 typed_blanks zero = tt
 typed_blanks (suc n) = (tt, typed_blanks n)
 
-typed_both : (es fs : List Entry) → AreI16 es → AreI16 fs → AreI16 (es ++ fs)
+typed_both : (es fs : List (Option ℤ)) → AreI16 es → AreI16 fs → AreI16 (es ++ fs)
 typed_both [] fs a b = b
 typed_both (e ∷ es) fs a b = (a.0, typed_both es fs a.1 b)
 
 -- the entries of a text of the language are of 16 bits
-pub text_typed : {s : List ℕ} {k : Kbm} {es : List Entry} → MappingText s k es → AreI16 es
+pub text_typed : {s : List ℕ} {k : Kbm} {es : List (Option ℤ)} → MappingText s k es → AreI16 es
 text_typed t = rw t.entries (typed_both t.given _ (typed_all t.lines.rest t.given t.lines.entries) (typed_blanks (size_of t.values - length t.given)))
 
 -- entries written over a table that has room for them
-over_table : (old : List ℤ) (es : List Entry) → AreI16 es → length es ≤ length old →
+over_table : (old : List ℤ) (es : List (Option ℤ)) → AreI16 es → length es ≤ length old →
     (is_table (length es) (over old (numbers_of es)) ≡ true) × (table_of (length es) (over old (numbers_of es)) ≡ es)
 over_table old es a h =
     let xs = numbers_of es in
@@ -71,7 +70,7 @@ module _ (text : List ℕ) (old : List ℤ) {x : Kbm} (e : read_of (length old) 
       rw e (rw n at r)
 
 -- the same by the language: what is left are the entries that the text says
-pub leaves_meaning : (text : List ℕ) (old : List ℤ) (x : Kbm) (es : List Entry) → MappingText text x es → length es ≤ length old →
+pub leaves_meaning : (text : List ℕ) (old : List ℤ) (x : Kbm) (es : List (Option ℤ)) → MappingText text x es → length es ≤ length old →
     (is_table x.count (after_read text old) ≡ true) × (table_of x.count (after_read text old) ≡ es)
 leaves_meaning text old x es t h =
     let a = (accepts (length old) text x es).1 (t, h) in

@@ -1,40 +1,32 @@
 -- The laws of what a line adds: what a numeral's reader answered, and what a match made of it. Assumes nothing.
-use mathlib.Core.Path.{◌≡◌, refl}
+use Rattle.std.specs.Prelude.{None, Some, Option}
+use mathlib.Core.Path.{◌≡◌, ap}
 use mathlib.Core.Bool.{Bool, true, false}
-use mathlib.Core.List.{List, [], ◌∷◌}
-use mathlib.Core.Logic.{inl, inr}
+use mathlib.Core.List.{List}
 use Prim.Native.Nat.{ℕ, zero, suc, ◌+◌, ◌^◌, ◌≤◌, ◌<◌}
 use native.Mathlib.Omega.{arith}
 use lib.Ieee.{Float}
 use lib.IntN.{ℤ, pos, negsuc, ◌+ℤ◌}
-use lib.ListN.{length, get_or}
 use lib.Signed.{le_z}
 use mir.Syntax.{w32}
 use mir.Val.{SFits}
-use borrow.Author.Tests.{ne_eqb, lt-ltb, le-ltb, le-leb, lt-leb, leb-false}
-use denote.Enum.Declared.{tag_of}
-use Rattle.base.specs.Numbers.{keyboard_mapping, unusable, overflow, no_room, backwards_range}
-use Rattle.base.specs.Said.{gives, refuses}
+use borrow.Author.Tests.{lt-ltb, le-ltb, le-leb, lt-leb, leb-false}
+use Rattle.base.specs.Numbers.{float_value, keyboard_mapping, unusable, overflow, no_room, backwards_range}
+use Rattle.base.specs.Said.{Said, gives, refuses, refusal, and_then}
+use Rattle.base.specs.declared.Refusal.{Refusal}
+use Rattle.decimals.specs.Answers.{says_decimal}
 use Rattle.floats.specs.Ranges.{in_pitch}
 use Rattle.decimals.specs.DecimalScan.{read_decimal}
-use Rattle.integers.specs.Integer.{read_int, i16_of}
-use Rattle.decimals.specs.declared.DecimalAnswer.{DecimalAnswer}
-use Rattle.decimals.specs.declared.DecimalAnswer.TheVariants as decimal
-use Rattle.integers.specs.declared.I16.{I16}
-use Rattle.decimals.specs.contracts.DecimalAnswer.{the_type}
+use Rattle.integers.specs.Integer.{Int, read_int}
 use Rattle.text.specs.Part.{part}
 use Rattle.text.specs.ReadLine.{shown}
 use Rattle.text.specs.declared.line.LineSays.{LineSays}
 use Rattle.text.specs.declared.line.LineSays.TheVariants.{Content}
-use Rattle.kbm.specs.declared.Entry.{Entry}
-use Rattle.kbm.specs.declared.Entry.TheVariants.{Unmapped}
-use Rattle.kbm_read.specs.Steps.{goes_on, last_taken, decimal_refused, reference_pitch_said, take_pitch, take_entry, take_due, take_token, take_meaning, is_cross, degree_in, entry_in, found_entry, found_in}
+use Rattle.kbm_read.specs.Steps.{goes_on, last_taken, take_pitch, take_entry, take_due, take_token, take_meaning, is_cross, degree_in, entry_in, found_entry, found_in}
 use Rattle.kbm_read.specs.declared.line.Due.{Due}
 use Rattle.kbm_read.specs.declared.line.Due.TheVariants as due
 use Rattle.kbm_read.specs.declared.line.Found.TheVariants as found
 use Rattle.kbm_read.specs.declared.line.Head.{Head}
-use Rattle.kbm_read.specs.declared.line.EntryRead.{EntryRead}
-use Rattle.kbm_read.specs.declared.line.EntryRead.TheVariants as entry
 use Rattle.kbm_read.specs.declared.line.State.{State}
 
 -- a key that is not the largest has one after it
@@ -56,33 +48,35 @@ module _ (k : ℕ) (h : Head) (z : ℤ) where
   last_backwards f g = rw (f, g)
 
 -- the reference pitch: a decimal is refused by its answer, or has its value tested
-module _ (k : ℕ) (t : List ℕ) (h : Head) {x : DecimalAnswer} (e : x ≡ read_decimal t) where
-  pub pitch_refused : ((v : Float) → x ≡ decimal.Is v → ⊥) → decimal_refused k x ≡ take_pitch k t h
-  pitch_refused o = rw (← e) (go x o)
-    where
-      go : (y : DecimalAnswer) → ((v : Float) → y ≡ decimal.Is v → ⊥) → decimal_refused k y ≡ reference_pitch_said k h y
-      go (decimal.Is v) n = absurd (n v refl)
-      go decimal.Unsupported n = refl
-      go decimal.Bad n = refl
+module _ (k : ℕ) (t : List ℕ) (h : Head) where
+  pub pitch_refused : (r : Refusal) → refusal r ≡ says_decimal float_value k (read_decimal t) → refusal r ≡ take_pitch k t h
+  pitch_refused r e = rw (← e)
 
-  module _ {v : Float} (q : x ≡ decimal.Is v) {b : Bool} (p : b ≡ in_pitch v) where
+  module _ {v : Float} (e : gives v ≡ says_decimal float_value k (read_decimal t)) {b : Bool} (p : b ≡ in_pitch v) where
     pub pitch_is : b ≡ true → goes_on due.Octave (record { size = h.size; first = h.first; end = h.end; middle = h.middle; reference = h.reference; hz = v; octave = h.octave }) ≡ take_pitch k t h
-    pitch_is f = rw (← e, q, ← p, f)
+    pitch_is f = rw (← e, ← p, f)
 
     pub pitch_out : b ≡ false → refuses unusable k ≡ take_pitch k t h
-    pitch_out f = rw (← e, q, ← p, f)
+    pitch_out f = rw (← e, ← p, f)
 
 -- an entry: r is what `read_entry` answered
-module _ (room k : ℕ) (t : List ℕ) (s : State) {r : EntryRead} (e : r ≡ entry_in t) where
-  pub entry_none : r ≡ entry.IsNot → refuses keyboard_mapping k ≡ take_entry room k t s
+module _ (room k : ℕ) (t : List ℕ) (s : State) {r : (Option (Option ℤ))} (e : r ≡ entry_in t) where
+  pub entry_none : r ≡ None → refuses keyboard_mapping k ≡ take_entry room k t s
   entry_none q = rw (← e, q)
 
-  module _ {x : Entry} (q : r ≡ entry.Is x) where
+  module _ {x : (Option ℤ)} (q : r ≡ Some x) where
     pub entry_full : room ≤ s.count → refuses no_room k ≡ take_entry room k t s
     entry_full f = rw (← e, q, le-leb room s.count f)
 
     pub entry_more : s.count < room → gives (record { due = due.Entries; head = s.head; count = s.count + 1 }) ≡ take_entry room k t s
     entry_more f = rw (← e, q, lt-leb room s.count f)
+
+-- a step goes on from what is said, or refuses
+pub said_err : {A B : Type 0} (f : A → Said B) (r : Refusal) {s : Said A} → refusal r ≡ s → refusal r ≡ and_then s f
+said_err f r e = ap (λ s. and_then s f) e
+
+pub said_ok : {A B : Type 0} (f : A → Said B) {a : A} {s : Said A} → gives a ≡ s → f a ≡ and_then s f
+said_ok f e = ap (λ s. and_then s f) e
 
 -- the line that is due
 pub due_step : (room k : ℕ) (t : List ℕ) (s : State) {d : Due} → s.due ≡ d → take_due room k t s d ≡ take_token room k t s
@@ -94,32 +88,14 @@ pub meaning_step : (room k : ℕ) (text : List ℕ) (s : State) {x y : LineSays}
 meaning_step room k text s e = rw e
 
 -- `x` and `X`
-pub small_cross : (t : List ℕ) → length t ≡ 1 → get_or t 0 0 ≡ 120 → entry.Is Unmapped ≡ entry_in t
+pub cross_is : (t : List ℕ) → is_cross t ≡ true → Some None ≡ entry_in t
 unfolding entry_in
-small_cross [] n e = absurd (omega arith)
-small_cross (b ∷ []) n e = rw e
-small_cross (b ∷ c ∷ t) n e = absurd (omega arith)
-
-pub large_cross : (t : List ℕ) → length t ≡ 1 → get_or t 0 0 ≡ 88 → entry.Is Unmapped ≡ entry_in t
-unfolding entry_in
-large_cross [] n e = absurd (omega arith)
-large_cross (b ∷ []) n e = rw e
-large_cross (b ∷ c ∷ t) n e = absurd (omega arith)
-
-pub no_cross : (t : List ℕ) → (length t ≡ 1 → ⊥) → is_cross t ≡ false
-no_cross [] n = refl
-no_cross (b ∷ []) n = absurd (n refl)
-no_cross (b ∷ c ∷ t) n = refl
-
-pub other_byte : (t : List ℕ) → length t ≡ 1 → (get_or t 0 0 ≡ 120 → ⊥) → (get_or t 0 0 ≡ 88 → ⊥) → is_cross t ≡ false
-other_byte [] n x y = refl
-other_byte (b ∷ []) n x y = rw (ne_eqb b 120 x, ne_eqb b 88 y)
-other_byte (b ∷ c ∷ t) n x y = refl
+cross_is t e = rw e
 
 -- any other token is an i16 or none
-pub degree_is : (t : List ℕ) → is_cross t ≡ false → {r r' : I16} → i16_of r ≡ read_int true (2 ^ 15) t → r ≡ r' → degree_in (i16_of r') ≡ entry_in t
+pub degree_is : (t : List ℕ) → is_cross t ≡ false → {i : Int} → i ≡ read_int true (2 ^ 15) t → degree_in i ≡ entry_in t
 unfolding entry_in
-degree_is t n e q = rw (n, ← e, q)
+degree_is t n {i} e = rw (n, ← e)
 
 -- what a line gives the table, as a match told it
 module _ (n : ℕ) (text : List ℕ) {x : LineSays} where
@@ -130,5 +106,5 @@ module _ (n : ℕ) (text : List ℕ) {x : LineSays} where
     pub found_required : 0 < n → found.Required ≡ found_in n (shown text x)
     found_required h = rw (q, lt-ltb 0 n h)
 
-    pub found_entry_law : n ≤ 0 → {r r' : EntryRead} → r ≡ entry_in (part text a t) → r ≡ r' → found_entry r' ≡ found_in n (shown text x)
+    pub found_entry_law : n ≤ 0 → {r r' : (Option (Option ℤ))} → r ≡ entry_in (part text a t) → r ≡ r' → found_entry r' ≡ found_in n (shown text x)
     found_entry_law h p g = rw (q, le-ltb 0 n h, ← p, g)

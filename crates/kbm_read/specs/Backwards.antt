@@ -1,9 +1,8 @@
 -- A BACKWARDS RANGE, document 02, W8: "Refuse a mapping whose last key is below its first. The Rust accepts it; demand 3's language shrinks
 -- by these texts [..] 25, at the last-key line, after 3 and 11 there". Which texts draw 25; and the language but for this rule, which has
 -- them where nothing else is wrong. No reader is named here. Assumes nothing.
-use Rattle.std.specs.Prelude.{◌≡◌, true, List, [], ◌∷◌, ◌++◌, ℕ, ◌+◌, ◌^◌, ◌≤◌, ℤ, pos, length, ◌<ℤ◌}
+use Rattle.std.specs.Prelude.{◌≡◌, true, List, [], ◌∷◌, ◌++◌, ℕ, ◌+◌, ◌^◌, ◌≤◌, ℤ, pos, length, ◌<ℤ◌, Option}
 use Rattle.integers.specs.IntegerText.{IntText}
-use Rattle.kbm.specs.declared.Entry.{Entry}
 use Rattle.kbm.specs.declared.Kbm.{Kbm}
 use Rattle.listing.specs.Listing.{Format, GiveAll}
 use Rattle.text.specs.Reading.{Meaning, content, Says, strict}
@@ -52,13 +51,13 @@ unordered = record {
   see = mapping.see;
   Gives = Unordered;
   Wrong = λ f key t n. ⊥;
-  Entry = Entry;
+  Entry = Option ℤ;
   Is = mapping.Is;
   Bad = λ t n. ⊥;
 }
 
 -- the text s is a mapping file of k with the entries es, if its keys may stand in any order
-pub record UnorderedText (s : List ℕ) (k : Kbm) (es : List Entry) : Type 0 where
+pub record UnorderedText (s : List ℕ) (k : Kbm) (es : List (Option ℤ)) : Type 0 where
   pub says : List Meaning
   pub text : Says strict s says
   pub first : List (List ℕ)
@@ -66,7 +65,7 @@ pub record UnorderedText (s : List ℕ) (k : Kbm) (es : List Entry) : Type 0 whe
   pub tokens : Tokens says (first ++ rest)
   pub values : Values required
   pub head : GiveAll unordered unseen required first values
-  pub given : List Entry
+  pub given : List (Option ℤ)
   pub are : Entries rest given
   pub not_large : length (added (size_of values) given) ≤ 65535
   pub consistent : length given ≤ size_of values

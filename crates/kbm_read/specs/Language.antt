@@ -1,11 +1,9 @@
 -- THE LANGUAGE OF MAPPINGS, document 01, "Lines" and "Mapping", and document 02, W8: which texts are mapping files, what one says, and
 -- the earliest fault of any other. No reader is named here. Assumes nothing.
-use Rattle.std.specs.Prelude.{◌≡◌, Bool, true, false, List, [], ◌∷◌, ◌++◌, ◌⊎◌, ℕ, zero, suc, ◌+◌, ◌-◌, ◌^◌, ◌≤◌, ◌<◌, Float, ℤ, pos, ◌+ℤ◌, ◌-ℤ◌, length, ◌≤ℤ◌, ◌<ℤ◌}
+use Rattle.std.specs.Prelude.{◌≡◌, true, false, List, [], ◌∷◌, ◌++◌, ◌⊎◌, ℕ, zero, suc, ◌-◌, ◌^◌, ◌≤◌, ◌<◌, Float, ℤ, pos, ◌+ℤ◌, ◌-ℤ◌, length, ◌≤ℤ◌, ◌<ℤ◌, Some, None, Option}
 use Rattle.base.specs.Numbers.{int_value, float_value, keyboard_mapping, unsupported_numeral, unusable, overflow, no_room, too_large, inconsistent_count}
 use Rattle.base.specs.Numbers.{backwards_range}
 use Rattle.floats.specs.Ranges.{in_pitch}
-use Rattle.kbm.specs.declared.Entry.{Entry}
-use Rattle.kbm.specs.declared.Entry.TheVariants.{Mapped, Unmapped}
 use Rattle.kbm.specs.declared.Kbm.{Kbm}
 use Rattle.key.specs.Keys.{key}
 use Rattle.decimals.specs.DecimalText.{Form, FloatText, UnsupportedText, DecimalText}
@@ -84,14 +82,14 @@ Wrong Required.pitch key t n =
 Wrong Required.octave key t n = NoInteger int_value true (2 ^ 15) t n
 
 -- "then entries: `x` or `X`, or i16"
-pub data EntryText (t : List ℕ) : Entry → Type 0 where
-  small : t ≡ 120 ∷ [] → EntryText t Unmapped
-  large : t ≡ 88 ∷ [] → EntryText t Unmapped
-  degree : (z : ℤ) → IntText true (2 ^ 15) t z → EntryText t (Mapped z)
+pub data EntryText (t : List ℕ) : (Option ℤ) → Type 0 where
+  small : t ≡ 120 ∷ [] → EntryText t None
+  large : t ≡ 88 ∷ [] → EntryText t None
+  degree : (z : ℤ) → IntText true (2 ^ 15) t z → EntryText t (Some z)
 
 -- t is no entry: 8
 abbrev pub NoEntry : List ℕ → ℕ → Type 0
-NoEntry t n = (n ≡ keyboard_mapping) × ((e : Entry) → EntryText t e → ⊥)
+NoEntry t n = (n ≡ keyboard_mapping) × ((e : (Option ℤ)) → EntryText t e → ⊥)
 
 -- THE FORMAT: seven required lines and then entries, each by its token
 abbrev pub mapping : Format
@@ -106,7 +104,7 @@ mapping = record {
   see = see;
   Gives = Gives;
   Wrong = Wrong;
-  Entry = Entry;
+  Entry = Option ℤ;
   Is = EntryText;
   Bad = NoEntry;
 }
@@ -119,14 +117,14 @@ Values = listing.Values mapping
 abbrev pub GiveAll : Seen → (fs : List Required) → List (List ℕ) → Values fs → Type 0
 GiveAll = listing.GiveAll mapping
 
-abbrev pub Entries : List (List ℕ) → List Entry → Type 0
+abbrev pub Entries : List (List ℕ) → List (Option ℤ) → Type 0
 Entries = listing.Entries mapping
 
 abbrev pub Tokens : List Meaning → List (List ℕ) → Type 0
 Tokens = listing.Words mapping
 
 -- lines that give the required lines `done` their values, and then entries
-abbrev pub Begins : List Meaning → (done : List Required) → Values done → List Entry → Type 0
+abbrev pub Begins : List Meaning → (done : List Required) → Values done → List (Option ℤ) → Type 0
 Begins = listing.Begins mapping
 
 -- the size that the required lines say
@@ -145,20 +143,20 @@ mapping_from (n, (lowest, (highest, (mid, (ref, (hz, (formal, _))))))) =
     }
 
 -- so many unmapped entries
-unfoldable pub blanks : ℕ → List Entry
+unfoldable pub blanks : ℕ → List (Option ℤ)
 blanks zero = []
-blanks (suc n) = Unmapped ∷ blanks n
+blanks (suc n) = None ∷ blanks n
 
 -- "missing entries are added as unmapped up to the size"
-abbrev pub added : ℕ → List Entry → List Entry
+abbrev pub added : ℕ → List (Option ℤ) → List (Option ℤ)
 added n es = es ++ blanks (n - length es)
 
 -- THE LANGUAGE: the text s is a mapping file of k with the entries es
-pub record MappingText (s : List ℕ) (k : Kbm) (es : List Entry) : Type 0 where
+pub record MappingText (s : List ℕ) (k : Kbm) (es : List (Option ℤ)) : Type 0 where
   pub says : List Meaning
   pub text : Says strict s says
   pub values : Values required
-  pub given : List Entry
+  pub given : List (Option ℤ)
   pub lines : Begins says required values given
   pub not_large : length (added (size_of values) given) ≤ 65535
   pub consistent : length given ≤ size_of values
@@ -167,10 +165,10 @@ pub record MappingText (s : List ℕ) (k : Kbm) (es : List Entry) : Type 0 where
 
 -- the text s is a mapping file
 abbrev pub IsMapping : List ℕ → Type 0
-IsMapping s = (k : Kbm) × (es : List Entry) × MappingText s k es
+IsMapping s = (k : Kbm) × (es : List (Option ℤ)) × MappingText s k es
 
 -- n is the first number that is drawn after the last line: 12 where the added entries have no place, 13, 14
-abbrev pub WrongEnd : ℕ → ℕ → List Entry → ℕ → Type 0
+abbrev pub WrongEnd : ℕ → ℕ → List (Option ℤ) → ℕ → Type 0
 WrongEnd room top es n =
     ((n ≡ no_room) × (length es < top) × (room < top)) ⊎
     (((n ≡ too_large) × (65535 < length (added top es))) ⊎

@@ -1,27 +1,23 @@
 -- Document 01, "Mapping": what the reader computes, by what the lines of the text say. `Language` says what a mapping file is,
 -- `proofs/Language` that the two agree. Assumes nothing.
-use Rattle.std.specs.Prelude.{List, [], ◌∷◌, ℕ, zero, suc, ◌+◌, ltb, ℤ, pos, ◌-ℤ◌, length, set}
+use Rattle.std.specs.Prelude.{List, [], ◌∷◌, ℕ, zero, suc, ◌+◌, ltb, ℤ, pos, ◌-ℤ◌, length, set, None, Some, Option}
 use Rattle.std.specs.Float.{binary64}
 use Rattle.std.specs.Float.Ieee.{of_bits}
 use Rattle.base.specs.Numbers.{line_missing, no_room, too_large, inconsistent_count}
-use Rattle.base.specs.Said.{Said, gives, refuses, refusal, pick}
+use Rattle.base.specs.Said.{Said, gives, refuses, pick}
 use Rattle.base.specs.Tables.{after}
 use Rattle.kbm.specs.Table.{unmapped, numbers_of}
-use Rattle.kbm.specs.declared.Entry.{Entry}
 use Rattle.kbm.specs.declared.Kbm.{Kbm}
 use Rattle.key.specs.Keys.{key}
-use Rattle.integers.specs.Integer.{none}
 use Rattle.listing.specs.Reader.{walk_lines, given_after}
 use Rattle.text.specs.ReadLine.{said_in}
 use Rattle.text.specs.Reading.{Meaning}
 use Rattle.kbm_read.specs.Language.{added}
 use Rattle.kbm_read.specs.declared.line.Due.{Due}
 use Rattle.kbm_read.specs.declared.line.Due.TheVariants as due
-use Rattle.kbm_read.specs.declared.line.EntryRead.{EntryRead}
-use Rattle.kbm_read.specs.declared.line.EntryRead.TheVariants as entry
 use Rattle.kbm_read.specs.declared.line.Head.{Head}
 use Rattle.kbm_read.specs.declared.line.State.{State}
-pub use Rattle.kbm_read.specs.Steps.{says_step, goes_on, take_size, take_first, take_last, take_middle, take_reference, decimal_refused, reference_pitch_said, take_pitch, take_octave, is_cross, degree_in, entry_placed, take_entry, take_due, take_meaning, found_entry, found_in}
+pub use Rattle.kbm_read.specs.Steps.{goes_on, take_size, take_first, take_last, take_middle, take_reference, reference_pitch_said, take_pitch, take_octave, is_cross, degree_in, entry_placed, take_entry, take_due, take_meaning, found_entry, found_in}
 unfoldable pub use Rattle.kbm_read.specs.Steps.{entry_in, take_token}
 
 -- which required line is missing, counted from 1; 0 for none
@@ -68,19 +64,19 @@ abbrev pub read_of : ℕ → List ℕ → Said Kbm
 read_of room text = walk room 1 unread (said_in text)
 
 -- the entry of a line after the required ones, where it is one
-abbrev pub listed : EntryRead → List Entry
-listed (entry.Is e) = e ∷ []
-listed entry.IsNot = []
+abbrev pub listed : (Option (Option ℤ)) → List (Option ℤ)
+listed (Some e) = e ∷ []
+listed None = []
 
 -- the entries that lines give, after n required ones
-abbrev pub given_from : ℕ → List Meaning → List Entry
+abbrev pub given_from : ℕ → List Meaning → List (Option ℤ)
 given_from = given_after (λ m t. listed (entry_in t))
 
-abbrev pub given_in : List ℕ → List Entry
+abbrev pub given_in : List ℕ → List (Option ℤ)
 given_in text = given_from 7 (said_in text)
 
 -- the entries of a mapping of that size: missing ones are added as unmapped
-abbrev pub entries_in : ℕ → List ℕ → List Entry
+abbrev pub entries_in : ℕ → List ℕ → List (Option ℤ)
 entries_in size text = added size (given_in text)
 
 -- THE TABLE after a read: an accepted text's entries in its first places

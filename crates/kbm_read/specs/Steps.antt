@@ -1,34 +1,22 @@
 -- Document 01, "Mapping": what one line of a mapping file adds to what the lines before it said, and what it gives the table. Assumes nothing.
-use Rattle.std.specs.Prelude.{Bool, true, false, List, [], ◌∷◌, ℕ, ◌+◌, ◌^◌, leb, ltb, eqb, ℤ, pos, nat_abs, ◌+ℤ◌}
+use Rattle.std.specs.Prelude.{Bool, true, false, List, [], ◌∷◌, ℕ, ◌+◌, ◌^◌, leb, ltb, eqb, ℤ, pos, nat_abs, ◌+ℤ◌, None, Some, Option, Result, Float}
 use Rattle.std.specs.Int.Signed.{le_z}
-use Rattle.base.specs.Numbers.{not_utf8, int_value, float_value, keyboard_mapping, unsupported_numeral, unusable, overflow, no_room}
+use Rattle.base.specs.Numbers.{not_utf8, int_value, float_value, keyboard_mapping, unusable, overflow, no_room}
 use Rattle.base.specs.Numbers.{backwards_range}
-use Rattle.base.specs.Said.{Said, gives, refuses, refusal, pick, and_then}
+use Rattle.base.specs.Said.{Said, gives, refuses, pick, and_then}
 use Rattle.floats.specs.Ranges.{in_pitch}
-use Rattle.kbm.specs.declared.Entry.TheVariants.{Mapped, Unmapped}
-use Rattle.key.specs.Keys.{key}
 use Rattle.decimals.specs.Answers.{says_decimal}
 use Rattle.decimals.specs.DecimalScan.{read_decimal}
 use Rattle.integers.specs.AtLine.{int_at}
 use Rattle.integers.specs.Integer.{Int, value, none, read_int}
-use Rattle.decimals.specs.declared.DecimalAnswer.{DecimalAnswer}
-use Rattle.decimals.specs.declared.DecimalAnswer.TheVariants as decimal
+use Rattle.decimals.specs.declared.DecimalError.{DecimalError}
 use Rattle.text.specs.Reading.{Meaning, invalid, blank, comment, content}
 use Rattle.kbm_read.specs.declared.line.Due.{Due}
 use Rattle.kbm_read.specs.declared.line.Due.TheVariants as due
-use Rattle.kbm_read.specs.declared.line.EntryRead.{EntryRead}
-use Rattle.kbm_read.specs.declared.line.EntryRead.TheVariants as entry
 use Rattle.kbm_read.specs.declared.line.Found.{Found}
 use Rattle.kbm_read.specs.declared.line.Found.TheVariants as found
 use Rattle.kbm_read.specs.declared.line.Head.{Head}
 use Rattle.kbm_read.specs.declared.line.State.{State}
-use Rattle.kbm_read.specs.declared.line.Step.{Step}
-use Rattle.kbm_read.specs.declared.line.Step.TheVariants as step
-
--- what a step says
-abbrev pub says_step : Step → Said State
-says_step (step.Is s) = gives s
-says_step (step.Refused r) = refusal r
 
 -- the next line that is due, with what was said so far
 abbrev pub goes_on : Due → Head → Said State
@@ -66,14 +54,8 @@ take_reference k t h =
     and_then (int_at int_value k (read_int true (2 ^ 15) t)) (λ z. goes_on due.ReferencePitch
     (record { size = h.size; first = h.first; end = h.end; middle = h.middle; reference = z; hz = h.hz; octave = h.octave }))
 
--- why a decimal is refused
-abbrev pub decimal_refused : ℕ → DecimalAnswer → Said State
-decimal_refused k (decimal.Is v) = refuses float_value k
-decimal_refused k decimal.Unsupported = refuses unsupported_numeral k
-decimal_refused k decimal.Bad = refuses float_value k
-
 -- the reference pitch: 7, 9, and 10 outside 2^-10..2^20
-abbrev pub reference_pitch_said : ℕ → Head → DecimalAnswer → Said State
+abbrev pub reference_pitch_said : ℕ → Head → (Result Float DecimalError) → Said State
 reference_pitch_said k h x =
     and_then (says_decimal float_value k x) (λ v. pick (in_pitch v) (goes_on due.Octave
     (record { size = h.size; first = h.first; end = h.end; middle = h.middle; reference = h.reference; hz = v; octave = h.octave }))
@@ -94,18 +76,18 @@ is_cross (b ∷ []) = pick (eqb b 120) true (eqb b 88)
 is_cross (b ∷ c ∷ t) = false
 
 -- a degree, where the token is one
-abbrev pub degree_in : Int → EntryRead
-degree_in (value z) = entry.Is (Mapped z)
-degree_in none = entry.IsNot
+abbrev pub degree_in : Int → (Option (Option ℤ))
+degree_in (value z) = Some (Some z)
+degree_in none = None
 
 -- the entry that a token is
-unfoldable pub entry_in : List ℕ → EntryRead
-entry_in t = pick (is_cross t) (entry.Is Unmapped) (degree_in (read_int true (2 ^ 15) t))
+unfoldable pub entry_in : List ℕ → (Option (Option ℤ))
+entry_in t = pick (is_cross t) (Some None) (degree_in (read_int true (2 ^ 15) t))
 
 -- an entry takes a place: 8, and 12 where there is none
-abbrev pub entry_placed : ℕ → ℕ → State → EntryRead → Said State
-entry_placed room k s (entry.Is e) = pick (leb room s.count) (refuses no_room k) (gives (record { due = due.Entries; head = s.head; count = s.count + 1 }))
-entry_placed room k s entry.IsNot = refuses keyboard_mapping k
+abbrev pub entry_placed : ℕ → ℕ → State → (Option (Option ℤ)) → Said State
+entry_placed room k s (Some e) = pick (leb room s.count) (refuses no_room k) (gives (record { due = due.Entries; head = s.head; count = s.count + 1 }))
+entry_placed room k s None = refuses keyboard_mapping k
 
 abbrev pub take_entry : ℕ → ℕ → List ℕ → State → Said State
 take_entry room k t s = entry_placed room k s (entry_in t)
@@ -132,9 +114,9 @@ take_meaning room k comment s = gives s
 take_meaning room k (content m t) s = take_token room k t s
 
 -- an entry, where the token is one
-abbrev pub found_entry : EntryRead → Found
-found_entry (entry.Is e) = found.Is e
-found_entry entry.IsNot = found.Nothing
+abbrev pub found_entry : (Option (Option ℤ)) → Found
+found_entry (Some e) = found.Is e
+found_entry None = found.Nothing
 
 -- what a line gives the table, where n required lines are still to come
 abbrev pub found_in : ℕ → Meaning → Found

@@ -6,14 +6,14 @@
 mod line;
 
 ghost use Rattle.std.specs.Prelude.{◌≡◌, ℕ, ◌-◌, ◌≤◌, length};
+ghost use Rattle.base.specs.Said.{outcome};
 ghost use Rattle.base.specs.Tables.{over};
-ghost use Rattle.kbm.specs.Answers.{says_kbm};
 ghost use Rattle.kbm.specs.Table.{numbers_of};
 ghost use Rattle.kbm_read.specs.Reader.{unread, which_of, mapping_of, finished, read_of, given_in, after_read, padded};
 
-use crate::line::{Due, Found, Head, State, Step, found_in, take_line};
-use base::Refusal;
-use kbm::{Entry, Kbm, KbmAnswer, KbmRoot};
+use crate::line::{Due, Found, Head, State, found_in, take_line};
+use base::{Reason, Refusal};
+use kbm::{Kbm, KbmRoot};
 use key::PianoKey;
 use pitch::Pitch;
 use text::line::read_line;
@@ -56,39 +56,38 @@ fn mapping_of(head: Head) -> Kbm
 }
 
 // The mapping after the last line; 2, 12 where the added entries have no place, 13, 14.
-fn finish(state: State, room: usize) -> KbmAnswer
-    ensures { says_kbm result ≡ finished room state }
+fn finish(state: State, room: usize) -> Result<Kbm, Refusal>
+    ensures { outcome result ≡ finished room state }
 {
-    let due = state.due;
     let head = state.head;
     let count = state.count;
-    let missing = which_of(due);
-    if 0 < missing {
-        return KbmAnswer::Refused(Refusal {
-            number: base::LINE_MISSING,
+    let missing = which_of(state.due);
+    if missing > 0 {
+        return Err(Refusal {
+            reason: Reason::LineMissing,
             detail: missing,
         });
     }
     let size = head.size as usize;
     if room < size {
-        return KbmAnswer::Refused(Refusal {
-            number: base::NO_ROOM,
+        return Err(Refusal {
+            reason: Reason::NoRoom,
             detail: 0,
         });
     }
     if MOST < count {
-        return KbmAnswer::Refused(Refusal {
-            number: base::TOO_LARGE,
+        return Err(Refusal {
+            reason: Reason::TooLarge,
             detail: 0,
         });
     }
     if size < count {
-        return KbmAnswer::Refused(Refusal {
-            number: base::INCONSISTENT_COUNT,
+        return Err(Refusal {
+            reason: Reason::InconsistentCount,
             detail: 0,
         });
     }
-    KbmAnswer::Is(mapping_of(head))
+    Ok(mapping_of(head))
 }
 
 // Before the first line.
@@ -111,24 +110,17 @@ fn unread() -> State
 }
 
 // The first pass: the mapping that the text is, or its first fault.
-fn check(text: &[u8], room: usize) -> KbmAnswer
-    ensures { says_kbm result ≡ read_of room text.now }
+fn check(text: &[u8], room: usize) -> Result<Kbm, Refusal>
+    ensures { outcome result ≡ read_of room text.now }
 {
     let mut at = 0;
     let mut line = 1;
     let mut state = unread();
+    // A `while`, here and below, since a line has any length, and `next_line` says where the next one starts.
     while at < text.len() {
         let ends = next_line(text, at);
         let says = read_line(text, at, ends.end);
-        let step = take_line(text, says, line, room, state);
-        match step {
-            Step::Refused(refusal) => {
-                return KbmAnswer::Refused(refusal);
-            }
-            Step::Is(next) => {
-                state = next;
-            }
-        }
+        state = take_line(text, says, line, room, state)?;
         line += 1;
         at = ends.next;
     }
@@ -146,8 +138,7 @@ fn fill(text: &[u8], map: &mut [i32]) -> usize
     while at < text.len() {
         let ends = next_line(text, at);
         let says = read_line(text, at, ends.end);
-        let found = found_in(text, says, required);
-        match found {
+        match found_in(text, says, required) {
             Found::Nothing => {}
             Found::Required => {
                 required -= 1;
@@ -167,22 +158,17 @@ fn pad(map: &mut [i32], from: usize, to: usize)
     requires { to ≤ length map.old }
     ensures { map.new ≡ padded (to - from) from map.old }
 {
-    let mut i = from;
-    while i < to {
+    for i in from..to {
         map[i] = kbm::UNMAPPED;
-        i += 1;
     }
 }
 
 // The mapping that the text is, its entries in `map`; or the first fault by 01's order, with `map` as it was.
-pub fn read_kbm(text: &[u8], map: &mut [i32]) -> KbmAnswer
-    ensures { (says_kbm result ≡ read_of (length map.old) text.now) × (map.new ≡ after_read text.now map.old) }
+pub fn read_kbm(text: &[u8], map: &mut [i32]) -> Result<Kbm, Refusal>
+    ensures { (outcome result ≡ read_of (length map.old) text.now) × (map.new ≡ after_read text.now map.old) }
 {
-    let answer = check(text, map.len());
-    let KbmAnswer::Is(mapping) = answer else {
-        return answer;
-    };
+    let mapping = check(text, map.len())?;
     let n = fill(text, map);
-    pad(map, n, mapping.count as usize);
-    answer
+    pad(map, n, usize::from(mapping.count));
+    Ok(mapping)
 }

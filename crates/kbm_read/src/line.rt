@@ -1,14 +1,15 @@
 // What one line of a mapping file adds to what was said. Document 01, "Lines" and "Mapping".
 ghost use Rattle.std.specs.Prelude.{◌≡◌};
-ghost use Rattle.base.specs.Said.{refuses};
+ghost use Rattle.base.specs.Said.{outcome};
+ghost use Rattle.base.specs.Numbers.{float_value};
+ghost use Rattle.decimals.specs.Answers.{says_decimal};
+ghost use Rattle.decimals.specs.DecimalScan.{read_decimal};
 ghost use Rattle.text.specs.ReadLine.{shown, InText};
-ghost use Rattle.kbm_read.specs.Steps.{says_step, goes_on, decimal_refused, take_entry, entry_in};
+ghost use Rattle.kbm_read.specs.Steps.{goes_on, take_entry, is_cross, entry_in};
 ghost use Rattle.kbm_read.specs.Steps.{last_taken, take_token, take_meaning, found_in};
 
-use base::Refusal;
-use decimals::{DecimalAnswer, read_decimal};
-use integers::{I16, I32, U16, read_i16, read_i32, read_u16};
-use kbm::Entry;
+use base::{Reason, Refusal};
+use decimals::{DecimalError, read_decimal};
 use text::line::LineSays;
 
 // What the next line with content is: one of the seven required ones, or an entry.
@@ -44,172 +45,133 @@ pub struct State {
     pub count: usize,
 }
 
-// What the lines say with one line more, or why it is refused.
-#[derive(Clone, Copy)]
-pub enum Step {
-    Is(State),
-    Refused(Refusal),
-}
-
-// The entry that a token is, or none.
-#[derive(Clone, Copy)]
-pub enum EntryRead {
-    Is(Entry),
-    IsNot,
-}
-
 // What a line gives the table: an entry, nothing, or nothing since it is a required line.
 #[derive(Clone, Copy)]
 pub enum Found {
-    Is(Entry),
+    Is(Option<i16>),
     Required,
     Nothing,
 }
 
-// The largest key, which cannot be the last: the end of the range is the key after it.
-const LARGEST: i32 = 2147483647;
-
-// The line is refused with this number.
-fn refused(number: u32, line: usize) -> Step
-    ensures { says_step result ≡ refuses number line }
+// A line is refused for this reason.
+fn refused(reason: Reason, line: usize) -> Refusal
+    ensures { result ≡ record { reason = reason; detail = line } }
 {
-    Step::Refused(Refusal {
-        number,
+    Refusal {
+        reason,
         detail: line,
-    })
+    }
 }
 
 // The line after a required one is due, and the head says so much.
-fn goes_on(due: Due, head: Head) -> Step
-    ensures { says_step result ≡ goes_on due head }
+fn goes_on(due: Due, head: Head) -> Result<State, Refusal>
+    ensures { outcome result ≡ goes_on due head }
 {
-    Step::Is(State {
+    Ok(State {
         due,
         head,
         count: 0,
     })
 }
 
-// Why a decimal is refused: 9 for an unsupported one, else 7.
-fn decimal_refused(answer: DecimalAnswer, line: usize) -> Step
-    ensures { says_step result ≡ decimal_refused line answer }
+// The decimal that a token is: 9 for an unsupported one, else 7.
+fn read_decimal_at(token: &[u8], line: usize) -> Result<f64, Refusal>
+    ensures { outcome result ≡ says_decimal float_value line (read_decimal token.now) }
 {
-    match answer {
-        DecimalAnswer::Unsupported => refused(base::UNSUPPORTED_NUMERAL, line),
-        DecimalAnswer::Bad => refused(base::FLOAT_VALUE, line),
-        DecimalAnswer::Is(_) => refused(base::FLOAT_VALUE, line),
+    match read_decimal(token) {
+        Ok(x) => Ok(x),
+        Err(DecimalError::Unsupported) => Err(refused(Reason::UnsupportedNumeral, line)),
+        Err(DecimalError::Bad) => Err(refused(Reason::FloatValue, line)),
     }
+}
+
+// Whether a token is `x` or `X`.
+fn is_cross(token: &[u8]) -> bool
+    ensures { result ≡ is_cross token.now }
+{
+    matches!(token, [b'x' | b'X'])
 }
 
 // The entry that a token is: `x`, `X` or an i16.
-pub fn read_entry(token: &[u8]) -> EntryRead
+pub fn read_entry(token: &[u8]) -> Option<Option<i16>>
     ensures { result ≡ entry_in token.now }
 {
-    if token.len() == 1 {
-        if token[0] == 120 {
-            return EntryRead::Is(Entry::Unmapped);
-        }
-        if token[0] == 88 {
-            return EntryRead::Is(Entry::Unmapped);
-        }
+    if is_cross(token) {
+        return Some(None);
     }
-    let I16::Is(degree) = read_i16(token) else {
-        return EntryRead::IsNot;
-    };
-    EntryRead::Is(Entry::Mapped(degree))
+    Some(Some(integers::read::<i16>(token)?))
 }
 
 // An entry; 8, and 12 where it has no place.
-fn take_entry(token: &[u8], line: usize, room: usize, state: State) -> Step
-    ensures { says_step result ≡ take_entry room line token.now state }
+fn take_entry(token: &[u8], line: usize, room: usize, state: State) -> Result<State, Refusal>
+    ensures { outcome result ≡ take_entry room line token.now state }
 {
-    let EntryRead::Is(_) = read_entry(token) else {
-        return refused(base::KEYBOARD_MAPPING, line);
-    };
-    let count = state.count;
-    if room <= count {
-        return refused(base::NO_ROOM, line);
+    if read_entry(token).is_none() {
+        return Err(refused(Reason::KeyboardMapping, line));
     }
     let head = state.head;
-    Step::Is(State {
+    let count = state.count;
+    if room <= count {
+        return Err(refused(Reason::NoRoom, line));
+    }
+    Ok(State {
         due: Due::Entries,
         head,
         count: count + 1,
     })
 }
 
-// The last key: 11 for the largest, 25 below the first.
-fn take_last(last: i32, line: usize, mut head: Head) -> Step
-    ensures { says_step result ≡ last_taken line head last }
+// The last key: 11 for the largest, which cannot be the last, since the end of the range is the key after it; 25 below the first.
+fn take_last(last: i32, line: usize, mut head: Head) -> Result<State, Refusal>
+    ensures { outcome result ≡ last_taken line head last }
 {
-    if LARGEST <= last {
-        return refused(base::OVERFLOW, line);
+    if last == i32::MAX {
+        return Err(refused(Reason::Overflow, line));
     }
     if head.first <= last {
         head.end = last + 1;
         return goes_on(Due::MiddleKey, head);
     }
-    refused(base::BACKWARDS_RANGE, line)
+    Err(refused(Reason::BackwardsRange, line))
 }
 
 // The token of the line that is due: an integer of its type (3; of the last key 11 and 25), the pitch in Hz, in 2^-10..2^20 (7, 9,
 // 10), or an entry (8, 12).
-fn take_token(token: &[u8], line: usize, room: usize, state: State) -> Step
-    ensures { says_step result ≡ take_token room line token.now state }
+fn take_token(token: &[u8], line: usize, room: usize, state: State) -> Result<State, Refusal>
+    ensures { outcome result ≡ take_token room line token.now state }
 {
-    let due = state.due;
     let mut head = state.head;
-    match due {
+    match state.due {
         Due::Size => {
-            let U16::Is(size) = read_u16(token) else {
-                return refused(base::INT_VALUE, line);
-            };
-            head.size = size;
+            head.size = integers::read_at::<u16>(token, line)?;
             goes_on(Due::FirstKey, head)
         }
         Due::FirstKey => {
-            let I32::Is(first) = read_i32(token) else {
-                return refused(base::INT_VALUE, line);
-            };
-            head.first = first;
+            head.first = integers::read_at::<i32>(token, line)?;
             goes_on(Due::LastKey, head)
         }
         Due::LastKey => {
-            let I32::Is(last) = read_i32(token) else {
-                return refused(base::INT_VALUE, line);
-            };
+            let last = integers::read_at::<i32>(token, line)?;
             take_last(last, line, head)
         }
         Due::MiddleKey => {
-            let I16::Is(middle) = read_i16(token) else {
-                return refused(base::INT_VALUE, line);
-            };
-            head.middle = middle;
+            head.middle = integers::read_at::<i16>(token, line)?;
             goes_on(Due::ReferenceKey, head)
         }
         Due::ReferenceKey => {
-            let I16::Is(reference) = read_i16(token) else {
-                return refused(base::INT_VALUE, line);
-            };
-            head.reference = reference;
+            head.reference = integers::read_at::<i16>(token, line)?;
             goes_on(Due::ReferencePitch, head)
         }
         Due::ReferencePitch => {
-            let answer = read_decimal(token);
-            let DecimalAnswer::Is(hz) = answer else {
-                return decimal_refused(answer, line);
-            };
-            if floats::is_in_pitch(hz) {
-                head.hz = hz;
-                return goes_on(Due::Octave, head);
+            let hz = read_decimal_at(token, line)?;
+            if !floats::is_in_pitch(hz) {
+                return Err(refused(Reason::Unusable, line));
             }
-            refused(base::UNUSABLE, line)
+            head.hz = hz;
+            goes_on(Due::Octave, head)
         }
         Due::Octave => {
-            let I16::Is(octave) = read_i16(token) else {
-                return refused(base::INT_VALUE, line);
-            };
-            head.octave = octave;
+            head.octave = integers::read_at::<i16>(token, line)?;
             goes_on(Due::Entries, head)
         }
         Due::Entries => take_entry(token, line, room, state),
@@ -217,14 +179,19 @@ fn take_token(token: &[u8], line: usize, room: usize, state: State) -> Step
 }
 
 // A line of the text: 1 where it is not UTF-8, and nothing new where it is blank or a comment.
-pub fn take_line(text: &[u8], says: LineSays, line: usize, room: usize, state: State) -> Step
+pub fn take_line(
+    text: &[u8],
+    says: LineSays,
+    line: usize,
+    room: usize,
+    state: State,
+) -> Result<State, Refusal>
     requires { InText text.now says }
-    ensures { says_step result ≡ take_meaning room line (shown text.now says) state }
+    ensures { outcome result ≡ take_meaning room line (shown text.now says) state }
 {
     match says {
-        LineSays::NotUtf8 => refused(base::NOT_UTF8, line),
-        LineSays::Blank => Step::Is(state),
-        LineSays::Comment => Step::Is(state),
+        LineSays::NotUtf8 => Err(refused(Reason::NotUtf8, line)),
+        LineSays::Blank | LineSays::Comment => Ok(state),
         LineSays::Content {
             start,
             end: _,
@@ -239,21 +206,19 @@ pub fn found_in(text: &[u8], says: LineSays, required: usize) -> Found
     ensures { result ≡ found_in required (shown text.now says) }
 {
     match says {
-        LineSays::NotUtf8 => Found::Nothing,
-        LineSays::Blank => Found::Nothing,
-        LineSays::Comment => Found::Nothing,
+        LineSays::NotUtf8 | LineSays::Blank | LineSays::Comment => Found::Nothing,
         LineSays::Content {
             start,
             end: _,
             token_end,
         } => {
-            if 0 < required {
+            if required > 0 {
                 return Found::Required;
             }
-            let EntryRead::Is(entry) = read_entry(&text[start..token_end]) else {
-                return Found::Nothing;
-            };
-            Found::Is(entry)
+            match read_entry(&text[start..token_end]) {
+                Some(entry) => Found::Is(entry),
+                None => Found::Nothing,
+            }
         }
     }
 }

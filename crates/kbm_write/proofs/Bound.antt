@@ -1,4 +1,5 @@
 -- HOW LONG AN EXPORT IS AT MOST: 73 bytes, and 7 for each entry. So whoever lends that many bytes never gets 12. Assumes nothing.
+use Rattle.std.specs.Prelude.{Some, None, Option}
 use mathlib.Core.Path.{◌≡◌, refl, ◌∙◌}
 use mathlib.Core.Bool.{Bool, true, false, ◌&&◌}
 use mathlib.Core.List.{List, [], ◌∷◌}
@@ -17,8 +18,6 @@ use Rattle.floats.specs.Ranges.{in_pitch}
 use Rattle.floats.specs.Units.{negative}
 use Rattle.printing.specs.PrintText.{sign_text, whole_text, text_of}
 use Rattle.kbm.specs.Table.{in_i16, AreI16, is_table, table_of}
-use Rattle.kbm.specs.declared.Entry.{Entry}
-use Rattle.kbm.specs.declared.Entry.TheVariants.{Mapped, Unmapped}
 use Rattle.kbm.specs.declared.Kbm.{Kbm}
 use Rattle.kbm.proofs.Entries.{mag_i16}
 use Rattle.writing.specs.Fitted.{fitted}
@@ -52,14 +51,14 @@ pitch_line : (x : Float) → in_pitch x ≡ true → length (line (text_of 3 fal
 pitch_line x h = omega (arith, no_sign x h, three_under 7 x (lit< tt) (omega (arith, pitch_few x h)))
 
 -- seven bytes an entry: -32768 and LF
-entry_lines : (es : List Entry) → AreI16 es → length (lines_text (entry_texts es)) ≤ 7 * length es
+entry_lines : (es : List (Option ℤ)) → AreI16 es → length (lines_text (entry_texts es)) ≤ 7 * length es
 unfolding lines_text entry_texts
 entry_lines [] d = omega arith
-entry_lines (Mapped z ∷ es) d = omega (arith, lines_cons (entry_text (Mapped z)) (entry_texts es), degree_line z d.0, entry_lines es d.1)
-entry_lines (Unmapped ∷ es) d = omega (arith, lines_cons (entry_text Unmapped) (entry_texts es), entry_lines es d.1)
+entry_lines (Some z ∷ es) d = omega (arith, lines_cons (entry_text (Some z)) (entry_texts es), degree_line z d.0, entry_lines es d.1)
+entry_lines (None ∷ es) d = omega (arith, lines_cons (entry_text None) (entry_texts es), entry_lines es d.1)
 
 -- the seven lines have 6, 12, 12, 12, 12, 12 and 7 bytes
-pub export_short : (kbm : Kbm) (es : List Entry) → TypedKbm kbm es → length (export_text kbm es) ≤ 73 + 7 * kbm.count
+pub export_short : (kbm : Kbm) (es : List (Option ℤ)) → TypedKbm kbm es → length (export_text kbm es) ≤ 73 + 7 * kbm.count
 export_short kbm es y =
     let size = whole_text (pos kbm.count) in
     let first = whole_text kbm.start.0 in

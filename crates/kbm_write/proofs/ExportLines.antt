@@ -1,5 +1,7 @@
 -- THE LINES OF AN EXPORT: the seven and the entries, each with its LF, and each says itself when the text is read. Document 01,
 -- "Writing". Assumes nothing.
+use Rattle.std.specs.Prelude.{ℤ}
+use Rattle.std.specs.Prelude.{Option}
 use mathlib.Core.Path.{◌≡◌}
 use mathlib.Core.List.{List, ◌++◌}
 use Prim.Native.Nat.{ℕ}
@@ -8,14 +10,13 @@ use Rattle.text.specs.Cut.{lines}
 use Rattle.text.specs.Lines.{Lines}
 use Rattle.text.specs.ReadLine.{strictly, meanings}
 use Rattle.text.specs.Reading.{strict, Says}
-use Rattle.kbm.specs.declared.Entry.{Entry}
 use Rattle.kbm.specs.declared.Kbm.{Kbm}
 use Rattle.kbm_write.specs.Export.{key_texts, sound_texts, last_key_of, middle_key_of, entry_texts, export_text}
 use Rattle.writing.proofs.Plain.{Words, selves, word_lines, words_say, words_found}
 use Rattle.writing.proofs.Printed.{whole_word, three_word}
 use Rattle.kbm_write.proofs.Printed.{entry_words}
 
-module _ (kbm : Kbm) (es : List Entry) where
+module _ (kbm : Kbm) (es : List (Option ℤ)) where
   -- the texts of the lines
   abbrev pub export_texts : List (List ℕ)
   export_texts =

@@ -1,4 +1,5 @@
 -- The lines of a mapping: its keys, its pitch, an entry. Assumes nothing.
+use Rattle.std.specs.Prelude.{Some, None, Option}
 use mathlib.Core.Path.{◌≡◌, refl, ◌∙◌}
 use mathlib.Core.Bool.{true, false}
 use mathlib.Core.List.{List, [], ◌∷◌}
@@ -17,8 +18,6 @@ use Rattle.printing.proofs.Limits.{limited_within}
 use Rattle.writing.specs.Lines.{line, lines_text}
 use Rattle.writing.proofs.Lines.{whole_short, then_lines, last_line}
 use Rattle.kbm.specs.Table.{is_unmapped, entry_of}
-use Rattle.kbm.specs.declared.Entry.{Entry}
-use Rattle.kbm.specs.declared.Entry.TheVariants.{Mapped, Unmapped}
 use Rattle.kbm_write.specs.Export.{entry_text}
 
 -- a usable pitch is one that is printed
@@ -26,9 +25,9 @@ pub pitch_limited : (x : Float) → in_pitch x ≡ true → T (limited x)
 pitch_limited x h = limited_within (pitch_says x h) (lit≤ tt)
 
 -- how long an entry's line is at most
-pub entry_short : (e : Entry) → length (line (entry_text e)) ≤ 32
-entry_short (Mapped d) = whole_short d
-entry_short Unmapped = lit≤ tt
+pub entry_short : (e : (Option ℤ)) → length (line (entry_text e)) ≤ 32
+entry_short (Some d) = whole_short d
+entry_short None = lit≤ tt
 
 -- the text of an entry, from the test that tells `x` from a degree
 module _ (z : ℤ) where

@@ -1,5 +1,7 @@
 -- What is printed of a mapping, read again: the pitch's text is a decimal of the f64 nearest to its three decimals; the entries'
 -- texts are words. Assumes nothing.
+use Rattle.std.specs.Prelude.{ℤ}
+use Rattle.std.specs.Prelude.{Some, None, Option}
 use mathlib.Core.Path.{◌≡◌}
 use mathlib.Core.Bool.{true, false}
 use mathlib.Core.List.{List, [], ◌∷◌}
@@ -15,16 +17,14 @@ use Rattle.writing.specs.Thousandths.{nearest_three}
 use Rattle.writing.proofs.Plain.{Words}
 use Rattle.writing.proofs.Printed.{whole_word, three_reads}
 use Rattle.writing.proofs.Widths.{few_thousandths}
-use Rattle.kbm.specs.declared.Entry.{Entry}
-use Rattle.kbm.specs.declared.Entry.TheVariants.{Mapped, Unmapped}
 use Rattle.kbm_write.specs.Export.{entry_texts}
 use Rattle.kbm_write.proofs.Lines.{pitch_limited}
 
-pub entry_words : (es : List Entry) → Words (entry_texts es)
+pub entry_words : (es : List (Option ℤ)) → Words (entry_texts es)
 unfolding entry_texts
 entry_words [] = tt
-entry_words (Mapped d ∷ es) = (whole_word d, entry_words es)
-entry_words (Unmapped ∷ es) = (record { some = omega arith; each = ((omega arith, omega arith), tt) }, entry_words es)
+entry_words (Some d ∷ es) = (whole_word d, entry_words es)
+entry_words (None ∷ es) = (record { some = omega arith; each = ((omega arith, omega arith), tt) }, entry_words es)
 
 -- a pitch has few digits: at most 1048576.000
 pub pitch_few : (x : Float) → in_pitch x ≡ true → scaled_of 3 x ≤ 1048576000

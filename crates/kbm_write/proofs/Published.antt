@@ -1,5 +1,7 @@
 -- THE EXPORT IN THE PUBLISHED FORMAT: what is written is a mapping file as Scala's pages have it, with the same seven numbers (the
 -- frequency with three decimals) and the same entries. Assumes nothing.
+use Rattle.std.specs.Prelude.{ℤ}
+use Rattle.std.specs.Prelude.{Some, None, Option}
 use mathlib.Core.Path.{◌≡◌, refl, sym, ap, ◌∙◌}
 use mathlib.Core.Bool.{Bool, true, false}
 use mathlib.Core.List.{List, [], ◌∷◌, ◌++◌}
@@ -15,8 +17,6 @@ use Rattle.printing.specs.PrintText.{scaled_of, text_of, whole_text, sign_text}
 use Rattle.printing.proofs.Form.{printed}
 use Rattle.writing.proofs.PublishedValues.{all_kept, alone, whole_number, number}
 use Rattle.kbm.specs.Table.{AreI16}
-use Rattle.kbm.specs.declared.Entry.{Entry}
-use Rattle.kbm.specs.declared.Entry.TheVariants.{Mapped, Unmapped}
 use Rattle.kbm.specs.declared.Kbm.{Kbm}
 use Rattle.kbm.proofs.Entries.{mag_i16}
 use Rattle.kbm_write.specs.Export.{last_key_of, middle_key_of, entry_texts, export_text}
@@ -51,15 +51,15 @@ frequency x h =
     }
 
 -- each entry is a degree or a cross
-degrees : (es : List Entry) → AreI16 es → P.Degrees (entry_texts es) es
+degrees : (es : List (Option ℤ)) → AreI16 es → P.Degrees (entry_texts es) es
 unfolding entry_texts
 degrees [] d = tt
-degrees (Mapped z ∷ es) d = ((whole_text z, alone (whole_text z), P.Degree.degree z (whole_number z (omega (arith, mag_i16 z d.0)))), degrees es d.1)
-degrees (Unmapped ∷ es) d = ((120 ∷ [], alone (120 ∷ []), P.Degree.cross refl), degrees es d.1)
+degrees (Some z ∷ es) d = ((whole_text z, alone (whole_text z), P.Degree.degree z (whole_number z (omega (arith, mag_i16 z d.0)))), degrees es d.1)
+degrees (None ∷ es) d = ((120 ∷ [], alone (120 ∷ []), P.Degree.cross refl), degrees es d.1)
 
 -- the bytes that the export of a mapping of its types writes are a text of the published format, and say the mapping's numbers, its pitch to
 -- three decimals, and its entries
-pub export_published : (kbm : Kbm) (es : List Entry) → TypedKbm kbm es → P.PublishedText (export_text kbm es) (P.published_of kbm es)
+pub export_published : (kbm : Kbm) (es : List (Option ℤ)) → TypedKbm kbm es → P.PublishedText (export_text kbm es) (P.published_of kbm es)
 export_published kbm es y =
     record {
       l1 = whole_text (pos kbm.count);

@@ -8,12 +8,11 @@ use lib.IntN.{ℤ}
 use lib.ListN.{length, drop}
 use Rattle.base.specs.Integers.{held}
 use Rattle.base.specs.Numbers.{no_room}
-use Rattle.base.specs.Said.{refuses, One}
+use Rattle.base.specs.Said.{refuses, One, outcome}
 use Rattle.base.specs.Tables.{after}
 use Rattle.base.proofs.Said.{one_result}
 use Rattle.kbm.specs.Table.{table_of}
 use Rattle.kbm.specs.declared.Kbm.{Kbm}
-use Rattle.writing.specs.Answers.{says_size}
 use Rattle.writing.specs.Fitted.{fitted, text_length}
 use Rattle.writing.proofs.Room.{fitted_full, fitted_gives}
 use Rattle.writing.proofs.Theorems.{size_one}
@@ -21,7 +20,7 @@ use Rattle.kbm_write.specs.Export.{export_text, export_of, Writable}
 
 -- one result, and one state of the lent bytes
 module _ (kbm : Kbm) (map : List ℤ) (out : List ℕ) where
-  pub export_kbm_one : One says_size (text_length (export_of kbm map (length out)))
+  pub export_kbm_one : One outcome (text_length (export_of kbm map (length out)))
   export_kbm_one = size_one (text_length (export_of kbm map (length out)))
 
   pub export_kbm_bytes : One (λ l. l) (after (export_of kbm map (length out)) (λ t. t) out)

@@ -1,12 +1,10 @@
 -- Scala's keyboard mappings as published (from knowledge of Scala's pages, of which no copy is at hand): ISO 8859-1, so that each
 -- byte is a character; comments; seven numbers, one to a line; degrees counted from the middle key. Assumes nothing.
-use Rattle.std.specs.Prelude.{◌≡◌, List, [], ◌∷◌, ◌++◌, ℕ, ◌≤◌, ℤ, pos, ◌+ℤ◌, ◌-ℤ◌, ◌*ℤ◌, length, get_or, ◌≤ℤ◌}
+use Rattle.std.specs.Prelude.{◌≡◌, List, [], ◌∷◌, ◌++◌, ℕ, ◌≤◌, ℤ, pos, ◌+ℤ◌, ◌-ℤ◌, ◌*ℤ◌, length, get_or, ◌≤ℤ◌, Some, None, Option}
 use Rattle.base.specs.Integers.{Divides}
 use Rattle.text.specs.Lines.{Lines}
 use Rattle.decimals.specs.DecimalText as Decimal
 use Rattle.integers.specs.Digits.{decimal}
-use Rattle.kbm.specs.declared.Entry.{Entry}
-use Rattle.kbm.specs.declared.Entry.TheVariants.{Mapped, Unmapped}
 use Rattle.kbm.specs.declared.Kbm.{Kbm}
 use Rattle.printing.specs.PrintText.{scaled_of}
 pub use Rattle.writing.specs.PublishedLines.{PublishedComment, Kept, Blank, Ends, Stands, Whole, Number}
@@ -21,12 +19,12 @@ pub record Hertz (t : List ℕ) (n k : ℕ) : Type 0 where
   pub places : k ≡ length part
 
 -- a degree, or "`x` for a key that is not mapped"
-pub data Degree (t : List ℕ) : Entry → Type 0 where
-  cross : t ≡ 120 ∷ [] → Degree t Unmapped
-  degree : (z : ℤ) → Whole t z → Degree t (Mapped z)
+pub data Degree (t : List ℕ) : (Option ℤ) → Type 0 where
+  cross : t ≡ 120 ∷ [] → Degree t None
+  degree : (z : ℤ) → Whole t z → Degree t (Some z)
 
 -- each line has its degree
-abbrev pub Degrees : List (List ℕ) → List Entry → Type 0
+abbrev pub Degrees : List (List ℕ) → List (Option ℤ) → Type 0
 Degrees [] [] = Unit {0}
 Degrees [] (e ∷ es) = ⊥
 Degrees (l ∷ ls) [] = ⊥
@@ -42,7 +40,7 @@ pub record Mapping : Type 0 where
   pub hertz : ℕ
   pub places : ℕ
   pub octave : ℤ
-  pub given : List Entry
+  pub given : List (Option ℤ)
 
 -- a line with a frequency
 pub record Frequency (l : List ℕ) (n k : ℕ) : Type 0 where
@@ -77,7 +75,7 @@ pub record PublishedText (s : List ℕ) (m : Mapping) : Type 0 where
 -- formal octave from the next. Entries that are left out are unmapped
 pub data Sounds (m : Mapping) (key degree : ℤ) : Type 0 where
   linear : m.size ≡ 0 → degree ≡ key -ℤ m.middle → Sounds m key degree
-  pattern : (q : ℤ) (r : ℕ) (z : ℤ) → Divides (key -ℤ m.middle) m.size q r → get_or m.given r Unmapped ≡ Mapped z → degree ≡ z +ℤ q *ℤ m.octave → Sounds m key degree
+  pattern : (q : ℤ) (r : ℕ) (z : ℤ) → Divides (key -ℤ m.middle) m.size q r → get_or m.given r None ≡ Some z → degree ≡ z +ℤ q *ℤ m.octave → Sounds m key degree
 
 -- "first MIDI note to retune; last MIDI note to retune". A MIDI note is 0 to 127: that bound is left out on purpose, here and of the four lines
 -- with a key, since 01 has keys of 32 bits and no such bound
@@ -85,7 +83,7 @@ abbrev pub Retuned : Mapping → ℤ → Type 0
 Retuned m key = (m.first ≤ℤ key) × (key ≤ℤ m.last)
 
 -- what a mapping of the library says in the published format: the frequency with three decimals
-abbrev pub published_of : Kbm → List Entry → Mapping
+abbrev pub published_of : Kbm → List (Option ℤ) → Mapping
 published_of kbm es =
     record {
       size = kbm.count;

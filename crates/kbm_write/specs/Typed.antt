@@ -1,15 +1,15 @@
 -- The numbers of a mapping are of their types, as those of every value in the program are: what the theorems on
 -- exports start from. Assumes nothing.
-use Rattle.std.specs.Prelude.{◌≡◌, true, List, ◌≤◌, length}
+use Rattle.std.specs.Prelude.{ℤ}
+use Rattle.std.specs.Prelude.{◌≡◌, true, List, ◌≤◌, length, Option}
 use Rattle.base.specs.Integers.{in_i32}
 use Rattle.floats.specs.Ranges.{in_pitch}
 use Rattle.kbm.specs.Table.{in_i16, AreI16}
-use Rattle.kbm.specs.declared.Entry.{Entry}
 use Rattle.kbm.specs.declared.Kbm.{Kbm}
 use Rattle.kbm_write.specs.Export.{last_key_of, middle_key_of}
 
 -- keys and octave are of their types, the pitch is usable, last and middle key are keys, and the entries are as many as the count
-pub record TypedKbm (kbm : Kbm) (es : List Entry) : Type 0 where
+pub record TypedKbm (kbm : Kbm) (es : List (Option ℤ)) : Type 0 where
   pub start : in_i32 kbm.start.0 ≡ true
   pub end : in_i32 kbm.end.0 ≡ true
   pub reference : in_i32 kbm.root.reference.0 ≡ true

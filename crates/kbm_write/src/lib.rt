@@ -2,18 +2,18 @@
 #![tactic(auto)]
 
 ghost use Rattle.std.specs.Prelude.{◌≡◌, true, ◌+◌, ◌≤◌, length};
+ghost use Rattle.base.specs.Said.{outcome};
 ghost use Rattle.std.proofs.lemmas.List.Edits.{sets};
 ghost use Rattle.base.specs.Tables.{after};
 ghost use Rattle.floats.specs.Ranges.{in_pitch};
 ghost use Rattle.kbm.specs.Table.{entry_of, entries_of};
-ghost use Rattle.writing.specs.Answers.{says_size};
 ghost use Rattle.writing.specs.Fitted.{fitted, text_length};
 ghost use Rattle.writing.specs.Lines.{line, lines_text};
 ghost use Rattle.kbm_write.specs.Export.{key_texts, table_text, mapping_text, entry_text, held_text, export_of};
 
-use integer_math::I32Answer;
+use base::Refusal;
 use kbm::Kbm;
-use writing::{SizeAnswer, decimal_length, line_length, write_decimal, write_line};
+use writing::{decimal_length, line_length, write_decimal, write_line};
 
 // The entry of the number z, and LF, at `at`; the next place.
 fn write_entry(z: i32, out: &mut [u8], at: usize) -> usize
@@ -71,10 +71,8 @@ fn entries_length(map: &[i32]) -> usize
     ensures { (result ≡ length (table_text map.now)) × (result ≤ 2097120) }
 {
     let mut total: usize = 0;
-    let mut i = 0;
-    while i < map.len() {
-        total += entry_length(map[i]);
-        i += 1;
+    for number in map {
+        total += entry_length(*number);
     }
     total
 }
@@ -86,10 +84,8 @@ fn write_entries(map: &[i32], out: &mut [u8], at: usize) -> usize
     ensures out_after { out.new ≡ sets out.old at (table_text map.now) }
 {
     let mut next = at;
-    let mut i = 0;
-    while i < map.len() {
-        next = write_entry(map[i], out, next);
-        i += 1;
+    for number in map {
+        next = write_entry(*number, out, next);
     }
     next
 }
@@ -123,25 +119,25 @@ fn write_mapping(
     octave: i32,
     map: &[i32],
     out: &mut [u8],
-) -> SizeAnswer
+) -> Result<usize, Refusal>
     requires { (in_pitch hz ≡ true) × (length map.now ≤ 65535) }
-    ensures value { says_size result ≡ text_length (fitted (length out.old) (mapping_text size first last middle reference hz octave (entries_of map.now))) }
+    ensures value { outcome result ≡ text_length (fitted (length out.old) (mapping_text size first last middle reference hz octave (entries_of map.now))) }
     ensures out_after { out.new ≡ after (fitted (length out.old) (mapping_text size first last middle reference hz octave (entries_of map.now))) (λ t. t) out.old }
 {
     let total = mapping_length(size, first, last, middle, reference, hz, octave, map);
     if out.len() < total {
-        return SizeAnswer::Refused(writing::NO_ROOM);
+        return Err(writing::NO_ROOM);
     }
     let sound = write_keys(size, first, last, middle, reference, out);
     let formal = write_decimal(hz, 3, out, sound);
     let entries = write_line(octave, out, formal);
-    SizeAnswer::Is(write_entries(map, out, entries))
+    Ok(write_entries(map, out, entries))
 }
 
 // The text of a mapping with these entries; 11 where its last or its middle key is outside 32 bits, then 12.
-fn write_held(kbm: Kbm, entries: &[i32], out: &mut [u8]) -> SizeAnswer
+fn write_held(kbm: Kbm, entries: &[i32], out: &mut [u8]) -> Result<usize, Refusal>
     requires { (in_pitch kbm.root.pitch.0 ≡ true) × (length entries.now ≤ 65535) }
-    ensures value { says_size result ≡ text_length (held_text kbm (entries_of entries.now) (length out.old)) }
+    ensures value { outcome result ≡ text_length (held_text kbm (entries_of entries.now) (length out.old)) }
     ensures out_after { out.new ≡ after (held_text kbm (entries_of entries.now) (length out.old)) (λ t. t) out.old }
 {
     let size = kbm.count as i32;
@@ -150,33 +146,23 @@ fn write_held(kbm: Kbm, entries: &[i32], out: &mut [u8]) -> SizeAnswer
     let root = kbm.root;
     let reference = root.reference.0;
     let hz = root.pitch.0;
-    match integer_math::to_i32(integer_math::difference(kbm.end.0, 1)) {
-        I32Answer::Is(last) => match integer_math::to_i32(integer_math::sum(
-            reference,
-            root.offset,
-        )) {
-            I32Answer::Is(middle) => write_mapping(
-                size, first, last, middle, reference, hz, octave, entries, out,
-            ),
-            I32Answer::Refused(refusal) => SizeAnswer::Refused(refusal),
-        },
-        I32Answer::Refused(refusal) => SizeAnswer::Refused(refusal),
-    }
+    let last = integer_math::to_i32(integer_math::difference(kbm.end.0, 1))?;
+    let middle = integer_math::to_i32(integer_math::sum(reference, root.offset))?;
+    write_mapping(
+        size, first, last, middle, reference, hz, octave, entries, out,
+    )
 }
 
 // The text of a mapping into the lent bytes, and how many it takes. 10 for an unusable table or pitch, 11 where the last or
 // the middle key is outside 32 bits, 12 where the text is longer than the bytes; then nothing is written.
-pub fn export_kbm(kbm: Kbm, map: &[i32], out: &mut [u8]) -> SizeAnswer
-    ensures value { says_size result ≡ text_length (export_of kbm map.now (length out.old)) }
+pub fn export_kbm(kbm: Kbm, map: &[i32], out: &mut [u8]) -> Result<usize, Refusal>
+    ensures value { outcome result ≡ text_length (export_of kbm map.now (length out.old)) }
     ensures out_after { out.new ≡ after (export_of kbm map.now (length out.old)) (λ t. t) out.old }
 {
     let count = kbm.count as usize;
     let root = kbm.root;
-    let hz = root.pitch.0;
-    if kbm::is_table(map, count) {
-        if floats::is_in_pitch(hz) {
-            return write_held(kbm, &map[..count], out);
-        }
+    if kbm::is_table(map, count) && floats::is_in_pitch(root.pitch.0) {
+        return write_held(kbm, &map[..count], out);
     }
-    SizeAnswer::Refused(writing::NOT_USABLE)
+    Err(writing::NOT_USABLE)
 }

@@ -1,2 +1,1 @@
-mod Consumed
 mod Whole

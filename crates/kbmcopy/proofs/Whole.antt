@@ -2,7 +2,8 @@
 use Rattle.std.proofs.Common.{◌≡◌, ℕ, ◌≤◌, ◌<◌, List, [], ◌++◌, arith, length, take, drop, refl, sym, ap, ◌∙◌, subst, IfSome, Bool, true, false, length-take-le}
 use Rattle.std.proofs.lemmas.List.{append-nil, length-append}
 use Rattle.std.proofs.Math.Seq.{take-append_seam}
-use Rattle.std.specs.Prelude.{ltb}
+use Rattle.std.specs.Prelude.{ltb, Result, Ok, Err, IfOk}
+use Rattle.std.specs.Result.{MatchResult, is_ok}
 use Rattle.std.specs.Io.KnownBytes.{Appends, Consumes, IsAtEnd}
 use Rattle.std.specs.declared.option.Option.{Option}
 use Rattle.std.specs.declared.option.Option.TheVariants.{None, Some}
@@ -37,3 +38,11 @@ whole (Some text) (Some left) held grown n m input out new full within read end 
     let p = printed (take n input) in
     let front : take m new ≡ p = ap (λ k. take k new) count ∙ ap (take (length p)) wrote ∙ take-append_seam p (drop (length p) out) in
     subst (Appends held grown) (front ∙ sym (same_printed n input left full within end) ∙ ap printed (sym read)) grew
+
+-- what maps the error keeps the value, and so each fact of it
+pub value_kept : {T E D : Type 0} (r : Result T E) (s : Result T D) (P : E → Type 0) (Q : T → Type 0)
+    → MatchResult r (λ x. s ≡ Ok x) P → is_ok s ≡ is_ok r → IfOk r Q → IfOk s Q
+value_kept (Ok x) (Ok y) P Q same variant holds = let e : x ≡ y = cc in subst Q e holds
+value_kept (Ok x) (Err d) P Q same variant holds = tt
+value_kept (Err e) (Ok y) P Q same variant holds = let no : true ≡ false = variant in cc
+value_kept (Err e) (Err d) P Q same variant holds = tt

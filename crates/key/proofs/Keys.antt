@@ -1,4 +1,6 @@
 -- What the calls on keys come to, as their code meets it. Assumes nothing.
+use Rattle.std.specs.Prelude.{Result, Ok}
+use Rattle.base.specs.declared.Refusal.{Refusal}
 use mathlib.Core.Path.{◌≡◌, sym, ◌∙◌, ap, subst}
 use mathlib.Core.Bool.{true, false}
 use native.Mathlib.Omega.{arith}
@@ -11,10 +13,7 @@ use mir.Facts.{to_z-of_z}
 use borrow.Author.Tests.{leb-true}
 use Rattle.base.specs.Integers.{held}
 use Rattle.base.specs.Numbers.{key_out_of_range}
-use Rattle.base.specs.Said.{gives, refuses, and_then}
-use Rattle.integer_math.specs.Answers.{says_i32}
-use Rattle.integer_math.specs.declared.I32Answer.{I32Answer}
-use Rattle.integer_math.specs.declared.I32Answer.TheVariants as OfI32
+use Rattle.base.specs.Said.{gives, refuses, and_then, outcome}
 use Rattle.key.specs.Keys.{key, key_after, midi_of}
 use Rattle.key.specs.declared.PianoKey.{PianoKey}
 
@@ -48,9 +47,9 @@ module _ {k : PianoKey} (f : SFits w32 k.0) where
       midi_here = rw (to_z-of_z f, above, below)
 
 -- ---- a sum that 32 bits hold, as a key: r is what `to_i32` answered, r' what a match made of it
-pub key_after_law : (k : PianoKey) (steps : ℤ) {r r' : I32Answer} → says_i32 r ≡ held (k.0 +ℤ steps) → r ≡ r' → and_then (says_i32 r') (λ z. gives (key z)) ≡ key_after k steps
-key_after_law k steps told is = ap (λ s. and_then s (λ z. gives (key z))) (ap says_i32 (sym is) ∙ told)
+pub key_after_law : (k : PianoKey) (steps : ℤ) {r r' : (Result ℤ Refusal)} → outcome r ≡ held (k.0 +ℤ steps) → r ≡ r' → and_then (outcome r') (λ z. gives (key z)) ≡ key_after k steps
+key_after_law k steps told is = ap (λ s. and_then s (λ z. gives (key z))) (ap outcome (sym is) ∙ told)
 
 -- the same where the match found z, as the machine holds it
-pub key_made : (k : PianoKey) (steps : ℤ) {r : I32Answer} (z : ℤ) → SFits w32 z → says_i32 r ≡ held (k.0 +ℤ steps) → r ≡ OfI32.Is z → gives (key (to_z w32 (of_z w32 z))) ≡ key_after k steps
+pub key_made : (k : PianoKey) (steps : ℤ) {r : (Result ℤ Refusal)} (z : ℤ) → SFits w32 z → outcome r ≡ held (k.0 +ℤ steps) → r ≡ Ok z → gives (key (to_z w32 (of_z w32 z))) ≡ key_after k steps
 key_made k steps z f told is = ap (λ (y : ℤ). gives (key y)) (to_z-of_z f) ∙ key_after_law k steps told is

@@ -2,12 +2,10 @@
 #![tactic(auto)]
 
 ghost use Rattle.std.specs.Prelude.{◌≡◌};
-ghost use Rattle.integer_math.specs.Answers.{says_i32};
-ghost use Rattle.key.specs.Answers.{says_key, says_midi};
+ghost use Rattle.base.specs.Said.{outcome};
 ghost use Rattle.key.specs.Keys.{key, key_after, steps_between, midi_of};
 
-use base::Refusal;
-use integer_math::I32Answer;
+use base::{Reason, Refusal};
 
 // A key of a real or virtual instrument, by its MIDI number, without any notion of a pitch.
 #[derive(Clone, Copy)]
@@ -17,21 +15,9 @@ pub struct PianoKey(pub i32);
 #[derive(Clone, Copy)]
 pub struct Degree(pub i32);
 
-#[derive(Clone, Copy)]
-pub enum KeyAnswer {
-    Is(PianoKey),
-    Refused(Refusal),
-}
-
-#[derive(Clone, Copy)]
-pub enum MidiAnswer {
-    Is(u8),
-    Refused(Refusal),
-}
-
 // 16: the key is outside 0..127.
 const NO_MIDI_KEY: Refusal = Refusal {
-    number: base::KEY_OUT_OF_RANGE,
+    reason: Reason::KeyOutOfRange,
     detail: 0,
 };
 
@@ -51,32 +37,30 @@ impl PianoKey {
     }
 
     // The MIDI number where it is one of 0..127; else 16.
-    pub fn checked_midi_number(self) -> MidiAnswer
-        ensures { says_midi result ≡ midi_of self }
+    pub fn checked_midi_number(self) -> Result<u8, Refusal>
+        ensures { outcome result ≡ midi_of self }
     {
         let number = self.0;
         if 0 <= number {
             if number <= 127 {
-                return MidiAnswer::Is(number as u8);
+                return Ok(number as u8);
             }
         }
-        MidiAnswer::Refused(NO_MIDI_KEY)
+        Err(NO_MIDI_KEY)
     }
 
     // How many keys lie from this one up to `other`, less than 0 if it is below; 11 outside 32 bits.
-    pub fn num_keys_before(self, other: PianoKey) -> I32Answer
-        ensures { says_i32 result ≡ steps_between self other }
+    pub fn num_keys_before(self, other: PianoKey) -> Result<i32, Refusal>
+        ensures { outcome result ≡ steps_between self other }
     {
         integer_math::to_i32(integer_math::difference(other.0, self.0))
     }
 
     // The key that many steps after this one; 11 outside 32 bits.
-    pub fn plus_steps(self, steps: i32) -> KeyAnswer
-        ensures { says_key result ≡ key_after self steps }
+    pub fn plus_steps(self, steps: i32) -> Result<PianoKey, Refusal>
+        ensures { outcome result ≡ key_after self steps }
     {
-        match integer_math::to_i32(integer_math::sum(self.0, steps)) {
-            I32Answer::Is(number) => KeyAnswer::Is(PianoKey(number)),
-            I32Answer::Refused(refusal) => KeyAnswer::Refused(refusal),
-        }
+        let number = integer_math::to_i32(integer_math::sum(self.0, steps))?;
+        Ok(PianoKey(number))
     }
 }

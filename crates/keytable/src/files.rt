@@ -1,64 +1,43 @@
 // Files, read whole.
+ghost use Rattle.std.specs.Prelude.{◌≤◌, length, IfOk, IfSome};
+
 use std::fs;
-use std::io::{Read, Write};
+use std::io::Write;
 use std::rt::Files;
 
 // The longest text that is read has one byte less.
 pub const ROOM: usize = 65537;
 
-// How many bytes a file has, or that it cannot be read.
-#[derive(Clone, Copy)]
-pub enum Input {
-    Has(usize),
-    Failed,
-}
-
 // The first n bytes; none where there are fewer.
 pub fn first(bytes: &[u8], n: usize) -> &[u8] {
-    if n <= bytes.len() {
-        return &bytes[0..n];
+    bytes.get(..n).unwrap_or(&[])
+}
+
+// Reads a file of at most 65,536 bytes into as many and one more, and how many it has; or what is wrong with it: its name is not UTF-8, or
+// it cannot be opened or read, or is longer.
+fn read<R: Files>(rt: &R, name: &[u8], bytes: &mut [u8]) -> Result<usize, &'static str> {
+    let path = str::from_utf8(name).map_err(|_| "cannot be opened")?;
+    let mut file = fs::open(rt, path).map_err(|_| "cannot be opened")?;
+    let n = say::read_all(&mut file, bytes).map_err(|_| "cannot be read")?;
+    if n == bytes.len() {
+        return Err("longer than 65536 bytes");
     }
-    &bytes[0..0]
+    Ok(n)
 }
 
-// Says what is wrong with a file.
-fn fail<E: Write>(err: &mut E, name: &[u8], what: &[u8]) -> Input {
-    let _ = err.write_all(name);
-    let _ = err.write_all(what);
-    Input::Failed
-}
-
-// Opens a file for reading; none where it cannot be opened, or its name is not UTF-8.
-fn open<R: Files>(rt: &R, name: &[u8]) -> Option<R::File> {
-    match str::from_utf8(name) {
-        Ok(path) => fs::open(rt, path).ok(),
-        Err(_) => None,
-    }
-}
-
-// Reads to the end, or until the lent bytes are full.
-fn read_all<R: Read>(file: &mut R, bytes: &mut [u8]) -> Input {
-    let mut n = 0;
-    while n < bytes.len() {
-        match file.read(&mut bytes[n..]) {
-            Ok(0) => return Input::Has(n),
-            Ok(more) => n += more,
-            Err(_) => return Input::Failed,
+// The same; where something is wrong, says so.
+pub fn read_file<R: Files, E: Write>(
+    rt: &R,
+    err: &mut E,
+    name: &[u8],
+    bytes: &mut [u8],
+) -> Option<usize> {
+    match read(rt, name, bytes) {
+        Ok(n) => Some(n),
+        Err(what) => {
+            let _ = err.write_all(name);
+            let _ = write!(err, ": {what}\n");
+            None
         }
     }
-    Input::Has(n)
-}
-
-// Reads a file of at most 65,536 bytes; where it cannot be read or is longer, says so.
-pub fn read_file<R: Files, E: Write>(rt: &R, err: &mut E, name: &[u8], bytes: &mut [u8]) -> Input {
-    let Some(mut file) = open(rt, name) else {
-        return fail(err, name, b": cannot be opened\n");
-    };
-    let Input::Has(n) = read_all(&mut file, bytes) else {
-        return fail(err, name, b": cannot be read\n");
-    };
-    if n < bytes.len() {
-        return Input::Has(n);
-    }
-    fail(err, name, b": longer than 65536 bytes\n")
 }

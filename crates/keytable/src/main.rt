@@ -4,7 +4,6 @@
 // Keys are counted from the reference key, or, with the word `middle` as a third argument, from the middle key; the first line says which.
 #![tactic(auto)]
 
-use counting::Named;
 use kbm::Counting;
 use std::io;
 use std::io::Write;
@@ -19,31 +18,18 @@ mod tables;
 // The longest name of a file that is taken: no argument of Linux with pages of 4,096 bytes is longer.
 const NAME: usize = 131072;
 
-// Says that standard output failed, where it did.
-fn finish<E: Write>(err: &mut E, written: io::Result<()>) {
-    if written.is_err() {
-        let _ = err.write_all(b"keytable: standard output cannot be written\n");
-    }
-}
-
-// Prints what the columns are, and which key is counted from.
-fn print_head<W: Write>(out: &mut W, counting: Counting) -> io::Result<()> {
-    match counting {
-        Counting::Reference => {
-            out.write_all(b"key degree Hz cents, counted from the reference key\n")
-        }
-        Counting::Middle => out.write_all(b"key degree Hz cents, counted from the middle key\n"),
-    }
-}
-
-// Prints the head and the lines of the keys.
+// Prints what the columns are and which key is counted from, and the lines of the keys.
 fn print_table<W: Write>(
     out: &mut W,
     counting: Counting,
-    mapping: tables::Mapping,
-    sounds: tables::Sounds,
+    mapping: &tables::Mapping,
+    sounds: &tables::Sounds,
 ) -> io::Result<()> {
-    print_head(out, counting)?;
+    let from = match counting {
+        Counting::Reference => "reference",
+        Counting::Middle => "middle",
+    };
+    write!(out, "key degree Hz cents, counted from the {from} key\n")?;
     keys::print_keys(out, counting, mapping, sounds)
 }
 
@@ -56,22 +42,22 @@ fn print_files<R: Files, W: Write, E: Write>(
     scl_name: &[u8],
     kbm_name: &[u8],
 ) {
-    let scale = tables::read_scale(rt, err, scl_name);
-    if !scale.is_read {
+    let Some(scale) = tables::read_scale(rt, err, scl_name) else {
         return;
-    }
-    let mapping = tables::read_mapping(rt, err, kbm_name);
-    if !mapping.is_read {
+    };
+    let Some(mapping) = tables::read_mapping(rt, err, kbm_name) else {
         return;
+    };
+    let sounds = tables::sounds_of(counting, &scale, &mapping);
+    if print_table(out, counting, &mapping, &sounds).is_err() {
+        let _ = err.write_all(b"keytable: standard output cannot be written\n");
     }
-    let sounds = tables::sounds_of(counting, scale, mapping);
-    finish(err, print_table(out, counting, mapping, sounds));
 }
 
 // Prints the table of the two files that the arguments name, or how they are to be given.
 fn main(rt: HostRuntime) {
     let mut err = rt.stderr();
-    let Named::Is(counting) = counting::chosen(&rt, counting::arg_count(&rt)) else {
+    let Some(counting) = counting::chosen(&rt, counting::arg_count(&rt)) else {
         let _ = err.write_all(b"usage: keytable SCL KBM [reference | middle]\n");
         return;
     };

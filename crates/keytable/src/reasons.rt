@@ -1,64 +1,53 @@
-// Refusals in words: the sentences of the crate `base`, a line for each number from 1 to 19, and that of 25; that of 12 says how much
-// room this program has. No call that it makes says 29.
+// Refusals in words.
+use base::{Reason, Refusal};
 use std::io;
 use std::io::Write;
 
-// The line that starts at a place; nothing past the end.
-fn line_from(lines: &[u8], at: usize) -> &[u8] {
-    let ends = text::lines::next_line(lines, at);
-    let end = ends.end;
-    if at <= end {
-        if end <= lines.len() {
-            return &lines[at..end];
-        }
+// Why a call refused, by its number: the sentences of the crate `base`, but that 12 says how much room this program has. No call that it
+// makes says 29.
+pub fn sentence(number: u32) -> &'static str {
+    match number {
+        1 => "a line is not UTF-8",
+        2 => "a required line is missing",
+        3 => "not an integer of its type",
+        4 => "not a cents value",
+        5 => "not a numerator",
+        6 => "not a denominator",
+        7 => "not a decimal",
+        8 => "not a mapping entry",
+        9 => "a numeral with an exponent, a word, or over 18 digits",
+        10 => "a value, a state or a lent table that cannot be used",
+        11 => "a number leaves its type",
+        12 => "more than 8191 items or 8192 entries",
+        13 => "over 65,535 entries",
+        14 => "the text has another count of notes or entries than it says",
+        15 => "entries and no formal octave",
+        16 => "the key is outside the range",
+        17 => "the key is unmapped",
+        18 =>
+            "beyond reach: a period of 1.0, 0 divisions, or a computed pitch or ratio outside its range",
+        19 => "the reference key is unmapped, counted from the middle key",
+        25 => "the last key is below the first",
+        _ => "",
     }
-    &lines[0..0]
 }
 
-// The line with a number, from 1 on.
-fn line_of(lines: &[u8], number: usize) -> &[u8] {
-    let mut at: usize = 0;
-    for _ in 1..number {
-        let ends = text::lines::next_line(lines, at);
-        at = ends.next;
-    }
-    line_from(lines, at)
-}
-
-// Writes why a call refused.
-pub fn say<W: Write>(out: &mut W, number: u32) -> io::Result<()> {
-    if number == base::BACKWARDS_RANGE {
-        return out.write_all(b"the last key is below the first");
-    }
-    out.write_all(line_of(
-        b"a line is not UTF-8\na required line is missing\nnot an integer of its type\nnot a cents value\nnot a numerator\nnot a denominator\nnot a decimal\nnot a mapping entry\na numeral with an exponent, a word, or over 18 digits\na value, a state or a lent table that cannot be used\na number leaves its type\nmore than 8191 items or 8192 entries\nover 65,535 entries\nthe text has another count of notes or entries than it says\nentries and no formal octave\nthe key is outside the range\nthe key is unmapped\nbeyond reach: a period of 1.0, 0 divisions, or a computed pitch or ratio outside its range\nthe reference key is unmapped, counted from the middle key",
-        number as usize,
-    ))
-}
-
-// Writes on standard error that a required line is missing, the `line`th of those named.
-fn say_missing<E: Write>(err: &mut E, required: &[u8], line: usize) -> io::Result<()> {
-    err.write_all(b": ")?;
-    err.write_all(line_of(required, line))?;
-    err.write_all(b" is missing\n")
-}
-
-// Writes on standard error which file is refused, at which line and why; `required` names its required lines, a line for each.
+// Writes on standard error which file is refused, at which line and why; `required` names its required lines.
 pub fn refuse<E: Write>(
     err: &mut E,
     name: &[u8],
-    required: &[u8],
-    number: u32,
-    detail: usize,
+    required: &[&str],
+    refusal: Refusal,
 ) -> io::Result<()> {
     err.write_all(name)?;
-    if number == base::LINE_MISSING {
-        return say_missing(err, required, detail);
+    let detail = refusal.detail;
+    if refusal.reason == Reason::LineMissing {
+        let line = required.get(detail.wrapping_sub(1)).unwrap_or(&"");
+        return write!(err, ": {line} is missing\n");
     }
     if detail != 0 {
         write!(err, ":{detail}")?;
     }
-    err.write_all(b": ")?;
-    say(err, number)?;
-    err.write_all(b"\n")
+    let why = sentence(refusal.reason.number());
+    write!(err, ": {why}\n")
 }

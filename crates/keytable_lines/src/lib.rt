@@ -1,16 +1,13 @@
 // What a line of the program `keytable` is made of: numbers with three decimals, and how far a pitch lies above another in cents.
 #![tactic(auto)]
 
-ghost use Rattle.std.specs.Prelude.{◌≡◌, false};
-ghost use Rattle.base.specs.Said.{pick};
-ghost use Rattle.floats.specs.Answers.{says_float};
-ghost use Rattle.printing.specs.declared.Placed.TheVariants.{Full};
+ghost use Rattle.std.specs.Prelude.{◌≡◌, false, None};
+ghost use Rattle.base.specs.Said.{pick, outcome};
 ghost use Rattle.printing.specs.PrintText.{text_of, placed, written};
 ghost use Rattle.keytable_lines.specs.Shown.{printable, cents_above};
 
-use floats::FloatAnswer;
-use pitch::{Pitch, Ratio, RatioAnswer};
-use printing::Placed;
+use base::Refusal;
+use pitch::{Pitch, Ratio};
 
 // Whether a number is at most 2^53, as those are that are written with decimals.
 fn is_printable(x: f64) -> bool
@@ -20,22 +17,19 @@ fn is_printable(x: f64) -> bool
 }
 
 // x with three decimals at `at`. Full where it does not fit or is above 2^53, and then nothing is written.
-pub fn write_three(x: f64, out: &mut [u8], at: usize) -> Placed
-    ensures value { result ≡ pick (printable x) (placed out.old at (text_of 3 false x)) Full }
+pub fn write_three(x: f64, out: &mut [u8], at: usize) -> Option<usize>
+    ensures value { result ≡ pick (printable x) (placed out.old at (text_of 3 false x)) None }
     ensures out_after { out.new ≡ pick (printable x) (written out.old at (text_of 3 false x)) out.old }
 {
     if is_printable(x) {
         return printing::write_fixed(x, 3, false, out, at);
     }
-    Placed::Full
+    None
 }
 
 // How many cents a pitch lies above the reference's; 10, 18.
-pub fn cents_above(reference: Pitch, sound: Pitch) -> FloatAnswer
-    ensures { says_float result ≡ cents_above reference.0 sound.0 }
+pub fn cents_above(reference: Pitch, sound: Pitch) -> Result<f64, Refusal>
+    ensures { outcome result ≡ cents_above reference.0 sound.0 }
 {
-    match Ratio::between_pitches(reference, sound) {
-        RatioAnswer::Is(ratio) => ratio.as_cents(),
-        RatioAnswer::Refused(refusal) => FloatAnswer::Refused(refusal),
-    }
+    Ratio::between_pitches(reference, sound)?.as_cents()
 }

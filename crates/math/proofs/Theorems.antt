@@ -7,17 +7,14 @@ use native.Mathlib.Omega.{arith}
 use lib.IntN.{ℤ}
 use borrow.Author.Tests.{ne_eqb}
 use Rattle.base.specs.Integers.{Divides, floor_div, floor_mod}
-use Rattle.base.specs.Said.{gives, refuses, One}
+use Rattle.base.specs.Said.{gives, refuses, One, outcome}
 use Rattle.base.proofs.Division.{floor_divides, divides_one}
-use Rattle.base.proofs.Said.{Split, one_result, one_plain, one_answer}
-use Rattle.integer_math.specs.Answers.{says_i32}
+use Rattle.base.proofs.Said.{one_result, one_said, one_read}
 use Rattle.integer_math.proofs.Theorems.{i32_one}
-use Rattle.math.specs.Answers.{says_u32, says_division}
+use Rattle.math.specs.Answers.{says_division}
 use Rattle.math.specs.Division.{QuotientAndRemainder, quotient_of, remainder_of, division_of}
 use Rattle.math.specs.OddPart.{OddPart, odd_part}
 use Rattle.math.specs.declared.Division.{Division}
-use Rattle.math.specs.declared.U32Answer.TheVariants as U
-use Rattle.math.specs.declared.DivisionAnswer.TheVariants as D
 use Rattle.math.proofs.OddPart.{halved_is, one_part}
 
 -- both parts, from each
@@ -67,15 +64,6 @@ odd_part_law n h = halved_is 16 n h
 pub odd_part_one : (n m m' : ℕ) → OddPart n m → OddPart n m' → m ≡ m'
 odd_part_one n m m' = one_part
 
--- ---- two results of one input are equal
-pub u32_split : Split U.Is U.Refused
-u32_split (U.Is a) = inl (a, refl)
-u32_split (U.Refused r) = inr (r, refl)
-
-pub division_split : Split D.Is D.Refused
-division_split (D.Is a) = inl (a, refl)
-division_split (D.Refused r) = inr (r, refl)
-
 parts_of : Division → QuotientAndRemainder
 parts_of d = parts d.quotient d.remainder
 
@@ -83,15 +71,15 @@ parts_apart : (a b : Division) → parts_of a ≡ parts_of b → a ≡ b
 unfolding parts_of
 parts_apart a b e = λ i. record { quotient = (e i).quotient; remainder = (e i).remainder }
 
-pub i32_div_u_one : (z : ℤ) (s : ℕ) → One says_i32 (quotient_of z s)
+pub i32_div_u_one : (z : ℤ) (s : ℕ) → One outcome (quotient_of z s)
 i32_div_u_one z s = i32_one (quotient_of z s)
 
-pub i32_rem_u_one : (z : ℤ) (s : ℕ) → One says_u32 (remainder_of z s)
-i32_rem_u_one z s = one_plain u32_split says_u32 (λ a. refl) (λ r. refl) (remainder_of z s)
+pub i32_rem_u_one : (z : ℤ) (s : ℕ) → One outcome (remainder_of z s)
+i32_rem_u_one z s = one_said (remainder_of z s)
 
 pub i32_dr_u_one : (z : ℤ) (s : ℕ) → One says_division (division_of z s)
 unfolding parts_of
-i32_dr_u_one z s = one_answer division_split says_division parts_of parts_apart (λ a. refl) (λ r. refl) (division_of z s)
+i32_dr_u_one z s = one_read parts_of parts_apart (division_of z s)
 
 pub odd_factors_u16_one : (n : ℕ) → One (λ r. r) (odd_part n)
 odd_factors_u16_one n = one_result (odd_part n)

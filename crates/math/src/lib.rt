@@ -2,19 +2,12 @@
 #![tactic(auto)]
 
 ghost use Rattle.std.specs.Prelude.{◌≡◌};
-ghost use Rattle.integer_math.specs.Answers.{says_i32};
-ghost use Rattle.math.specs.Answers.{says_u32, says_division};
+ghost use Rattle.base.specs.Said.{outcome};
+ghost use Rattle.math.specs.Answers.{says_division};
 ghost use Rattle.math.specs.Division.{quotient_of, remainder_of, division_of};
 ghost use Rattle.math.specs.OddPart.{odd_part};
 
-use base::Refusal;
-use integer_math::I32Answer;
-
-#[derive(Clone, Copy)]
-pub enum U32Answer {
-    Is(u32),
-    Refused(Refusal),
-}
+use base::{Reason, Refusal};
 
 // What a division gives, both parts of it.
 #[derive(Clone, Copy)]
@@ -23,46 +16,40 @@ pub struct Division {
     pub remainder: u32,
 }
 
-#[derive(Clone, Copy)]
-pub enum DivisionAnswer {
-    Is(Division),
-    Refused(Refusal),
-}
-
 // 10: the denominator is 0.
 const DENOM_IS_ZERO: Refusal = Refusal {
-    number: base::UNUSABLE,
+    reason: Reason::Unusable,
     detail: 0,
 };
 
 // The quotient rounded down; 10 for denominator 0.
-pub fn i32_div_u(numer: i32, denom: u32) -> I32Answer
-    ensures { says_i32 result ≡ quotient_of numer denom }
+pub fn i32_div_u(numer: i32, denom: u32) -> Result<i32, Refusal>
+    ensures { outcome result ≡ quotient_of numer denom }
 {
     if denom == 0 {
-        return I32Answer::Refused(DENOM_IS_ZERO);
+        return Err(DENOM_IS_ZERO);
     }
-    I32Answer::Is(integer_math::quotient(numer, denom))
+    Ok(integer_math::quotient(numer, denom))
 }
 
 // The remainder, from 0 up to the denominator; 10 for denominator 0.
-pub fn i32_rem_u(numer: i32, denom: u32) -> U32Answer
-    ensures { says_u32 result ≡ remainder_of numer denom }
+pub fn i32_rem_u(numer: i32, denom: u32) -> Result<u32, Refusal>
+    ensures { outcome result ≡ remainder_of numer denom }
 {
     if denom == 0 {
-        return U32Answer::Refused(DENOM_IS_ZERO);
+        return Err(DENOM_IS_ZERO);
     }
-    U32Answer::Is(integer_math::remainder(numer, denom))
+    Ok(integer_math::remainder(numer, denom))
 }
 
 // Quotient and remainder in one call; 10 for denominator 0.
-pub fn i32_dr_u(numer: i32, denom: u32) -> DivisionAnswer
+pub fn i32_dr_u(numer: i32, denom: u32) -> Result<Division, Refusal>
     ensures { says_division result ≡ division_of numer denom }
 {
     if denom == 0 {
-        return DivisionAnswer::Refused(DENOM_IS_ZERO);
+        return Err(DENOM_IS_ZERO);
     }
-    DivisionAnswer::Is(Division {
+    Ok(Division {
         quotient: integer_math::quotient(numer, denom),
         remainder: integer_math::remainder(numer, denom),
     })

@@ -1,4 +1,5 @@
 -- Digits with a dot, and an exponent, as the scan goes over them: what it finds is what the language says. Assumes nothing.
+use Rattle.std.specs.Prelude.{None, Some}
 use mathlib.Core.Path.{◌≡◌, refl, sym, ◌∙◌, ap}
 use mathlib.Core.List.{List, [], ◌∷◌, ◌++◌, append-nil}
 use mathlib.Core.Bool.{Bool, true, false}
@@ -14,7 +15,6 @@ use Rattle.integers.specs.Digits.{AllDigits}
 use Rattle.numerals.specs.Scan.{digit_run_of, run_at, after_sign, after_dot, mark_at, digits_to_end, exponent_at, scaled as withExponent, ended_at, number_at}
 use Rattle.numerals.specs.declared.Run.{Run}
 use Rattle.numerals.specs.declared.Numeral.{Numeral}
-use Rattle.numerals.specs.declared.Scanned.TheVariants as scanned
 use Rattle.numerals.proofs.Runs.{number_is, exponent_some}
 use Rattle.numerals.proofs.Values.{grown_all, counted_all, grown_append, counted_append, Stops, run_over, split}
 use Rattle.numerals.proofs.Places.{At, at_over, at_next, at_byte, at_more, at_end, NoSign, after_signed, unsigned}
@@ -91,10 +91,10 @@ exponent_sound {s} {at} (b ∷ t) h e = by_mark (mark_at s at) refl e
     by_mark false k f = let z : ◌≡◌ {A = ℕ} 0 1 = cc in absurd (omega arith)
 
 -- THE END OF A NUMBER
-pub ended_plain : {s : List ℕ} {end : ℕ} (found : ℕ) (x : Numeral) → 0 < found → At s end [] → ended_at s found x end ≡ scanned.Is x
+pub ended_plain : {s : List ℕ} {end : ℕ} (found : ℕ) (x : Numeral) → 0 < found → At s end [] → ended_at s found x end ≡ Some x
 ended_plain {s} {end} found x h a = rw (ne_eqb found 0 (λ e. omega arith), eq-eqb end (length s) (at_end a))
 
-pub ended_scaled : {s : List ℕ} {end : ℕ} {r : List ℕ} (found : ℕ) (x : Numeral) → 0 < found → At s end r → Exponent r → ended_at s found x end ≡ scanned.Is (withExponent x)
+pub ended_scaled : {s : List ℕ} {end : ℕ} {r : List ℕ} (found : ℕ) (x : Numeral) → 0 < found → At s end r → Exponent r → ended_at s found x end ≡ Some (withExponent x)
 ended_scaled {s} {end} {r} found x h a e =
     let g : At s end (e.mark ∷ e.rest) = rw e.starts at a in
     rw (ne_eqb found 0 (λ k. omega arith), ne_eqb end (length s) (λ k. omega (arith, at_more g)), exponent_complete a e)
@@ -104,22 +104,22 @@ pub data Ended (r : List ℕ) (x y : Numeral) : Type 0 where
   plain : r ≡ [] → x ≡ y → Ended r x y
   scaled : Exponent r → withExponent x ≡ y → Ended r x y
 
-pub ended_sound : {s : List ℕ} {end : ℕ} (r : List ℕ) (found : ℕ) (x y : Numeral) → At s end r → ended_at s found x end ≡ scanned.Is y → (0 < found) × Ended r x y
+pub ended_sound : {s : List ℕ} {end : ℕ} (r : List ℕ) (found : ℕ) (x y : Numeral) → At s end r → ended_at s found x end ≡ Some y → (0 < found) × Ended r x y
 ended_sound {s} {end} r found x y a e = by_found (eqb found 0) refl e
   where
     nothing : (r' : List ℕ) → At s end r' → end ≡ length s → r' ≡ []
     nothing [] b k = refl
     nothing (c ∷ r') b k = absurd (omega (arith, at_more b))
 
-    by_exponent : (q : Bool) → exponent_at s end ≡ q → pick q (scanned.Is (withExponent x)) scanned.Bad ≡ scanned.Is y → Ended r x y
+    by_exponent : (q : Bool) → exponent_at s end ≡ q → pick q (Some (withExponent x)) None ≡ Some y → Ended r x y
     by_exponent true k f = Ended.scaled (exponent_sound r a k) (let z : withExponent x ≡ y = cc in z)
     by_exponent false k f = let z : ◌≡◌ {A = ℕ} 0 1 = cc in absurd (omega arith)
 
-    by_end : (q : Bool) → eqb end (length s) ≡ q → pick q (scanned.Is x) (pick (exponent_at s end) (scanned.Is (withExponent x)) scanned.Bad) ≡ scanned.Is y → Ended r x y
+    by_end : (q : Bool) → eqb end (length s) ≡ q → pick q (Some x) (pick (exponent_at s end) (Some (withExponent x)) None) ≡ Some y → Ended r x y
     by_end true k f = Ended.plain (nothing r a (eqb-true end (length s) k)) (let z : x ≡ y = cc in z)
     by_end false k f = by_exponent (exponent_at s end) refl f
 
-    by_found : (q : Bool) → eqb found 0 ≡ q → pick q scanned.Bad (pick (eqb end (length s)) (scanned.Is x) (pick (exponent_at s end) (scanned.Is (withExponent x)) scanned.Bad)) ≡ scanned.Is y → (0 < found) × Ended r x y
+    by_found : (q : Bool) → eqb found 0 ≡ q → pick q None (pick (eqb end (length s)) (Some x) (pick (exponent_at s end) (Some (withExponent x)) None)) ≡ Some y → (0 < found) × Ended r x y
     by_found true k f = let z : ◌≡◌ {A = ℕ} 0 1 = cc in absurd (omega arith)
     by_found false k f = (pos_of_ne found (eqb-false found 0 k), by_end (eqb end (length s)) refl f)
       where

@@ -1,4 +1,5 @@
 -- What a scan has seen: every f64 text is scanned as what it is, and what is scanned is an f64 text. Assumes nothing.
+use Rattle.std.specs.Prelude.{Some}
 use mathlib.Core.Path.{◌≡◌, refl, sym, ◌∙◌, ap}
 use mathlib.Core.List.{List, [], ◌∷◌, ◌++◌, append-nil, append_assoc}
 use mathlib.Core.Bool.{Bool, true, false}
@@ -13,7 +14,6 @@ use Rattle.integers.specs.Digits.{AllDigits, decimal}
 use Rattle.integers.proofs.Digits.{all_append}
 use Rattle.numerals.specs.Scan.{after_sign, word_at, minus_first, number_at, scaled as withExponent, scan_of}
 use Rattle.numerals.specs.declared.Numeral.{Numeral}
-use Rattle.numerals.specs.declared.Scanned.TheVariants as scanned
 use Rattle.numerals.proofs.Values.{Stops, split, counted_is, value_is}
 use Rattle.numerals.proofs.Places.{At, at_start, after_signed, signed_minus, Unsigned, unsigned}
 use Rattle.numerals.proofs.Words.{Opens, opens_sign, opens_word, word_sound, word_complete, word_sign}
@@ -40,7 +40,7 @@ seen_plain whole part e a b =
 -- the numeral that a text was scanned as
 pub record Scan (s : List ℕ) (f : Form) : Type 0 where
   pub numeral : Numeral
-  pub is : scan_of s ≡ scanned.Is numeral
+  pub is : scan_of s ≡ Some numeral
   pub seen : Seen f numeral
 
 -- digits with a dot, where a text goes on with r
@@ -92,7 +92,7 @@ pub record Found (s : List ℕ) (x : Numeral) : Type 0 where
 
 module _ (s : List ℕ) (x : Numeral) (u : Unsigned s s 0) where
   finish : (m whole part r : List ℕ) → u.body ≡ m ++ r → AllDigits whole → AllDigits part → (m ≡ whole ++ (46 ∷ part)) ⊎ ((m ≡ whole) × (part ≡ [])) →
-      ScannedAs s (minus_first s) (after_sign s 0) whole part r → number_at s (minus_first s) (after_sign s 0) ≡ scanned.Is x → Found s x
+      ScannedAs s (minus_first s) (after_sign s 0) whole part r → number_at s (minus_first s) (after_sign s 0) ≡ Some x → Found s x
   finish m whole part r e a b w N h =
       let k = ended_sound r (length whole + length part) (numeral_of (minus_first s) whole part) x N.place (sym N.is ∙ h) in
       let d : DottedDigits m whole part = record { first = a; second = b; some = k.0; writes = w } in
@@ -110,7 +110,7 @@ module _ (s : List ℕ) (x : Numeral) (u : Unsigned s s 0) where
       go d (Ended.scaled f g) =
           record { form = Form.scaled; text = FloatText.scaled u.signed e d f; seen = sym (ap (λ (y : Numeral). y.plain) g) }
 
-  by_rest : (whole r : List ℕ) → u.body ≡ whole ++ r → AllDigits whole → Stops r → number_at s (minus_first s) (after_sign s 0) ≡ scanned.Is x → Found s x
+  by_rest : (whole r : List ℕ) → u.body ≡ whole ++ r → AllDigits whole → Stops r → number_at s (minus_first s) (after_sign s 0) ≡ Some x → Found s x
   by_rest whole [] e a t h =
       let g : At s (after_sign s 0) (whole ++ []) = rw e at u.place in
       finish whole whole [] [] e a tt (inr (refl, refl)) (numbered_plain (minus_first s) whole [] g a tt tt) h
@@ -127,7 +127,7 @@ module _ (s : List ℕ) (x : Numeral) (u : Unsigned s s 0) where
           let g : At s (after_sign s 0) (whole ++ (b ∷ r)) = rw e at u.place in
           finish whole whole [] (b ∷ r) e a tt (inr (refl, refl)) (numbered_plain (minus_first s) whole (b ∷ r) g a t (eqb-false b 46 k)) h
 
-pub sound : (s : List ℕ) (x : Numeral) → scan_of s ≡ scanned.Is x → Found s x
+pub sound : (s : List ℕ) (x : Numeral) → scan_of s ≡ Some x → Found s x
 unfolding scan_of
 sound s x e = by_word (word_at s (after_sign s 0)) refl e
   where
@@ -135,7 +135,7 @@ sound s x e = by_word (word_at s (after_sign s 0)) refl e
     u = unsigned s (at_start s)
 
     by_word : (t : Bool) → word_at s (after_sign s 0) ≡ t →
-        pick t (scanned.Is (record { negative = minus_first s; n = 0; significant = 0; places = 0; plain = false })) (number_at s (minus_first s) (after_sign s 0)) ≡ scanned.Is x → Found s x
+        pick t (Some (record { negative = minus_first s; n = 0; significant = 0; places = 0; plain = false })) (number_at s (minus_first s) (after_sign s 0)) ≡ Some x → Found s x
     by_word true k h =
         let z : record { negative = minus_first s; n = 0; significant = 0; places = 0; plain = false } ≡ x = cc in
         record { form = Form.word; text = FloatText.word u.signed (word_sound s (after_sign s 0) u.place.rest k); seen = sym (ap (λ (y : Numeral). y.plain) z) }

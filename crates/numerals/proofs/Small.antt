@@ -1,4 +1,5 @@
 -- The number of a scanned numeral is below 10^18. Assumes nothing.
+use Rattle.std.specs.Prelude.{None, Some, Option}
 use mathlib.Core.Path.{refl}
 use mathlib.Core.List.{List}
 use mathlib.Core.Bool.{Bool, true, false}
@@ -10,19 +11,17 @@ use Rattle.base.specs.Said.{pick}
 use Rattle.numerals.specs.Scan.{after_sign, after_dot, word_at, exponent_at, run_at, ended_at, after_part, number_at, scaled, scan_of, minus_first}
 use Rattle.numerals.specs.declared.Run.{Run}
 use Rattle.numerals.specs.declared.Numeral.{Numeral}
-use Rattle.numerals.specs.declared.Scanned.{Scanned}
-use Rattle.numerals.specs.declared.Scanned.TheVariants as scanned
 use Rattle.numerals.proofs.Bounds.{run_in, dot_in, sign_in}
 
 -- the number of a numeral is below 10^18
-abbrev pub Small : Scanned → Type 0
-Small (scanned.Is x) = x.n < 10 ^ 18
-Small scanned.Bad = Unit {0}
+abbrev pub Small : (Option Numeral) → Type 0
+Small (Some x) = x.n < 10 ^ 18
+Small None = Unit {0}
 
 ended_small : (s : List ℕ) (found : ℕ) (x : Numeral) (end : ℕ) → x.n < 10 ^ 18 → Small (ended_at s found x end)
 ended_small s found x end h = go (eqb found 0) (eqb end (length s)) (exponent_at s end)
   where
-    go : (a b c : Bool) → Small (pick a scanned.Bad (pick b (scanned.Is x) (pick c (scanned.Is (scaled x)) scanned.Bad)))
+    go : (a b c : Bool) → Small (pick a None (pick b (Some x) (pick c (Some (scaled x)) None)))
     go true b c = tt
     go false true c = h
     go false false true = h
@@ -45,6 +44,6 @@ unfolding scan_of
 scan_small s = go (word_at s (after_sign s 0)) (number_small s (minus_first s) (after_sign s 0) (sign_in s 0 (omega arith)).1)
   where
     go : (t : Bool) → Small (number_at s (minus_first s) (after_sign s 0)) →
-        Small (pick t (scanned.Is (record { negative = minus_first s; n = 0; significant = 0; places = 0; plain = false })) (number_at s (minus_first s) (after_sign s 0)))
+        Small (pick t (Some (record { negative = minus_first s; n = 0; significant = 0; places = 0; plain = false })) (number_at s (minus_first s) (after_sign s 0)))
     go true h = omega arith
     go false h = h

@@ -1,12 +1,10 @@
 -- What the code of a scan computes, step for step: document 01, "Lines", Decimal. Which texts these are is said without a
 -- reader in FloatText. Assumes nothing.
-use Rattle.std.specs.Prelude.{List, [], ◌∷◌, Bool, true, false, ℕ, ◌+◌, ◌-◌, ◌*◌, ◌^◌, length, get_or, drop, ltb, eqb}
+use Rattle.std.specs.Prelude.{List, [], ◌∷◌, Bool, true, false, ℕ, ◌+◌, ◌-◌, ◌*◌, ◌^◌, length, get_or, drop, ltb, eqb, None, Some, Option}
 use Rattle.base.specs.Said.{pick}
 use Rattle.integers.specs.Digits.{is_digit}
 use Rattle.numerals.specs.declared.Run.{Run}
 use Rattle.numerals.specs.declared.Numeral.{Numeral}
-use Rattle.numerals.specs.declared.Scanned.{Scanned}
-use Rattle.numerals.specs.declared.Scanned.TheVariants as scanned
 
 -- n with the digit d after it; a number of 18 digits stays as it is
 abbrev pub grown_by : ℕ → ℕ → ℕ
@@ -80,26 +78,26 @@ abbrev pub scaled : Numeral → Numeral
 scaled x = record { negative = x.negative; n = x.n; significant = x.significant; places = x.places; plain = false }
 
 -- x, where `found` digits were read and the text ends at `end`, or an exponent stands there
-abbrev pub ended_at : List ℕ → ℕ → Numeral → ℕ → Scanned
+abbrev pub ended_at : List ℕ → ℕ → Numeral → ℕ → (Option Numeral)
 ended_at s found x end =
-    pick (eqb found 0) scanned.Bad
-    (pick (eqb end (length s)) (scanned.Is x) (pick (exponent_at s end) (scanned.Is (scaled x)) scanned.Bad))
+    pick (eqb found 0) None
+    (pick (eqb end (length s)) (Some x) (pick (exponent_at s end) (Some (scaled x)) None))
 
 -- the same, where the digits r from `dot` on follow `found` digits
-abbrev pub after_part : List ℕ → Bool → ℕ → ℕ → Run → Scanned
+abbrev pub after_part : List ℕ → Bool → ℕ → ℕ → Run → (Option Numeral)
 after_part s negative found dot r =
     ended_at s (found + (r.at - dot)) (record { negative = negative; n = r.n; significant = r.significant; places = r.at - dot; plain = true }) r.at
 
 -- the same, where the digits r stand from `from` on
-abbrev pub after_whole : List ℕ → Bool → ℕ → Run → Scanned
+abbrev pub after_whole : List ℕ → Bool → ℕ → Run → (Option Numeral)
 after_whole s negative from r = after_part s negative (r.at - from) (after_dot s r.at) (run_at s r.n r.significant (after_dot s r.at))
 
 -- the numeral that the text from `from` on is, after its sign
-abbrev pub number_at : List ℕ → Bool → ℕ → Scanned
+abbrev pub number_at : List ℕ → Bool → ℕ → (Option Numeral)
 number_at s negative from = after_whole s negative from (run_at s 0 0 from)
 
 -- the numeral that a text is
-unfoldable pub scan_of : List ℕ → Scanned
+unfoldable pub scan_of : List ℕ → (Option Numeral)
 scan_of s =
-    pick (word_at s (after_sign s 0)) (scanned.Is (record { negative = minus_first s; n = 0; significant = 0; places = 0; plain = false }))
+    pick (word_at s (after_sign s 0)) (Some (record { negative = minus_first s; n = 0; significant = 0; places = 0; plain = false }))
     (number_at s (minus_first s) (after_sign s 0))

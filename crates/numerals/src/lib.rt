@@ -26,13 +26,6 @@ pub struct Numeral {
     pub plain: bool,
 }
 
-// A numeral of Rust's f64, or none.
-#[derive(Clone, Copy)]
-pub enum Scanned {
-    Is(Numeral),
-    Bad,
-}
-
 // n with the digit d after it; a number of 18 digits stays as it is.
 fn grown(n: u64, d: u64) -> u64
     requires { (n < 10 ^ 18) × (d ≤ 9) }
@@ -60,32 +53,22 @@ fn digits(s: &[u8], n: u64, count: usize, from: usize) -> Run
 {
     let mut number = n;
     let mut significant = count;
-    let mut at = from;
-    while at < s.len() {
-        let b = s[at];
-        if b < b'0' {
+    for at in from..s.len() {
+        if !s[at].is_ascii_digit() {
             return Run {
                 n: number,
                 significant,
                 at,
             };
         }
-        if b'9' < b {
-            return Run {
-                n: number,
-                significant,
-                at,
-            };
-        }
-        let d = integers::wide(b - b'0');
+        let d = u64::from(s[at] - b'0');
         significant = counted(number, d, significant);
         number = grown(number, d);
-        at += 1;
     }
     Run {
         n: number,
         significant,
-        at,
+        at: s.len(),
     }
 }
 
@@ -93,13 +76,7 @@ fn digits(s: &[u8], n: u64, count: usize, from: usize) -> Run
 fn lower(b: u8) -> u8
     ensures { result ≡ lowered b }
 {
-    if b < b'A' {
-        return b;
-    }
-    if b'Z' < b {
-        return b;
-    }
-    b + 32
+    if b.is_ascii_uppercase() { b + 32 } else { b }
 }
 
 // Whether the bytes from `from` on are the word w, in any case.
@@ -107,19 +84,15 @@ fn spells(s: &[u8], from: usize, w: &[u8]) -> bool
     requires { from ≤ length s.now }
     ensures { result ≡ spelled (drop from s.now) w.now }
 {
-    if s.len() - from == w.len() {
-        let mut i = 0;
-        while i < w.len() {
-            if lower(s[from + i]) == w[i] {
-                i += 1;
-            } else {
-                return false;
-            }
-        }
-        true
-    } else {
-        false
+    if s.len() - from != w.len() {
+        return false;
     }
+    for (i, c) in w.iter().enumerate() {
+        if lower(s[from + i]) != *c {
+            return false;
+        }
+    }
+    true
 }
 
 // Whether the bytes from `from` on are `inf`, `infinity` or `nan`, in any case.
@@ -127,99 +100,78 @@ fn is_word(s: &[u8], from: usize) -> bool
     requires { from ≤ length s.now }
     ensures { result ≡ word_at s.now from }
 {
-    if spells(s, from, b"inf") {
-        return true;
-    }
-    if spells(s, from, b"infinity") {
-        return true;
-    }
-    spells(s, from, b"nan")
+    spells(s, from, b"inf") || spells(s, from, b"infinity") || spells(s, from, b"nan")
 }
 
 // Whether the text starts with a minus.
 fn is_negative(s: &[u8]) -> bool
     ensures { result ≡ minus_first s.now }
 {
-    if 0 < s.len() { s[0] == b'-' } else { false }
+    s.len() > 0 && s[0] == b'-'
 }
 
 // The place after the sign at `at`, or `at` where there is none.
 fn after_sign(s: &[u8], at: usize) -> usize
     ensures { result ≡ after_sign s.now at }
 {
-    if at < s.len() {
-        let b = s[at];
-        if b == b'+' {
-            return at + 1;
-        }
-        if b == b'-' {
-            return at + 1;
-        }
+    if at < s.len() && matches!(s[at], b'+' | b'-') {
+        at + 1
+    } else {
+        at
     }
-    at
 }
 
 // The place after the dot at `at`, or `at` where there is none.
 fn after_dot(s: &[u8], at: usize) -> usize
     ensures { result ≡ after_dot s.now at }
 {
-    if at < s.len() {
-        if s[at] == b'.' {
-            return at + 1;
-        }
+    if at < s.len() && s[at] == b'.' {
+        at + 1
+    } else {
+        at
     }
-    at
 }
 
 // Whether `e` or `E` stands at `at`.
 fn is_mark(s: &[u8], at: usize) -> bool
     ensures { result ≡ mark_at s.now at }
 {
-    if at < s.len() {
-        let b = s[at];
-        if b == b'e' { true } else { b == b'E' }
-    } else {
-        false
-    }
+    at < s.len() && matches!(s[at], b'e' | b'E')
 }
 
 // Whether an exponent stands from `at` on: `e` or `E`, an optional sign, one or more digits to the end.
 fn is_exponent(s: &[u8], at: usize) -> bool
     ensures { result ≡ exponent_at s.now at }
 {
-    if is_mark(s, at) {
-        let from = after_sign(s, at + 1);
-        let r = digits(s, 0, 0, from);
-        if from < r.at { r.at == s.len() } else { false }
-    } else {
-        false
+    if !is_mark(s, at) {
+        return false;
     }
+    let from = after_sign(s, at + 1);
+    let r = digits(s, 0, 0, from);
+    from < r.at && r.at == s.len()
 }
 
 // What the digits read so far write, where the numeral ends at `end` or an exponent follows.
-fn ended(s: &[u8], found: usize, numeral: Numeral, end: usize) -> Scanned
+fn ended(s: &[u8], found: usize, numeral: Numeral, end: usize) -> Option<Numeral>
     ensures { result ≡ ended_at s.now found numeral end }
 {
     if found == 0 {
-        return Scanned::Bad;
+        return None;
     }
     if end == s.len() {
-        return Scanned::Is(numeral);
+        return Some(numeral);
     }
     if is_exponent(s, end) {
-        return Scanned::Is(Numeral {
-            negative: numeral.negative,
-            n: numeral.n,
-            significant: numeral.significant,
-            places: numeral.places,
+        return Some(Numeral {
             plain: false,
+            ..numeral
         });
     }
-    Scanned::Bad
+    None
 }
 
 // The numeral from `from` on, after its sign: digits with at most one dot, and perhaps an exponent.
-fn scan_number(s: &[u8], negative: bool, from: usize) -> Scanned
+fn scan_number(s: &[u8], negative: bool, from: usize) -> Option<Numeral>
     requires { from ≤ length s.now }
     ensures { result ≡ number_at s.now negative from }
 {
@@ -237,14 +189,14 @@ fn scan_number(s: &[u8], negative: bool, from: usize) -> Scanned
     ended(s, whole.at - from + places, numeral, part.at)
 }
 
-// The numeral that the text is, by Rust's grammar of f64, or Bad.
-pub fn scan(s: &[u8]) -> Scanned
+// The numeral that the text is, by Rust's grammar of f64, or none.
+pub fn scan(s: &[u8]) -> Option<Numeral>
     ensures { result ≡ scan_of s.now }
 {
     let negative = is_negative(s);
     let from = after_sign(s, 0);
     if is_word(s, from) {
-        return Scanned::Is(Numeral {
+        return Some(Numeral {
             negative,
             n: 0,
             significant: 0,

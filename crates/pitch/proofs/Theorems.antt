@@ -1,52 +1,28 @@
 -- Each call of this crate has one result. Assumes nothing.
-use mathlib.Core.Path.{refl}
-use mathlib.Core.Logic.{inl, inr}
+use Rattle.std.specs.declared.cmp.Ordering.{Ordering}
 use mathlib.Core.Bool.{Bool}
 use lib.Ieee.{Float}
-use Rattle.base.specs.Said.{Said, One}
-use Rattle.base.proofs.Said.{Split, one_result, one_plain, one_answer}
-use Rattle.floats.specs.Answers.{says_float}
+use Rattle.base.specs.Said.{Said, One, outcome}
+use Rattle.base.proofs.Said.{one_result, one_said, one_read}
 use Rattle.floats.specs.Floats.{one_f}
 use Rattle.floats.proofs.Theorems.{float_one}
-use Rattle.pitch.specs.Answers.{says_ratio, says_pitch, says_bool, says_order}
+use Rattle.pitch.specs.Answers.{says_ratio, says_pitch}
 use Rattle.pitch.specs.Given.{computed}
 use Rattle.pitch.specs.Pitches.{from_hz, as_hz, pitch_times, pitch_over, between_pitches}
 use Rattle.pitch.specs.Ratios.{two_f, upward, from_float, from_octaves, from_semitones, from_cents, as_float, as_octaves, as_semitones, as_cents, stretched_by, deviation_from, repeated, divided_into, steps_of_size, inverse, absolute, is_negligible, total_cmp}
-use Rattle.pitch.specs.declared.BoolAnswer.TheVariants as OfBool
-use Rattle.pitch.specs.declared.Order.{Order}
-use Rattle.pitch.specs.declared.OrderAnswer.TheVariants as OfOrder
-use Rattle.pitch.specs.declared.PitchAnswer.TheVariants as OfPitch
 use Rattle.pitch.specs.declared.Ratio.{Ratio}
-use Rattle.pitch.specs.declared.RatioAnswer.TheVariants as OfRatio
-
--- ---- an answer is a value or a refusal
-pub ratio_split : Split OfRatio.Is OfRatio.Refused
-ratio_split (OfRatio.Is x) = inl (x, refl)
-ratio_split (OfRatio.Refused r) = inr (r, refl)
-
-pub pitch_split : Split OfPitch.Is OfPitch.Refused
-pitch_split (OfPitch.Is x) = inl (x, refl)
-pitch_split (OfPitch.Refused r) = inr (r, refl)
-
-pub bool_split : Split OfBool.Is OfBool.Refused
-bool_split (OfBool.Is x) = inl (x, refl)
-bool_split (OfBool.Refused r) = inr (r, refl)
-
-pub order_split : Split OfOrder.Is OfOrder.Refused
-order_split (OfOrder.Is x) = inl (x, refl)
-order_split (OfOrder.Refused r) = inr (r, refl)
 
 pub ratio_one : (s : Said Float) → One says_ratio s
-ratio_one = one_answer ratio_split says_ratio (λ r. r.0) (λ a b e i. record { 0 = e i }) (λ a. refl) (λ r. refl)
+ratio_one = one_read (λ r. r.0) (λ a b e i. record { 0 = e i })
 
 pub pitch_one : (s : Said Float) → One says_pitch s
-pitch_one = one_answer pitch_split says_pitch (λ p. p.0) (λ a b e i. record { 0 = e i }) (λ a. refl) (λ r. refl)
+pitch_one = one_read (λ p. p.0) (λ a b e i. record { 0 = e i })
 
-pub bool_one : (s : Said Bool) → One says_bool s
-bool_one = one_plain bool_split says_bool (λ a. refl) (λ r. refl)
+pub bool_one : (s : Said Bool) → One outcome s
+bool_one = one_said
 
-pub order_one : (s : Said Order) → One says_order s
-order_one = one_plain order_split says_order (λ a. refl) (λ r. refl)
+pub order_one : (s : Said Ordering) → One outcome s
+order_one = one_said
 
 -- ---- two results of one input are equal
 pub checked_ratio_one : (x : Float) → One says_ratio (computed x)
@@ -67,7 +43,7 @@ unison_one = one_result (record { 0 = one_f })
 pub from_hz_one : (hz : Float) → One says_pitch (from_hz hz)
 from_hz_one hz = pitch_one (from_hz hz)
 
-pub as_hz_one : (hz : Float) → One says_float (as_hz hz)
+pub as_hz_one : (hz : Float) → One outcome (as_hz hz)
 as_hz_one hz = float_one (as_hz hz)
 
 pub times_one : (hz r : Float) → One says_pitch (pitch_times hz r)
@@ -103,19 +79,19 @@ repeated_one r n = ratio_one (repeated r n)
 pub divided_into_equal_steps_one : (r n : Float) → One says_ratio (divided_into r n)
 divided_into_equal_steps_one r n = ratio_one (divided_into r n)
 
-pub num_equal_steps_of_size_one : (r s : Float) → One says_float (steps_of_size r s)
+pub num_equal_steps_of_size_one : (r s : Float) → One outcome (steps_of_size r s)
 num_equal_steps_of_size_one r s = float_one (steps_of_size r s)
 
-pub as_float_one : (r : Float) → One says_float (as_float r)
+pub as_float_one : (r : Float) → One outcome (as_float r)
 as_float_one r = float_one (as_float r)
 
-pub as_octaves_one : (r : Float) → One says_float (as_octaves r)
+pub as_octaves_one : (r : Float) → One outcome (as_octaves r)
 as_octaves_one r = float_one (as_octaves r)
 
-pub as_semitones_one : (r : Float) → One says_float (as_semitones r)
+pub as_semitones_one : (r : Float) → One outcome (as_semitones r)
 as_semitones_one r = float_one (as_semitones r)
 
-pub as_cents_one : (r : Float) → One says_float (as_cents r)
+pub as_cents_one : (r : Float) → One outcome (as_cents r)
 as_cents_one r = float_one (as_cents r)
 
 pub inv_one : (r : Float) → One says_ratio (inverse r)
@@ -124,8 +100,8 @@ inv_one r = ratio_one (inverse r)
 pub abs_one : (r : Float) → One says_ratio (absolute r)
 abs_one r = ratio_one (absolute r)
 
-pub is_negligible_one : (r : Float) → One says_bool (is_negligible r)
+pub is_negligible_one : (r : Float) → One outcome (is_negligible r)
 is_negligible_one r = bool_one (is_negligible r)
 
-pub total_cmp_one : (a b : Float) → One says_order (total_cmp a b)
+pub total_cmp_one : (a b : Float) → One outcome (total_cmp a b)
 total_cmp_one a b = order_one (total_cmp a b)

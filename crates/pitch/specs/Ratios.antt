@@ -1,6 +1,8 @@
 -- Ratios of two frequencies: the Rust's `Ratio`, its f64 steps in its order, once rounded each, with document 01's E and
 -- L for exp2 and log2. A ratio stands for its number. Assumes nothing.
 use Rattle.std.specs.Prelude.{Bool, ◌&&◌, pos, Float}
+use Rattle.std.specs.declared.cmp.Ordering.{Ordering}
+use Rattle.std.specs.declared.cmp.Ordering.TheVariants.{Less, Equal, Greater}
 use Rattle.std.specs.Float.{binary64}
 use Rattle.std.specs.Float.Ieee.{mul, div, neg, lt, of_bits}
 use Rattle.base.specs.Said.{Said, gives, pick, and_then}
@@ -8,8 +10,6 @@ use Rattle.floats.specs.Floats.{two_to, one_f}
 use Rattle.floats.specs.Ranges.{negligible}
 use Rattle.explog.specs.Rules.{E, L}
 use Rattle.pitch.specs.Given.{given, both_given, computed}
-use Rattle.pitch.specs.declared.Order.{Order}
-use Rattle.pitch.specs.declared.Order.TheVariants.{Lower, Same, Higher}
 
 -- 2.0, 12.0, 100.0, 1200.0
 abbrev pub two_f : Float
@@ -87,8 +87,8 @@ abbrev pub is_negligible : Float → Said Bool
 is_negligible r = given r (gives (negligible r))
 
 -- which of two ratios is the higher
-abbrev pub order_of : Float → Float → Order
-order_of r other = pick (lt r other) Lower (pick (lt other r) Higher Same)
+abbrev pub order_of : Float → Float → Ordering
+order_of r other = pick (lt r other) Less (pick (lt other r) Greater Equal)
 
-abbrev pub total_cmp : Float → Float → Said Order
+abbrev pub total_cmp : Float → Float → Said Ordering
 total_cmp r other = both_given r other (gives (order_of r other))

@@ -2,8 +2,6 @@
 // A given pitch or ratio outside 2^-900..2^900 is refused by 10, a computed one by 18 at its step.
 #![tactic(auto)]
 
-use base::Refusal;
-
 mod measures;
 mod pitches;
 mod ratios;
@@ -11,8 +9,11 @@ mod ratios;
 ghost use Rattle.std.specs.Prelude.{◌≡◌, ◌&&◌};
 ghost use Rattle.floats.specs.Ranges.{in_reach};
 ghost use Rattle.pitch.specs.Answers.{says_ratio, says_pitch};
-ghost use Rattle.pitch.specs.Given.{computed};
+ghost use Rattle.base.specs.Said.{gives, outcome};
+ghost use Rattle.pitch.specs.Given.{given, computed};
 ghost use Rattle.pitch.specs.Ratios.{upward};
+
+use base::{Reason, Refusal};
 
 // How far two frequencies are apart, as their quotient.
 #[derive(Clone, Copy)]
@@ -22,47 +23,15 @@ pub struct Ratio(pub f64);
 #[derive(Clone, Copy)]
 pub struct Pitch(pub f64);
 
-#[derive(Clone, Copy)]
-pub enum RatioAnswer {
-    Is(Ratio),
-    Refused(Refusal),
-}
-
-#[derive(Clone, Copy)]
-pub enum PitchAnswer {
-    Is(Pitch),
-    Refused(Refusal),
-}
-
-#[derive(Clone, Copy)]
-pub enum BoolAnswer {
-    Is(bool),
-    Refused(Refusal),
-}
-
-// Which of two is the higher.
-#[derive(Clone, Copy)]
-pub enum Order {
-    Lower,
-    Same,
-    Higher,
-}
-
-#[derive(Clone, Copy)]
-pub enum OrderAnswer {
-    Is(Order),
-    Refused(Refusal),
-}
-
 // 10: a given number is outside 2^-900..2^900.
 const NOT_USABLE: Refusal = Refusal {
-    number: base::UNUSABLE,
+    reason: Reason::Unusable,
     detail: 0,
 };
 
 // 18: a computed number is outside 2^-900..2^900.
 const OUT_OF_REACH: Refusal = Refusal {
-    number: base::BEYOND_REACH,
+    reason: Reason::BeyondReach,
     detail: 0,
 };
 
@@ -70,31 +39,43 @@ const OUT_OF_REACH: Refusal = Refusal {
 fn are_in_reach(x: f64, y: f64) -> bool
     ensures { result ≡ (in_reach x && in_reach y) }
 {
-    let first = floats::is_in_reach(x);
-    let second = floats::is_in_reach(y);
-    first & second
+    floats::is_in_reach(x) && floats::is_in_reach(y)
+}
+
+// A given number; 10 outside the range.
+fn given(x: f64) -> Result<f64, Refusal>
+    ensures { outcome result ≡ given x (gives x) }
+{
+    if floats::is_in_reach(x) {
+        Ok(x)
+    } else {
+        Err(NOT_USABLE)
+    }
+}
+
+// A computed number; 18 outside the range.
+fn computed(x: f64) -> Result<f64, Refusal>
+    ensures { outcome result ≡ computed x }
+{
+    if floats::is_in_reach(x) {
+        Ok(x)
+    } else {
+        Err(OUT_OF_REACH)
+    }
 }
 
 // A computed ratio; 18 outside the range.
-pub fn checked_ratio(x: f64) -> RatioAnswer
+pub fn checked_ratio(x: f64) -> Result<Ratio, Refusal>
     ensures { says_ratio result ≡ computed x }
 {
-    if floats::is_in_reach(x) {
-        RatioAnswer::Is(Ratio(x))
-    } else {
-        RatioAnswer::Refused(OUT_OF_REACH)
-    }
+    Ok(Ratio(computed(x)?))
 }
 
 // A computed pitch; 18 outside the range.
-pub fn checked_pitch(x: f64) -> PitchAnswer
+pub fn checked_pitch(x: f64) -> Result<Pitch, Refusal>
     ensures { says_pitch result ≡ computed x }
 {
-    if floats::is_in_reach(x) {
-        PitchAnswer::Is(Pitch(x))
-    } else {
-        PitchAnswer::Refused(OUT_OF_REACH)
-    }
+    Ok(Pitch(computed(x)?))
 }
 
 // A ratio below 1 turned over, any other as it is.

@@ -1,24 +1,21 @@
 // Ratios as numbers: given, put on top of one another, turned over, compared. Document 01, "What is taken", 3.
 ghost use Rattle.std.specs.Prelude.{◌≡◌};
-ghost use Rattle.floats.specs.Answers.{says_float};
+ghost use Rattle.base.specs.Said.{outcome};
 ghost use Rattle.floats.specs.Floats.{one_f};
-ghost use Rattle.pitch.specs.Answers.{says_ratio, says_bool, says_order};
+ghost use Rattle.pitch.specs.Answers.{says_ratio};
 ghost use Rattle.pitch.specs.Pitches.{between_pitches};
 ghost use Rattle.pitch.specs.Ratios.{two_f, from_float, as_float, stretched_by, deviation_from, inverse, absolute, is_negligible, total_cmp};
 
-use crate::{BoolAnswer, Order, OrderAnswer, Pitch, Ratio, RatioAnswer};
-use floats::FloatAnswer;
+use crate::{Pitch, Ratio};
+use base::Refusal;
+use std::cmp::Ordering;
 
 impl Ratio {
     // The ratio of a number; 10 outside the range.
-    pub fn from_float(value: f64) -> RatioAnswer
+    pub fn from_float(value: f64) -> Result<Ratio, Refusal>
         ensures { says_ratio result ≡ from_float value }
     {
-        if floats::is_in_reach(value) {
-            RatioAnswer::Is(Ratio(value))
-        } else {
-            RatioAnswer::Refused(crate::NOT_USABLE)
-        }
+        Ok(Ratio(crate::given(value)?))
     }
 
     // An octave.
@@ -36,7 +33,7 @@ impl Ratio {
     }
 
     // The ratio from the first pitch to the second; 10, 18.
-    pub fn between_pitches(first: Pitch, second: Pitch) -> RatioAnswer
+    pub fn between_pitches(first: Pitch, second: Pitch) -> Result<Ratio, Refusal>
         ensures { says_ratio result ≡ between_pitches first.0 second.0 }
     {
         let from = first.0;
@@ -44,12 +41,12 @@ impl Ratio {
         if crate::are_in_reach(from, to) {
             crate::checked_ratio(to / from)
         } else {
-            RatioAnswer::Refused(crate::NOT_USABLE)
+            Err(crate::NOT_USABLE)
         }
     }
 
     // One ratio on top of another; 10, 18.
-    pub fn stretched_by(self, stretch: Ratio) -> RatioAnswer
+    pub fn stretched_by(self, stretch: Ratio) -> Result<Ratio, Refusal>
         ensures { says_ratio result ≡ stretched_by self.0 stretch.0 }
     {
         let value = self.0;
@@ -57,12 +54,12 @@ impl Ratio {
         if crate::are_in_reach(value, by) {
             crate::checked_ratio(value * by)
         } else {
-            RatioAnswer::Refused(crate::NOT_USABLE)
+            Err(crate::NOT_USABLE)
         }
     }
 
     // How far this ratio is from another; 10, 18.
-    pub fn deviation_from(self, reference: Ratio) -> RatioAnswer
+    pub fn deviation_from(self, reference: Ratio) -> Result<Ratio, Refusal>
         ensures { says_ratio result ≡ deviation_from self.0 reference.0 }
     {
         let value = self.0;
@@ -70,73 +67,53 @@ impl Ratio {
         if crate::are_in_reach(value, from) {
             crate::checked_ratio(value / from)
         } else {
-            RatioAnswer::Refused(crate::NOT_USABLE)
+            Err(crate::NOT_USABLE)
         }
     }
 
     // Its number; 10 outside the range.
-    pub fn as_float(self) -> FloatAnswer
-        ensures { says_float result ≡ as_float self.0 }
+    pub fn as_float(self) -> Result<f64, Refusal>
+        ensures { outcome result ≡ as_float self.0 }
     {
-        let value = self.0;
-        if floats::is_in_reach(value) {
-            FloatAnswer::Is(value)
-        } else {
-            FloatAnswer::Refused(crate::NOT_USABLE)
-        }
+        crate::given(self.0)
     }
 
     // The interval turned over; 10.
-    pub fn inv(self) -> RatioAnswer
+    pub fn inv(self) -> Result<Ratio, Refusal>
         ensures { says_ratio result ≡ inverse self.0 }
     {
-        let value = self.0;
-        if floats::is_in_reach(value) {
-            crate::checked_ratio(1.0 / value)
-        } else {
-            RatioAnswer::Refused(crate::NOT_USABLE)
-        }
+        crate::checked_ratio(1.0 / crate::given(self.0)?)
     }
 
     // The interval upwards; 10.
-    pub fn abs(self) -> RatioAnswer
+    pub fn abs(self) -> Result<Ratio, Refusal>
         ensures { says_ratio result ≡ absolute self.0 }
     {
-        let value = self.0;
-        if floats::is_in_reach(value) {
-            crate::checked_ratio(crate::upwards(value))
-        } else {
-            RatioAnswer::Refused(crate::NOT_USABLE)
-        }
+        crate::checked_ratio(crate::upwards(crate::given(self.0)?))
     }
 
     // Whether it is as good as a unison; 10 outside the range.
-    pub fn is_negligible(self) -> BoolAnswer
-        ensures { says_bool result ≡ is_negligible self.0 }
+    pub fn is_negligible(self) -> Result<bool, Refusal>
+        ensures { outcome result ≡ is_negligible self.0 }
     {
-        let value = self.0;
-        if floats::is_in_reach(value) {
-            BoolAnswer::Is(floats::is_negligible(value))
-        } else {
-            BoolAnswer::Refused(crate::NOT_USABLE)
-        }
+        Ok(floats::is_negligible(crate::given(self.0)?))
     }
 
     // Whether it is lower than another ratio, the same or higher; 10 outside the range.
-    pub fn total_cmp(self, other: Ratio) -> OrderAnswer
-        ensures { says_order result ≡ total_cmp self.0 other.0 }
+    pub fn total_cmp(self, other: Ratio) -> Result<Ordering, Refusal>
+        ensures { outcome result ≡ total_cmp self.0 other.0 }
     {
         let value = self.0;
         let with = other.0;
         if crate::are_in_reach(value, with) {
             if value < with {
-                return OrderAnswer::Is(Order::Lower);
+                return Ok(Ordering::Less);
             }
             if with < value {
-                return OrderAnswer::Is(Order::Higher);
+                return Ok(Ordering::Greater);
             }
-            return OrderAnswer::Is(Order::Same);
+            return Ok(Ordering::Equal);
         }
-        OrderAnswer::Refused(crate::NOT_USABLE)
+        Err(crate::NOT_USABLE)
     }
 }

@@ -1,4 +1,5 @@
 -- Digits written one by one, how many there are, and texts written one after another. Assumes nothing.
+use Rattle.std.specs.Prelude.{Some, None}
 use mathlib.Core.Path.{◌≡◌, refl, ap, ◌∙◌}
 use mathlib.Core.Bool.{Bool, true, false}
 use mathlib.Core.List.{List, [], ◌∷◌, ◌++◌}
@@ -12,7 +13,6 @@ use lib.Seq.{sets}
 use borrow.Author.Tests.{lt-ltb, le-ltb, le-leb, lt-leb}
 use Rattle.base.specs.Said.{pick}
 use Rattle.printing.specs.PrintText.{digits_of, width_of, sign_text, point_text, parts_text, placed, written}
-use Rattle.printing.specs.declared.Placed.TheVariants.{At, Full}
 
 -- one digit more is written
 pub step_digits : (n p l i : ℕ) (out : List ℕ) → 0 < l → p ≡ 10 ^ (l - 1) → sets (set out i (48 + n / p % 10)) (i + 1) (digits_of (l - 1) n) ≡ sets out i (digits_of l n)
@@ -83,12 +83,12 @@ chain L0 L1 L2 L3 L4 at i j p S D P E e1 e2 e3 e4 a b c =
     ∙ ap (λ (l : List ℕ). sets l i (D ++ (P ++ E))) e1 ∙ sets_append L0 at i S (D ++ (P ++ E)) a
 
 -- the answers
-pub no_room : (l : List ℕ) (at : ℕ) (t : List ℕ) → length l < at + length t → (Full ≡ placed l at t) × (l ≡ written l at t)
+pub no_room : (l : List ℕ) (at : ℕ) (t : List ℕ) → length l < at + length t → (None ≡ placed l at t) × (l ≡ written l at t)
 no_room l at t h =
     let z : leb (at + length t) (length l) ≡ false = lt-leb (at + length t) (length l) h in
     (rw z, rw z)
 
-pub with_room : (l m : List ℕ) (at r : ℕ) (t : List ℕ) → at + length t ≤ length l → r ≡ at + length t → m ≡ sets l at t → (At r ≡ placed l at t) × (m ≡ written l at t)
+pub with_room : (l m : List ℕ) (at r : ℕ) (t : List ℕ) → at + length t ≤ length l → r ≡ at + length t → m ≡ sets l at t → (Some r ≡ placed l at t) × (m ≡ written l at t)
 with_room l m at r t h e f =
     let z : leb (at + length t) (length l) ≡ true = le-leb (at + length t) (length l) h in
-    (rw z (ap At e), rw z f)
+    (rw z (ap Some e), rw z f)

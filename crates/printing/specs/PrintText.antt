@@ -1,14 +1,12 @@
 -- Document 01, "Writing": a number as text. Decimals "from the exact value, ties to even, sign kept: -0.0 gives -0.000";
 -- integers as declared. Over 0 to 4 decimals, with an optional plus (request W3). Assumes nothing.
-use Rattle.std.specs.Prelude.{Bool, true, false, List, [], ◌∷◌, ◌++◌, ℕ, zero, suc, ◌+◌, ◌*◌, ◌/◌, ◌%◌, ◌^◌, ltb, leb, ℤ, pos, negsuc, length, Float}
+use Rattle.std.specs.Prelude.{Bool, true, false, List, [], ◌∷◌, ◌++◌, ℕ, zero, suc, ◌+◌, ◌*◌, ◌/◌, ◌%◌, ◌^◌, ltb, leb, ℤ, pos, negsuc, length, Float, Some, None, Option}
 use Rattle.std.proofs.lemmas.List.Edits.{sets}
 use Rattle.std.specs.Float.{nan, inf, fin}
 use Rattle.std.specs.Float.Ieee.{up, down}
 use Rattle.std.specs.Float.Ieee.Nearest.{closest}
 use Rattle.base.specs.Said.{pick}
 use Rattle.floats.specs.Units.{negative}
-use Rattle.printing.specs.declared.Placed.{Placed}
-use Rattle.printing.specs.declared.Placed.TheVariants.{At, Full}
 
 -- |x| is at most 2^53 (x is m * up e / down e)
 abbrev pub limited : Float → Bool
@@ -68,8 +66,8 @@ abbrev pub room : List ℕ → ℕ → List ℕ → Bool
 room l at t = leb (at + length t) (length l)
 
 -- where the next byte goes, or no room
-abbrev pub placed : List ℕ → ℕ → List ℕ → Placed
-placed l at t = pick (room l at t) (At (at + length t)) Full
+abbrev pub placed : List ℕ → ℕ → List ℕ → (Option ℕ)
+placed l at t = pick (room l at t) (Some (at + length t)) None
 
 -- the lent bytes after: those of the text from `at` on, or as they were
 abbrev pub written : List ℕ → ℕ → List ℕ → List ℕ

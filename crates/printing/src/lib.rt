@@ -6,13 +6,6 @@ ghost use Rattle.std.specs.Prelude.{◌≡◌, ◌+◌, ◌^◌, ◌<◌, ◌≤
 ghost use Rattle.std.proofs.lemmas.List.Edits.{sets};
 ghost use Rattle.printing.specs.PrintText.{limited, digits_of, width_of, sign_text, point_text, parts_text, text_of, integer_text, whole_text, placed, written};
 
-// Where the next byte goes; or no room, and nothing was written.
-#[derive(Clone, Copy)]
-pub enum Placed {
-    At(usize),
-    Full,
-}
-
 // How many decimal digits n has, at least one.
 fn width(n: u64) -> usize
     requires { n < 10 ^ 18 }
@@ -130,7 +123,7 @@ fn write_number(
     d: u64,
     out: &mut [u8],
     at: usize,
-) -> Placed
+) -> Option<usize>
     requires { (whole < 10 ^ 18) × (d ≤ 4) }
     ensures value { result ≡ placed out.old at (parts_text negative plus whole (width_of 18 whole) part d) }
     ensures out_after { out.new ≡ written out.old at (parts_text negative plus whole (width_of 18 whole) part d) }
@@ -138,17 +131,17 @@ fn write_number(
     let k = width(whole);
     let total = length_of(negative, plus, k, d);
     if out.len() < at {
-        return Placed::Full;
+        return None;
     }
     if out.len() - at < total {
-        return Placed::Full;
+        return None;
     }
-    Placed::At(write_parts(negative, plus, whole, k, part, d, out, at))
+    Some(write_parts(negative, plus, whole, k, part, d, out, at))
 }
 
 // x with d decimals at `at`, from its exact value, a tie to the even digit, the sign kept; with a plus where x is not
 // negative and `plus` asks for it. Full (12) where it does not fit, and then nothing is written.
-pub fn write_fixed(x: f64, d: u64, plus: bool, out: &mut [u8], at: usize) -> Placed
+pub fn write_fixed(x: f64, d: u64, plus: bool, out: &mut [u8], at: usize) -> Option<usize>
     requires { T (limited x) × (d ≤ 4) }
     ensures value { result ≡ placed out.old at (text_of d plus x) }
     ensures out_after { out.new ≡ written out.old at (text_of d plus x) }
@@ -160,7 +153,7 @@ pub fn write_fixed(x: f64, d: u64, plus: bool, out: &mut [u8], at: usize) -> Pla
 
 // The integer of this sign and magnitude, in decimal digits, at `at`. Full (12) where it does not fit, and then nothing is
 // written.
-fn write_integer(negative: bool, magnitude: u64, out: &mut [u8], at: usize) -> Placed
+fn write_integer(negative: bool, magnitude: u64, out: &mut [u8], at: usize) -> Option<usize>
     requires { magnitude < 10 ^ 18 }
     ensures value { result ≡ placed out.old at (integer_text negative magnitude) }
     ensures out_after { out.new ≡ written out.old at (integer_text negative magnitude) }
@@ -169,7 +162,7 @@ fn write_integer(negative: bool, magnitude: u64, out: &mut [u8], at: usize) -> P
 }
 
 // n in decimal digits at `at`. Full (12) where it does not fit, and then nothing is written.
-pub fn write_u32(n: u32, out: &mut [u8], at: usize) -> Placed
+pub fn write_u32(n: u32, out: &mut [u8], at: usize) -> Option<usize>
     ensures value { result ≡ placed out.old at (whole_text (pos n)) }
     ensures out_after { out.new ≡ written out.old at (whole_text (pos n)) }
 {
@@ -189,7 +182,7 @@ fn magnitude(z: i32) -> u64
 }
 
 // z in decimal digits at `at`, with its minus. Full (12) where it does not fit, and then nothing is written.
-pub fn write_i32(z: i32, out: &mut [u8], at: usize) -> Placed
+pub fn write_i32(z: i32, out: &mut [u8], at: usize) -> Option<usize>
     ensures value { result ≡ placed out.old at (whole_text z) }
     ensures out_after { out.new ≡ written out.old at (whole_text z) }
 {

@@ -1,13 +1,11 @@
 -- How a probe says an answer: by one number, and what is stored where something is given. Assumes nothing.
-use Rattle.std.specs.Prelude.{Bool, true, false, ◌&&◌, ℕ, ◌-◌, ◌^◌, leb, ℤ, pos, Float}
+use Rattle.std.specs.Prelude.{Bool, true, false, ◌&&◌, ℕ, ◌-◌, ◌^◌, leb, ℤ, pos, Float, Some, None, Option, Ok, Err, Result}
 use Rattle.std.specs.Float.{binary64}
 use Rattle.std.specs.Float.Ieee.{of_bits, le}
 use Rattle.floats.specs.Floats.{abs}
 use Rattle.integers.specs.Integer.{Int, value, none}
-use Rattle.decimals.specs.declared.DecimalAnswer.{DecimalAnswer}
-use Rattle.decimals.specs.declared.DecimalAnswer.TheVariants.{Is, Unsupported, Bad}
-use Rattle.printing.specs.declared.Placed.{Placed}
-use Rattle.printing.specs.declared.Placed.TheVariants.{At, Full}
+use Rattle.decimals.specs.declared.DecimalError.{DecimalError}
+use Rattle.decimals.specs.declared.DecimalError.TheVariants.{Unsupported, Bad}
 use Rattle.text.specs.declared.line.LineSays.{LineSays}
 use Rattle.text.specs.declared.line.LineSays.TheVariants.{NotUtf8, Blank, Comment, Content}
 
@@ -43,21 +41,21 @@ line_token Comment old = old
 line_token (Content a e t) old = t
 
 -- 0 no decimal, 1 unsupported, 2 a decimal
-abbrev pub decimal_kind : DecimalAnswer → ℕ
-decimal_kind Bad = 0
-decimal_kind Unsupported = 1
-decimal_kind (Is v) = 2
+abbrev pub decimal_kind : (Result Float DecimalError) → ℕ
+decimal_kind (Err Bad) = 0
+decimal_kind (Err Unsupported) = 1
+decimal_kind (Ok v) = 2
 
 -- the decimal, or what was there
-abbrev pub decimal_value : DecimalAnswer → Float → Float
-decimal_value Bad old = old
-decimal_value Unsupported old = old
-decimal_value (Is v) old = v
+abbrev pub decimal_value : (Result Float DecimalError) → Float → Float
+decimal_value (Err Bad) old = old
+decimal_value (Err Unsupported) old = old
+decimal_value (Ok v) old = v
 
 -- the next place, or 2^64 - 1, which none is
-abbrev pub next_of : Placed → ℕ
-next_of (At next) = next
-next_of Full = 2 ^ 64 - 1
+abbrev pub next_of : (Option ℕ) → ℕ
+next_of (Some next) = next
+next_of None = 2 ^ 64 - 1
 
 -- |x| is at most 2^53, and there are at most four decimals
 abbrev pub printable_to : Float → ℕ → Bool

@@ -1,17 +1,15 @@
 // Lines, tokens and numerals, for the comparison with Rust's std. What is not given leaves the room lent for it as it was.
-ghost use Rattle.std.specs.Prelude.{◌≡◌, ◌^◌, true, false, drop, pos};
-ghost use Rattle.printing.specs.declared.Placed.TheVariants.{Full};
+ghost use Rattle.std.specs.Prelude.{◌≡◌, ◌^◌, true, false, drop, pos, None};
 ghost use Rattle.base.specs.Said.{pick};
-ghost use Rattle.integers.specs.Integer.{read_int, u16_of, u32_of, i16_of, i32_of};
+ghost use Rattle.integers.specs.Integer.{read_int, int_by};
 ghost use Rattle.decimals.specs.DecimalScan.{read_decimal};
 ghost use Rattle.printing.specs.PrintText.{text_of, whole_text, placed, written};
 ghost use Rattle.text.specs.Cut.{cut};
 ghost use Rattle.text.specs.ReadLine.{line_of, strictly};
 ghost use Rattle.probes.specs.Probes.{integer_of, line_kind, line_start, line_end, line_token, decimal_kind, decimal_value, next_of, printable_to};
 
-use decimals::DecimalAnswer;
-use integers::{I16, I32, U16, U32};
-use printing::Placed;
+use decimals::DecimalError;
+use integers::Integer;
 use text::line::LineSays;
 
 // What no integer of 32 bits is, and what no place is.
@@ -25,8 +23,7 @@ pub fn probe_next_line(source: &[u8], at: usize, next: &mut usize) -> usize
     ensures next_after { next.new ≡ (cut at (drop at source.now)).next }
 {
     let ends = text::lines::next_line(source, at);
-    let after = ends.next;
-    *next = after;
+    *next = ends.next;
     ends.end
 }
 
@@ -71,78 +68,52 @@ pub fn probe_read_line(
     store_line(text::line::read_line(source, from, to), start, end, token)
 }
 
-fn number_of_u16(answer: U16) -> i64
-    ensures { result ≡ integer_of (u16_of answer) }
+// The number of an integer, or one that is none's.
+fn number_of<T: Integer>(answer: Option<T>) -> i64
+    ensures { result ≡ integer_of (int_by T.number answer) }
 {
     match answer {
-        U16::Is(n) => n as i64,
-        U16::IsNot => NONE,
+        Some(n) => n.number(),
+        None => NONE,
     }
 }
 
 pub fn probe_read_u16(s: &[u8]) -> i64
     ensures { result ≡ integer_of (read_int false (2 ^ 16) s.now) }
 {
-    number_of_u16(integers::read_u16(s))
-}
-
-fn number_of_u32(answer: U32) -> i64
-    ensures { result ≡ integer_of (u32_of answer) }
-{
-    match answer {
-        U32::Is(n) => n as i64,
-        U32::IsNot => NONE,
-    }
+    number_of(integers::read::<u16>(s))
 }
 
 pub fn probe_read_u32(s: &[u8]) -> i64
     ensures { result ≡ integer_of (read_int false (2 ^ 32) s.now) }
 {
-    number_of_u32(integers::read_u32(s))
-}
-
-fn number_of_i16(answer: I16) -> i64
-    ensures { result ≡ integer_of (i16_of answer) }
-{
-    match answer {
-        I16::Is(n) => n as i64,
-        I16::IsNot => NONE,
-    }
+    number_of(integers::read::<u32>(s))
 }
 
 pub fn probe_read_i16(s: &[u8]) -> i64
     ensures { result ≡ integer_of (read_int true (2 ^ 15) s.now) }
 {
-    number_of_i16(integers::read_i16(s))
-}
-
-fn number_of_i32(answer: I32) -> i64
-    ensures { result ≡ integer_of (i32_of answer) }
-{
-    match answer {
-        I32::Is(n) => n as i64,
-        I32::IsNot => NONE,
-    }
+    number_of(integers::read::<i16>(s))
 }
 
 pub fn probe_read_i32(s: &[u8]) -> i64
     ensures { result ≡ integer_of (read_int true (2 ^ 31) s.now) }
 {
-    number_of_i32(integers::read_i32(s))
+    number_of(integers::read::<i32>(s))
 }
 
 // 0 no decimal, 1 unsupported, 2 a decimal, which has a value.
-fn store_decimal(answer: DecimalAnswer, value: &mut f64) -> u32
+fn store_decimal(answer: Result<f64, DecimalError>, value: &mut f64) -> u32
     ensures value { result ≡ decimal_kind answer }
     ensures value_after { value.new ≡ decimal_value answer value.old }
 {
     match answer {
-        DecimalAnswer::Is(x) => {
+        Ok(x) => {
             *value = x;
             2
         }
-        DecimalAnswer::Unsupported => 1,
-        DecimalAnswer::Bad => 0,
+        Err(DecimalError::Unsupported) => 1,
+        Err(DecimalError::Bad) => 0,
     }
 }
 
@@ -154,28 +125,22 @@ pub fn probe_read_decimal(s: &[u8], value: &mut f64) -> u32
 }
 
 // The next place, or one that is none.
-fn place(answer: Placed) -> usize
+fn place(answer: Option<usize>) -> usize
     ensures { result ≡ next_of answer }
 {
-    match answer {
-        Placed::At(next) => next,
-        Placed::Full => FULL,
-    }
+    answer.unwrap_or(FULL)
 }
 
 // Whether a number of at most 2^53 is to be written with at most four decimals.
 pub fn is_printable(x: f64, decimals: u64) -> bool
     ensures { result ≡ printable_to x decimals }
 {
-    if floats::abs_of(x) <= 9007199254740992.0 {
-        return decimals <= 4;
-    }
-    false
+    floats::abs_of(x) <= 9007199254740992.0 && decimals <= 4
 }
 
 // The place after a number written with so many decimals at a place; none where it is not to be written or does not fit.
 pub fn probe_write_fixed(x: f64, decimals: u64, plus: bool, out: &mut [u8], at: usize) -> usize
-    ensures value { result ≡ next_of (pick (printable_to x decimals) (placed out.old at (text_of decimals plus x)) Full) }
+    ensures value { result ≡ next_of (pick (printable_to x decimals) (placed out.old at (text_of decimals plus x)) None) }
     ensures out_after { out.new ≡ pick (printable_to x decimals) (written out.old at (text_of decimals plus x)) out.old }
 {
     if is_printable(x, decimals) {

@@ -1,6 +1,5 @@
 // Lines, tokens and numerals, for the comparison with Rust's std. What is not given leaves the room lent for it as it was.
-ghost use Rattle.std.specs.Prelude.{◌≡◌, ◌^◌, true, false, drop, pos};
-ghost use Rattle.printing.specs.declared.Placed.TheVariants.{Full};
+ghost use Rattle.std.specs.Prelude.{◌≡◌, ◌^◌, true, false, drop, pos, None};
 ghost use Rattle.base.specs.Said.{pick};
 ghost use Rattle.integers.specs.Integer.{read_int};
 ghost use Rattle.decimals.specs.DecimalScan.{read_decimal};
@@ -81,7 +80,7 @@ pub extern "C" fn probe_write_fixed(
     out: &mut [u8],
     at: usize,
 ) -> usize
-    ensures value { result ≡ next_of (pick (printable_to x decimals) (placed out.old at (text_of decimals plus x)) Full) }
+    ensures value { result ≡ next_of (pick (printable_to x decimals) (placed out.old at (text_of decimals plus x)) None) }
     ensures out_after { out.new ≡ pick (printable_to x decimals) (written out.old at (text_of decimals plus x)) out.old }
 {
     probes::texts::probe_write_fixed(x, decimals, plus, out, at)

@@ -10,3 +10,4 @@ pub mod Behind
 pub mod Calls
 pub mod Theorems
 pub mod Numbers
+pub mod Taken

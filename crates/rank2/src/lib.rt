@@ -24,21 +24,18 @@ ghost use Rattle.rank2.specs.Asked.{SomeCents};
 ghost use Rattle.rank2.specs.Rank2.{is_temperament, ascending_ratios, ascending_items, made_rank2};
 ghost use Rattle.rank2.specs.Steps.{beyond_of, after_one_ratio, after_ratios, ran_of, Behind};
 
-use floats::FloatAnswer;
+use base::Refusal;
 use pitch::Ratio;
-use scl::{Item, SclAnswer};
-use scl_build::{SclBuilder, SclBuilderAnswer};
+use scl::{Item, Scl};
+use scl_build::SclBuilder;
 
 // Whether a period has octaves at all: L is not 0.
 fn is_some(period: f64) -> bool
     ensures { result ≡ not (is_none (L period)) }
 {
     match explog::log2(period) {
-        FloatAnswer::Is(octaves) => {
-            let none = octaves == 0.0;
-            !none
-        }
-        FloatAnswer::Refused(_) => true,
+        Ok(octaves) => !(octaves == 0.0),
+        Err(_) => true,
     }
 }
 
@@ -46,12 +43,7 @@ fn is_some(period: f64) -> bool
 fn is_temperament(generator: f64, period: f64) -> bool
     ensures { result ≡ is_temperament generator period }
 {
-    if floats::is_in_generator(generator) {
-        if floats::is_in_generator(period) {
-            return is_some(period);
-        }
-    }
-    false
+    floats::is_in_generator(generator) && floats::is_in_generator(period) && is_some(period)
 }
 
 // Whether a scale of the first n pitch values is beyond reach (18): two or more, and the highest one is 1.0 as the scale has it.
@@ -122,10 +114,9 @@ fn pushed(
     ensures { beside result (item_table kind.new cents.new numer.new denom.new)
         ≡ after_one_ratio (beside state (item_table kind.old cents.old numer.old denom.old)) value }
 {
-    match state.push_ratio(kind, cents, numer, denom, Ratio(value)) {
-        SclBuilderAnswer::Is(next) => next,
-        SclBuilderAnswer::Refused(_) => state,
-    }
+    state
+        .push_ratio(kind, cents, numer, denom, Ratio(value))
+        .unwrap_or(state)
 }
 
 // The builder after the first n ratios.
@@ -143,10 +134,8 @@ fn push_all(
         ≡ after_ratios (beside state (item_table kind.old cents.old numer.old denom.old)) (take n ratio.now) }
 {
     let mut builder = state;
-    let mut i: usize = 0;
-    while i < n {
-        builder = pushed(builder, kind, cents, numer, denom, ratio[i]);
-        i += 1;
+    for value in &ratio[..n] {
+        builder = pushed(builder, kind, cents, numer, denom, *value);
     }
     builder
 }
@@ -161,7 +150,7 @@ fn run(
     place: &mut [u32],
     ratio: &mut [f64],
     wraps: &mut [i32],
-) -> SclAnswer
+) -> Result<Scl, Refusal>
     requires { n ≤ length ratio.old }
     ensures value { says_scl result ≡ counted (ran_of (item_table kind.old cents.old numer.old denom.old) (list_table place.old ratio.old wraps.old) n).builder
         (built (ran_of (item_table kind.old cents.old numer.old denom.old) (list_table place.old ratio.old wraps.old) n).builder
@@ -191,7 +180,7 @@ fn make(
     place: &mut [u32],
     ratio: &mut [f64],
     wraps: &mut [i32],
-) -> SclAnswer
+) -> Result<Scl, Refusal>
     requires { (0 < n) × (n < room_of (item_table kind.old cents.old numer.old denom.old) (list_table place.old ratio.old wraps.old))
         × (in_generator period ≡ true) × (is_usable_cents generator_cents ≡ true) × SomeCents period_cents }
     ensures value { says_scl result ≡ counted_of (made_of (item_table kind.old cents.old numer.old denom.old) (list_table place.old ratio.old wraps.old) n (ascending_items (pitch_at period generator_cents period_cents positive) n)) }
@@ -203,7 +192,7 @@ fn make(
         (item_table kind.old cents.old numer.old denom.old) (list_table place.old ratio.old wraps.old) }
 {
     if is_beyond(period, generator_cents, period_cents, positive, n) {
-        return SclAnswer::Refused(generate::OUT_OF_REACH);
+        return Err(generate::OUT_OF_REACH);
     }
     let size = n as usize;
     place_notes(
@@ -234,7 +223,7 @@ pub fn create_rank2_temperament_scale(
     place: &mut [u32],
     ratio: &mut [f64],
     wraps: &mut [i32],
-) -> SclAnswer
+) -> Result<Scl, Refusal>
     ensures value { says_scl result ≡ counted_of (made_rank2 (item_table kind.old cents.old numer.old denom.old) (list_table place.old ratio.old wraps.old) generator.0 num_pos_generations num_neg_generations period.0) }
     ensures table_after { item_table kind.new cents.new numer.new denom.new
         ≡ items_left (made_rank2 (item_table kind.old cents.old numer.old denom.old) (list_table place.old ratio.old wraps.old) generator.0 num_pos_generations num_neg_generations period.0)
@@ -247,12 +236,12 @@ pub fn create_rank2_temperament_scale(
     let within = period.0;
     let n = (num_pos_generations as usize) + (num_neg_generations as usize) + 1;
     if 65535 < n {
-        return SclAnswer::Refused(generate::TOO_MANY);
+        return Err(generate::TOO_MANY);
     }
     if is_temperament(by, within) {
         let room = scl_tables::room_of(kind, cents, numer, denom, place, ratio, wraps);
         if room <= n {
-            return SclAnswer::Refused(generate::NO_PLACE);
+            return Err(generate::NO_PLACE);
         }
         return make(
             within,
@@ -269,5 +258,5 @@ pub fn create_rank2_temperament_scale(
             wraps,
         );
     }
-    SclAnswer::Refused(scl::NOT_USABLE)
+    Err(scl::NOT_USABLE)
 }

@@ -11,19 +11,14 @@ ghost use Rattle.scl.specs.Items.{is_usable_cents};
 ghost use Rattle.rank2.specs.Notes.{generation_at, note_at, pitch_at, ratios_from, highest_from};
 ghost use Rattle.rank2.specs.Asked.{SomeCents};
 
-use floats::FloatAnswer;
-use pitch::{Ratio, RatioAnswer};
+use pitch::Ratio;
 
 // The cents of a ratio in 2^-32..2^32: usable cents.
 pub fn cents_of(ratio: f64) -> f64
     requires { in_generator ratio ≡ true }
     ensures { (gives result ≡ as_cents ratio) × (is_usable_cents result ≡ true) }
 {
-    let given = Ratio(ratio);
-    match given.as_cents() {
-        FloatAnswer::Is(cents) => cents,
-        FloatAnswer::Refused(_) => 0.0,
-    }
+    Ratio(ratio).as_cents().unwrap_or(0.0)
 }
 
 // The i-th generation: 1, 2, .. up to the positive ones, then -1, -2, ..
@@ -44,10 +39,7 @@ pub fn note_at(generator_cents: f64, period_cents: f64, positive: u16, i: u16) -
 {
     let unbounded = generation_at(positive, i) * generator_cents;
     let bounded = remainder::rem_euclid(unbounded, period_cents);
-    match Ratio::from_cents(bounded) {
-        RatioAnswer::Is(ratio) => ratio.0,
-        RatioAnswer::Refused(_) => 1.0,
-    }
+    Ratio::from_cents(bounded).unwrap_or(Ratio(1.0)).0
 }
 
 // The higher one of two ratios; the first of equal ones.
@@ -74,6 +66,7 @@ pub fn highest(period: f64, generator_cents: f64, period_cents: f64, positive: u
     ensures { gives result ≡ highest_from (pitch_at period generator_cents period_cents positive) 0 n }
 {
     let mut top = 0.0;
+    // A `while`: from the last one down, as the definition goes.
     let mut i = n;
     while 0 < i {
         i -= 1;
@@ -90,9 +83,7 @@ pub fn fill(ratio: &mut [f64], period: f64, generator_cents: f64, period_cents: 
     requires { (length ratio.old ≤ 65535) × (in_generator period ≡ true) × (is_usable_cents generator_cents ≡ true) × SomeCents period_cents }
     ensures { gives ratio.new ≡ ratios_from (pitch_at period generator_cents period_cents positive) 0 (length ratio.old) }
 {
-    let mut i: usize = 0;
-    while i < ratio.len() {
+    for i in 0..ratio.len() {
         ratio[i] = pitch_at(period, generator_cents, period_cents, positive, i as u16);
-        i += 1;
     }
 }

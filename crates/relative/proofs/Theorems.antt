@@ -13,7 +13,7 @@ use borrow.Author.Tests.{eqb-true, eqb-false, lt-ltb, le-leb}
 use mathlib.Core.Logic.{◌⊎◌, inl, inr}
 use lib.Signed.{mag}
 use Rattle.base.specs.Numbers.{unusable, overflow}
-use Rattle.base.specs.Said.{Said, gives, refuses, and_then, One}
+use Rattle.base.specs.Said.{Said, gives, refuses, and_then, One, outcome}
 use Rattle.base.proofs.Said.{one_result, same_value, no_value, same_refuses}
 use Rattle.floats.specs.Ranges.{in_reach}
 use Rattle.pitch.specs.Answers.{says_ratio, says_pitch}
@@ -29,7 +29,6 @@ use Rattle.scl.proofs.Typed.{typed_held}
 use Rattle.scl_tables.specs.Build.{last_of, count_of}
 use Rattle.scl_tables.proofs.Beyond.{period_ratio}
 use Rattle.base.specs.Integers.{in_i32, held}
-use Rattle.integer_math.specs.Answers.{says_i32}
 use Rattle.integer_math.proofs.Theorems.{i32_one}
 use Rattle.floats.proofs.Between.{within_more, within_reach}
 use Rattle.floats.proofs.Ranges.{pitch_says}
@@ -203,7 +202,7 @@ module _ (root : KbmRoot) (o : is_root root ≡ true) (m : mag root.offset < 214
       after_offset (λ at. sorted_pitch_from items es hz at d) (λ at. sorted_from_reached items hz (hz_reach root o) es at d k)
 
 -- ---- two results of one input are equal: pitches above a root
-pub root_degree_one : (root : KbmRoot) → One says_i32 (root_degree root)
+pub root_degree_one : (root : KbmRoot) → One outcome (root_degree root)
 root_degree_one root = i32_one (root_degree root)
 
 pub root_pitch_one : (items : List Item) (hz : Float) (at : ℤ) → One says_pitch (root_pitch items hz at)

@@ -18,23 +18,18 @@ ghost use Rattle.scl_tables.specs.Build.{last_of};
 ghost use Rattle.relative.specs.Relative.{periods_of, place_of, stretched, relative_pitch_of, sorted_relative_pitch_of};
 ghost use Rattle.relative.specs.Scales.{tested, is_scale};
 
+use base::Refusal;
 use key::Degree;
-use pitch::{Ratio, RatioAnswer};
-use scl::Scl;
+use pitch::Ratio;
+use scl::{ItemColumns, Scl};
+use sorted::ListColumns;
 
 // The ratio of the item at a place of a usable table.
-pub fn ratio_at(
-    kind: &[u8],
-    cents: &[f64],
-    numer: &[u32],
-    denom: &[u32],
-    count: u16,
-    i: usize,
-) -> f64
-    requires { (is_items count (item_table kind.now cents.now numer.now denom.now) ≡ true) × (i ≤ count) }
-    ensures { (gives result ≡ ratio_of (get_or (items_in count (item_table kind.now cents.now numer.now denom.now)) i no_item)) × (in_reach result ≡ true) }
+pub fn ratio_at(items: &ItemColumns<'_>, count: u16, i: usize) -> f64
+    requires { (is_items count items.now ≡ true) × (i ≤ count) }
+    ensures { (gives result ≡ ratio_of (get_or (items_in count items.now) i no_item)) × (in_reach result ≡ true) }
 {
-    scl_tables::reduction::ratio_of(scl::item_at(kind, cents, numer, denom, i))
+    scl_tables::reduction::ratio_of(items.item(i))
 }
 
 // How many whole periods a degree lies above place 0.
@@ -44,7 +39,7 @@ fn periods_of(count: u16, degree: i32) -> i32
     if count == 0 {
         return 0;
     }
-    integer_math::quotient(degree, count as u32)
+    integer_math::quotient(degree, u32::from(count))
 }
 
 // Which place within the period it has.
@@ -54,129 +49,93 @@ fn place_of(count: u16, degree: i32) -> usize
     if count == 0 {
         return 0;
     }
-    integer_math::remainder(degree, count as u32) as usize
+    integer_math::remainder(degree, u32::from(count)) as usize
 }
 
 // A ratio so many periods up; 18.
-fn stretch(period: f64, periods: i32, ratio: f64) -> RatioAnswer
+fn stretch(period: f64, periods: i32, ratio: f64) -> Result<Ratio, Refusal>
     ensures { says_ratio result ≡ stretched period periods ratio }
 {
-    match Ratio(period).repeated(periods as f64) {
-        RatioAnswer::Is(base) => base.stretched_by(Ratio(ratio)),
-        RatioAnswer::Refused(refusal) => RatioAnswer::Refused(refusal),
-    }
+    Ratio(period)
+        .repeated(f64::from(periods))?
+        .stretched_by(Ratio(ratio))
 }
 
 // The relative pitch of a degree in a usable scale; 18.
-pub fn relative_at(
-    kind: &[u8],
-    cents: &[f64],
-    numer: &[u32],
-    denom: &[u32],
-    count: u16,
-    degree: i32,
-) -> RatioAnswer
-    requires { is_items count (item_table kind.now cents.now numer.now denom.now) ≡ true }
-    ensures { says_ratio result ≡ relative_pitch_of (items_in count (item_table kind.now cents.now numer.now denom.now)) degree }
+pub fn relative_at(items: &ItemColumns<'_>, count: u16, degree: i32) -> Result<Ratio, Refusal>
+    requires { is_items count items.now ≡ true }
+    ensures { says_ratio result ≡ relative_pitch_of (items_in count items.now) degree }
 {
     let place = place_of(count, degree);
-    let period = ratio_at(kind, cents, numer, denom, count, count as usize);
-    let ratio = ratio_at(kind, cents, numer, denom, count, place);
+    let period = ratio_at(items, count, count as usize);
+    let ratio = ratio_at(items, count, place);
     stretch(period, periods_of(count, degree), ratio)
 }
 
 // The same by ascending degree.
 pub fn sorted_relative_at(
-    kind: &[u8],
-    cents: &[f64],
-    numer: &[u32],
-    denom: &[u32],
-    place: &[u32],
-    ratio: &[f64],
-    wraps: &[i32],
+    items: &ItemColumns<'_>,
+    list: &ListColumns<'_>,
     count: u16,
     degree: i32,
-) -> RatioAnswer
-    requires { (is_items count (item_table kind.now cents.now numer.now denom.now) ≡ true) × (is_list count (list_table place.now ratio.now wraps.now) ≡ true) }
-    ensures { says_ratio result ≡ sorted_relative_pitch_of (items_in count (item_table kind.now cents.now numer.now denom.now)) (list_in count (list_table place.now ratio.now wraps.now)) degree }
+) -> Result<Ratio, Refusal>
+    requires { (is_items count items.now ≡ true) × (is_list count list.now ≡ true) }
+    ensures { says_ratio result ≡ sorted_relative_pitch_of (items_in count items.now) (list_in count list.now) degree }
 {
     let at = place_of(count, degree);
-    let period = ratio_at(kind, cents, numer, denom, count, count as usize);
-    stretch(period, periods_of(count, degree), ratio[at])
+    let period = ratio_at(items, count, count as usize);
+    stretch(period, periods_of(count, degree), list.ratio(at))
 }
 
 // Whether all tables of a scale can be used.
-pub fn is_scale(
-    kind: &[u8],
-    cents: &[f64],
-    numer: &[u32],
-    denom: &[u32],
-    place: &[u32],
-    ratio: &[f64],
-    wraps: &[i32],
-    count: u16,
-) -> bool
-    ensures { result ≡ is_scale count (item_table kind.now cents.now numer.now denom.now) (list_table place.now ratio.now wraps.now) }
+pub fn is_scale(items: &ItemColumns<'_>, list: &ListColumns<'_>, count: u16) -> bool
+    ensures { result ≡ is_scale count items.now list.now }
 {
-    if scl::is_items(kind, cents, numer, denom, count as usize) {
-        return sorted::is_list(place, ratio, wraps, count as usize);
-    }
-    false
+    let count = usize::from(count);
+    items.holds(count) && list.holds(count)
 }
 
 // The period, which is the ratio of the last item: 10 for the item table. With no items it is the ratio of place 0.
-pub fn period(scl: Scl, kind: &[u8], cents: &[f64], numer: &[u32], denom: &[u32]) -> RatioAnswer
-    ensures { says_ratio result ≡ tested (is_items scl.count (item_table kind.now cents.now numer.now denom.now))
-        (ratio_of (last_of (items_in scl.count (item_table kind.now cents.now numer.now denom.now)))) }
+pub fn period(scl: Scl, items: &ItemColumns<'_>) -> Result<Ratio, Refusal>
+    ensures { says_ratio result ≡ tested (is_items scl.count items.now)
+        (ratio_of (last_of (items_in scl.count items.now))) }
 {
     let count = scl.count;
-    if scl::is_items(kind, cents, numer, denom, count as usize) {
-        return RatioAnswer::Is(Ratio(ratio_at(kind, cents, numer, denom, count, count as usize)));
+    if items.holds(count as usize) {
+        return Ok(Ratio(ratio_at(items, count, count as usize)));
     }
-    RatioAnswer::Refused(scl::NOT_USABLE)
+    Err(scl::NOT_USABLE)
 }
 
 // The relative pitch of a degree: 10 for the item table, 18.
 pub fn relative_pitch_of(
     scl: Scl,
-    kind: &[u8],
-    cents: &[f64],
-    numer: &[u32],
-    denom: &[u32],
+    items: &ItemColumns<'_>,
     degree: Degree,
-) -> RatioAnswer
-    ensures { says_ratio result ≡ tested (is_items scl.count (item_table kind.now cents.now numer.now denom.now))
-        (relative_pitch_of (items_in scl.count (item_table kind.now cents.now numer.now denom.now)) degree.0) }
+) -> Result<Ratio, Refusal>
+    ensures { says_ratio result ≡ tested (is_items scl.count items.now)
+        (relative_pitch_of (items_in scl.count items.now) degree.0) }
 {
     let count = scl.count;
-    let number = degree.0;
-    if scl::is_items(kind, cents, numer, denom, count as usize) {
-        return relative_at(kind, cents, numer, denom, count, number);
+    if items.holds(count as usize) {
+        return relative_at(items, count, degree.0);
     }
-    RatioAnswer::Refused(scl::NOT_USABLE)
+    Err(scl::NOT_USABLE)
 }
 
 // The relative pitch of an ascending degree: 10 for the tables, 18.
 pub fn sorted_relative_pitch_of(
     scl: Scl,
-    kind: &[u8],
-    cents: &[f64],
-    numer: &[u32],
-    denom: &[u32],
-    place: &[u32],
-    ratio: &[f64],
-    wraps: &[i32],
+    items: &ItemColumns<'_>,
+    list: &ListColumns<'_>,
     degree: Degree,
-) -> RatioAnswer
-    ensures { says_ratio result ≡ tested (is_scale scl.count (item_table kind.now cents.now numer.now denom.now) (list_table place.now ratio.now wraps.now))
-        (sorted_relative_pitch_of (items_in scl.count (item_table kind.now cents.now numer.now denom.now)) (list_in scl.count (list_table place.now ratio.now wraps.now)) degree.0) }
+) -> Result<Ratio, Refusal>
+    ensures { says_ratio result ≡ tested (is_scale scl.count items.now list.now)
+        (sorted_relative_pitch_of (items_in scl.count items.now) (list_in scl.count list.now) degree.0) }
 {
     let count = scl.count;
-    let number = degree.0;
-    if is_scale(kind, cents, numer, denom, place, ratio, wraps, count) {
-        return sorted_relative_at(
-            kind, cents, numer, denom, place, ratio, wraps, count, number,
-        );
+    if is_scale(items, list, count) {
+        return sorted_relative_at(items, list, count, degree.0);
     }
-    RatioAnswer::Refused(scl::NOT_USABLE)
+    Err(scl::NOT_USABLE)
 }

@@ -1,158 +1,106 @@
-// Mappings. A root is three fields: reference key, pitch, offset. A mapping is seven: count, start, end, those of its root, formal octave. A table is the
-// number of its places, at most 16, and each of them. An answer ends with what every lent place or byte is after the call.
-use frozen::given;
-use kbm::{Counting, DegreeAnswer, Kbm, KbmAnswer, KbmRoot, RootAnswer};
+// Mappings. A root is three fields: reference key, pitch, offset. A mapping is seven: count, start, end, those of its root, formal octave.
+// A table is the number of its places, at most 16, and each of them. An answer ends with what every lent place or byte is after the call.
+use frozen::columns;
+use frozen::given::{bytes, count, float, int, short, size};
+use kbm::{Counting, Kbm, KbmRoot};
 use key::PianoKey;
 use pitch::Pitch;
 use std::io;
 use std::io::Write;
-use writing::SizeAnswer;
 
 // What lent places and bytes are before a call.
-pub const PATTERN: i32 = 1515870810;
+pub const PATTERN: i32 = 0x5a5a5a5a;
 
 const BYTE: u8 = 238;
 
 // The first places, so many; all where there are fewer.
 pub fn first(map: &[i32], places: usize) -> &[i32] {
-    if places <= map.len() {
-        return &map[..places];
-    }
-    map
+    &map[..places.min(map.len())]
 }
 
 // The same, lent to be written.
 pub fn first_mut(map: &mut [i32], places: usize) -> &mut [i32] {
-    if places <= map.len() {
-        return &mut map[..places];
-    }
-    map
+    let end = places.min(map.len());
+    &mut map[..end]
 }
 
-// The root of three fields from field 3 on.
-pub fn root_at_3(line: &[u8]) -> KbmRoot {
+// The root of these.
+pub fn root_of(reference: i32, hz: f64, offset: i32) -> KbmRoot {
     KbmRoot {
-        reference: PianoKey(given::int(line, 3)),
-        pitch: Pitch(given::float(line, 4)),
-        offset: given::int(line, 5),
-    }
-}
-
-// The root of three fields from field 6 on.
-fn root_at_6(line: &[u8]) -> KbmRoot {
-    KbmRoot {
-        reference: PianoKey(given::int(line, 6)),
-        pitch: Pitch(given::float(line, 7)),
-        offset: given::int(line, 8),
+        reference: PianoKey(reference),
+        pitch: Pitch(hz),
+        offset,
     }
 }
 
 // The mapping of seven fields from field 3 on.
 fn mapping(line: &[u8]) -> Kbm {
     Kbm {
-        root: root_at_6(line),
-        start: PianoKey(given::int(line, 4)),
-        end: PianoKey(given::int(line, 5)),
-        octave: given::short(line, 9),
-        count: given::count(line, 3),
+        root: root_of(int(line, 6), float(line, 7), int(line, 8)),
+        start: PianoKey(int(line, 4)),
+        end: PianoKey(int(line, 5)),
+        octave: short(line, 9),
+        count: count(line, 3),
     }
 }
 
 // Reference key, pitch and offset.
 fn say_root<W: Write>(sink: &mut W, root: KbmRoot) -> io::Result<()> {
-    let reference = root.reference;
-    let pitch = root.pitch;
-    say::int(sink, reference.0)?;
-    say::float(sink, pitch.0)?;
+    say::int(sink, root.reference.0)?;
+    say::float(sink, root.pitch.0)?;
     say::int(sink, root.offset)
 }
 
-// Count, start and end.
-fn say_range<W: Write>(sink: &mut W, kbm: Kbm) -> io::Result<()> {
-    let start = kbm.start;
-    let end = kbm.end;
-    say::size(sink, kbm.count as usize)?;
-    say::int(sink, start.0)?;
-    say::int(sink, end.0)
-}
-
-// A mapping, or a refusal.
-pub fn say_mapping<W: Write>(sink: &mut W, answer: KbmAnswer) -> io::Result<()> {
-    match answer {
-        KbmAnswer::Is(kbm) => {
-            say_range(sink, kbm)?;
-            say_root(sink, kbm.root)?;
-            say::short(sink, kbm.octave)
-        }
-        KbmAnswer::Refused(refusal) => say::refusal(sink, refusal),
-    }
-}
-
-// The degree of a key in either counting, or a refusal.
-fn degree(counting: Counting, kbm: Kbm, map: &[i32], key: PianoKey) -> DegreeAnswer {
-    match counting {
-        Counting::Reference => kbm::scale_degree_of(kbm, map, key),
-        Counting::Middle => kbm::scale_degree_from_middle(kbm, map, key),
-    }
+// Count, start and end, those of the root, and the formal octave.
+pub fn say_mapping<W: Write>(sink: &mut W, kbm: Kbm) -> io::Result<()> {
+    say::size(sink, usize::from(kbm.count))?;
+    say::int(sink, kbm.start.0)?;
+    say::int(sink, kbm.end.0)?;
+    say_root(sink, kbm.root)?;
+    say::int(sink, i32::from(kbm.octave))
 }
 
 // `degree KEY MAPPING TABLE`, and `middle_degree`, counted from the middle key: the degree, or a refusal.
 pub fn say_degree<W: Write>(sink: &mut W, counting: Counting, line: &[u8]) -> io::Result<()> {
-    let places = given::size(line, 10);
-    let map = frozen::columns::ints(PATTERN, places, line, 11, 1);
-    let key = PianoKey(given::int(line, 2));
-    match degree(counting, mapping(line), first(&map, places), key) {
-        DegreeAnswer::Is(degree) => say::int(sink, degree.0),
-        DegreeAnswer::Refused(refusal) => say::refusal(sink, refusal),
-    }
+    let places = size(line, 10);
+    let map = columns::ints(PATTERN, places, line, 11, 1);
+    let table = first(&map, places);
+    let key = PianoKey(int(line, 2));
+    let said = match counting {
+        Counting::Reference => kbm::scale_degree_of(mapping(line), table, key),
+        Counting::Middle => kbm::scale_degree_from_middle(mapping(line), table, key),
+    };
+    say::answer(sink, said.map(|degree| degree.0), say::int)
 }
 
 // `read TEXT ROOM`: the mapping or a refusal, then the table.
 pub fn say_read<W: Write>(sink: &mut W, line: &[u8]) -> io::Result<()> {
     let mut text = [BYTE; 512];
     let mut map = [PATTERN; 16];
-    let length = given::bytes(line, 2, &mut text);
-    let room = given::size(line, 3);
-    say_mapping(
-        sink,
-        kbm_read::read_kbm(frozen::first(&text, length), first_mut(&mut map, room)),
-    )?;
+    let length = bytes(line, 2, &mut text);
+    let room = size(line, 3);
+    let said = kbm_read::read_kbm(frozen::first(&text, length), first_mut(&mut map, room));
+    say::answer(sink, said, say_mapping)?;
     say::table(sink, first(&map, room))
 }
 
 // `export ROOM MAPPING TABLE`: the size or a refusal, then the lent bytes.
 pub fn say_export<W: Write>(sink: &mut W, line: &[u8]) -> io::Result<()> {
     let mut out = [BYTE; 512];
-    let room = given::size(line, 2);
-    let places = given::size(line, 10);
-    let map = frozen::columns::ints(PATTERN, places, line, 11, 1);
-    say_size(
-        sink,
-        kbm_write::export_kbm(
-            mapping(line),
-            first(&map, places),
-            frozen::first_mut(&mut out, room),
-        ),
-    )?;
+    let room = size(line, 2);
+    let places = size(line, 10);
+    let map = columns::ints(PATTERN, places, line, 11, 1);
+    let said = kbm_write::export_kbm(
+        mapping(line),
+        first(&map, places),
+        frozen::first_mut(&mut out, room),
+    );
+    say::answer(sink, said, say::size)?;
     say::bytes(sink, frozen::first(&out, room))
-}
-
-// The number of bytes written, or a refusal.
-fn say_size<W: Write>(sink: &mut W, answer: SizeAnswer) -> io::Result<()> {
-    match answer {
-        SizeAnswer::Is(written) => say::size(sink, written),
-        SizeAnswer::Refused(refusal) => say::refusal(sink, refusal),
-    }
 }
 
 // `root REFERENCE PITCH OFFSET`: the root, or a refusal.
 pub fn say_made_root<W: Write>(sink: &mut W, line: &[u8]) -> io::Result<()> {
-    match KbmRoot::new(
-        PianoKey(given::int(line, 2)),
-        Pitch(given::float(line, 3)),
-        given::int(line, 4),
-    ) {
-        RootAnswer::Is(root) => say_root(sink, root),
-        RootAnswer::Refused(refusal) => say::refusal(sink, refusal),
-    }
+    let said = KbmRoot::new(PianoKey(int(line, 2)), Pitch(float(line, 3)), int(line, 4));
+    say::answer(sink, said, say_root)
 }

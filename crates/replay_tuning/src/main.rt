@@ -1,9 +1,11 @@
-// Answers frozen questions on tunings and computed scales (the crate `frozen` says how they are written). The questions and the answers are made by `oracle freeze`.
+// Answers frozen questions on tunings and computed scales (the crate `frozen` says how they are written). The questions and the answers are
+// made by `oracle freeze`.
 #![tactic(auto)]
 
-use pitch::{PitchAnswer, RatioAnswer};
-use scl::SclAnswer;
-use searching::approximation::DegreeSearch;
+use frozen::columns;
+use pitch::{Pitch, Ratio};
+use say::Columns;
+use searching::approximation::Approximation;
 use std::io;
 use std::io::{BufWriter, Write};
 
@@ -11,77 +13,58 @@ mod computed;
 mod mapped;
 mod scaled;
 
-// A ratio, or a refusal.
-fn say_ratio<W: Write>(sink: &mut W, answer: RatioAnswer) -> io::Result<()> {
-    match answer {
-        RatioAnswer::Is(ratio) => say::float(sink, ratio.0),
-        RatioAnswer::Refused(refusal) => say::refusal(sink, refusal),
+// A ratio's number.
+fn say_ratio<W: Write>(sink: &mut W, ratio: Ratio) -> io::Result<()> {
+    say::float(sink, ratio.0)
+}
+
+// A pitch's Hz.
+fn say_pitch<W: Write>(sink: &mut W, pitch: Pitch) -> io::Result<()> {
+    say::float(sink, pitch.0)
+}
+
+// A degree or a key, and its deviation.
+fn say_found<W: Write>(sink: &mut W, found: Approximation) -> io::Result<()> {
+    say::int(sink, found.approx_value)?;
+    say::float(sink, found.deviation)
+}
+
+// The columns of a line, so many places of seven fields each, from a field on.
+fn columns_of(places: usize, line: &[u8], from: usize) -> Columns {
+    Columns {
+        kind: columns::bytes(9, places, line, from, 7),
+        cents: columns::floats(2.0, places, line, from.wrapping_add(1), 7),
+        numer: columns::naturals(7, places, line, from.wrapping_add(2), 7),
+        denom: columns::naturals(7, places, line, from.wrapping_add(3), 7),
+        place: columns::naturals(8, places, line, from.wrapping_add(4), 7),
+        ratio: columns::floats(0.5, places, line, from.wrapping_add(5), 7),
+        wraps: columns::ints(8, places, line, from.wrapping_add(6), 7),
     }
 }
 
-// A pitch, or a refusal.
-fn say_pitch<W: Write>(sink: &mut W, answer: PitchAnswer) -> io::Result<()> {
-    match answer {
-        PitchAnswer::Is(pitch) => say::float(sink, pitch.0),
-        PitchAnswer::Refused(refusal) => say::refusal(sink, refusal),
-    }
-}
-
-// The count of a scale.
-fn say_count<W: Write>(sink: &mut W, answer: SclAnswer) -> io::Result<()> {
-    match answer {
-        SclAnswer::Is(scl) => say::size(sink, scl.count as usize),
-        SclAnswer::Refused(refusal) => say::refusal(sink, refusal),
-    }
-}
-
-// A degree and its deviation.
-fn say_degree<W: Write>(sink: &mut W, answer: DegreeSearch) -> io::Result<()> {
-    match answer {
-        DegreeSearch::Degree(found) => {
-            say::int(sink, found.approx_value)?;
-            say::float(sink, found.deviation)
-        }
-        DegreeSearch::Refused(refusal) => say::refusal(sink, refusal),
-    }
-}
-
-// The answer of a line. A call goes by its number, here and in the modules.
+// The answer of a line.
 fn answer<W: Write>(sink: &mut W, line: &[u8]) -> io::Result<()> {
     let call = frozen::asked(
         line,
         b"harmonics yccyc  rank2 fccf  period cifiifn bfuuufi relative cifiifn bfuuufi degree cifiifn bfuuufi key cifiifn bfuuufi sorted_relative cifiifn bfuuufi sorted_pitch cifiifn bfuuufi find cifiifn bfuuufi find_sorted cifiifn bfuuufi find_pitch cifiifn bfuuufi find_pitch_sorted cifiifn bfuuufi find_key cifiifn bfuuufi maybe_key cifiifciisiiiiiiiiun bfuuufi maybe_degree cifiifciisiiiiiiiiun bfuuufi run cifiifciisiiiiiiiiun bfuuufi middle_key cifiifciisiiiiiiiiun bfuuufi middle_run cifiifciisiiiiiiiiun bfuuufi",
     );
-    say::name(sink, frozen::name(line, call))?;
-    match call {
-        0 => computed::say_segment(sink, line),
-        1 => computed::say_temperament(sink, line),
-        2..=12 => scaled::say_scaled(sink, call, line),
-        13..=17 => mapped::say_mapped(sink, call, line),
-        _ => Ok(()),
-    }
-}
-
-// The answer of each line of a list, and a line end after each.
-fn answer_all<W: Write>(sink: &mut W, list: &[u8]) -> io::Result<()> {
-    let mut at: usize = 0;
-    while at < list.len() {
-        answer(sink, frozen::line(list, at))?;
-        say::end(sink)?;
-        let following = frozen::following(list, at);
-        if following <= at {
-            return Ok(());
+    let name = frozen::name(line, call);
+    say::name(sink, name)?;
+    match name {
+        b"harmonics" => computed::say_segment(sink, line),
+        b"rank2" => computed::say_temperament(sink, line),
+        b"maybe_key" | b"maybe_degree" | b"run" | b"middle_key" | b"middle_run" => {
+            mapped::say_mapped(sink, name, line)
         }
-        at = following;
+        _ => scaled::say_scaled(sink, name, line),
     }
-    Ok(())
 }
 
 // Answers the questions of standard input on standard output.
 fn main(rt: HostRuntime) -> io::Result<()> {
     let mut list = frozen::room();
-    let n = say::questions(&mut rt.stdin(), &mut list)?;
+    let n = say::read_all(&mut rt.stdin(), &mut list)?;
     let mut sink = BufWriter::new(rt.alloc(), rt.stdout())?;
-    answer_all(&mut sink, &list[..n])?;
+    say::answers(&mut sink, &list[..n], |out, line| answer(out, line))?;
     sink.flush()
 }

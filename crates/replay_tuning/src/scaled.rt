@@ -1,167 +1,117 @@
-// Pitches and searches in a scale. A call goes by its number among those of `main.rt`.
-use frozen::{columns, given};
+// Pitches and searches in a scale: `NAME COUNT REFERENCE HZ OFFSET NUMBER X PLACES ..`.
+use crate::{say_found, say_pitch, say_ratio};
+use frozen::given::{count, float, int, size};
 use kbm::KbmRoot;
 use key::{Degree, PianoKey};
 use pitch::{Pitch, Ratio};
-use scl::Scl;
-use searching::approximation::KeySearch;
+use say::Columns;
+use scl::{ItemColumns, Scl};
+use sorted::ListColumns;
 use std::io;
 use std::io::Write;
 
 // The root of a question.
 pub fn root(line: &[u8]) -> KbmRoot {
     KbmRoot {
-        reference: PianoKey(given::int(line, 3)),
-        pitch: Pitch(given::float(line, 4)),
-        offset: given::int(line, 5),
-    }
-}
-
-// A key and its deviation, or a refusal.
-fn say_key<W: Write>(sink: &mut W, answer: KeySearch) -> io::Result<()> {
-    match answer {
-        KeySearch::Key(found) => {
-            say::int(sink, found.approx_value)?;
-            say::float(sink, found.deviation)
-        }
-        KeySearch::Refused(refusal) => say::refusal(sink, refusal),
-    }
-}
-
-// A call that takes the items alone: `period`, `relative`, `degree`, `key`.
-fn say_of_items<W: Write>(
-    sink: &mut W,
-    k: &[u8],
-    e: &[f64],
-    n: &[u32],
-    d: &[u32],
-    call: usize,
-    line: &[u8],
-) -> io::Result<()> {
-    let scl = Scl {
-        count: given::count(line, 2),
-    };
-    let number = given::int(line, 6);
-    match call {
-        2 => crate::say_ratio(sink, relative::period(scl, k, e, n, d)),
-        3 => crate::say_ratio(
-            sink,
-            relative::relative_pitch_of(scl, k, e, n, d, Degree(number)),
-        ),
-        4 => crate::say_pitch(
-            sink,
-            tuning::pitch_of(scl, k, e, n, d, root(line), Degree(number)),
-        ),
-        _ => crate::say_pitch(
-            sink,
-            tuning::pitch_of_key(scl, k, e, n, d, root(line), PianoKey(number)),
-        ),
-    }
-}
-
-// `sorted_relative`, `sorted_pitch`.
-fn say_sorted<W: Write>(
-    sink: &mut W,
-    k: &[u8],
-    e: &[f64],
-    n: &[u32],
-    d: &[u32],
-    p: &[u32],
-    r: &[f64],
-    w: &[i32],
-    call: usize,
-    line: &[u8],
-) -> io::Result<()> {
-    let scl = Scl {
-        count: given::count(line, 2),
-    };
-    let degree = Degree(given::int(line, 6));
-    if call == 6 {
-        crate::say_ratio(
-            sink,
-            relative::sorted_relative_pitch_of(scl, k, e, n, d, p, r, w, degree),
-        )
-    } else {
-        crate::say_pitch(
-            sink,
-            tuning::sorted_pitch_of(scl, k, e, n, d, p, r, w, root(line), degree),
-        )
-    }
-}
-
-// `find`, `find_sorted`, `find_pitch`, `find_pitch_sorted`, `find_key`.
-fn say_search<W: Write>(
-    sink: &mut W,
-    k: &[u8],
-    e: &[f64],
-    n: &[u32],
-    d: &[u32],
-    p: &[u32],
-    r: &[f64],
-    w: &[i32],
-    call: usize,
-    line: &[u8],
-) -> io::Result<()> {
-    let scl = Scl {
-        count: given::count(line, 2),
-    };
-    let x = given::float(line, 7);
-    let root = root(line);
-    match call {
-        8 => crate::say_degree(
-            sink,
-            finding::find_by_relative_pitch(scl, k, e, n, d, p, r, w, Ratio(x)),
-        ),
-        9 => crate::say_degree(
-            sink,
-            finding::find_by_relative_pitch_sorted(scl, k, e, n, d, p, r, w, Ratio(x)),
-        ),
-        10 => crate::say_degree(
-            sink,
-            finding::find_by_pitch(scl, k, e, n, d, p, r, w, root, Pitch(x)),
-        ),
-        11 => crate::say_degree(
-            sink,
-            finding::find_by_pitch_sorted(scl, k, e, n, d, p, r, w, root, Pitch(x)),
-        ),
-        _ => say_key(
-            sink,
-            finding::find_key_by_pitch(scl, k, e, n, d, p, r, w, root, Pitch(x)),
-        ),
-    }
-}
-
-// What a line asks for of a scale.
-fn say_of<W: Write>(
-    sink: &mut W,
-    k: &[u8],
-    e: &[f64],
-    n: &[u32],
-    d: &[u32],
-    p: &[u32],
-    r: &[f64],
-    w: &[i32],
-    call: usize,
-    line: &[u8],
-) -> io::Result<()> {
-    match call {
-        2..=5 => say_of_items(sink, k, e, n, d, call, line),
-        6..=7 => say_sorted(sink, k, e, n, d, p, r, w, call, line),
-        _ => say_search(sink, k, e, n, d, p, r, w, call, line),
+        reference: PianoKey(int(line, 3)),
+        pitch: Pitch(float(line, 4)),
+        offset: int(line, 5),
     }
 }
 
 // Pitches and searches in the scale of a line.
-pub fn say_scaled<W: Write>(sink: &mut W, call: usize, line: &[u8]) -> io::Result<()> {
-    let places = given::size(line, 8);
-    let kind = columns::bytes(9, places, line, 9, 7);
-    let cents = columns::floats(2.0, places, line, 10, 7);
-    let numer = columns::naturals(7, places, line, 11, 7);
-    let denom = columns::naturals(7, places, line, 12, 7);
-    let place = columns::naturals(8, places, line, 13, 7);
-    let ratio = columns::floats(0.5, places, line, 14, 7);
-    let wraps = columns::ints(8, places, line, 15, 7);
-    say_of(
-        sink, &kind, &cents, &numer, &denom, &place, &ratio, &wraps, call, line,
-    )
+pub fn say_scaled<W: Write>(sink: &mut W, name: &[u8], line: &[u8]) -> io::Result<()> {
+    let c = crate::columns_of(size(line, 8), line, 9);
+    let number = int(line, 6);
+    match name {
+        b"sorted_relative" | b"sorted_pitch" => say_sorted(sink, name, line, &c, Degree(number)),
+        b"period" | b"relative" | b"degree" | b"key" => say_of_items(sink, name, line, &c, number),
+        _ => say_search(sink, name, line, &c, float(line, 7)),
+    }
+}
+
+// The pitches that the items alone give.
+fn say_of_items<W: Write>(
+    sink: &mut W,
+    name: &[u8],
+    line: &[u8],
+    c: &Columns,
+    number: i32,
+) -> io::Result<()> {
+    let scl = Scl {
+        count: count(line, 2),
+    };
+    let items = ItemColumns::new(&c.kind, &c.cents, &c.numer, &c.denom);
+    match name {
+        b"period" => say::answer(sink, relative::period(scl, &items), say_ratio),
+        b"relative" => say::answer(
+            sink,
+            relative::relative_pitch_of(scl, &items, Degree(number)),
+            say_ratio,
+        ),
+        b"degree" => say::answer(
+            sink,
+            tuning::pitch_of(scl, &items, root(line), Degree(number)),
+            say_pitch,
+        ),
+        _ => say::answer(
+            sink,
+            tuning::pitch_of_key(scl, &items, root(line), PianoKey(number)),
+            say_pitch,
+        ),
+    }
+}
+
+// The pitches of a degree in ascending order.
+fn say_sorted<W: Write>(
+    sink: &mut W,
+    name: &[u8],
+    line: &[u8],
+    c: &Columns,
+    degree: Degree,
+) -> io::Result<()> {
+    let scl = Scl {
+        count: count(line, 2),
+    };
+    let items = ItemColumns::new(&c.kind, &c.cents, &c.numer, &c.denom);
+    let list = ListColumns::new(&c.place, &c.ratio, &c.wraps);
+    match name {
+        b"sorted_relative" => say::answer(
+            sink,
+            relative::sorted_relative_pitch_of(scl, &items, &list, degree),
+            say_ratio,
+        ),
+        _ => say::answer(
+            sink,
+            tuning::sorted_pitch_of(scl, &items, &list, root(line), degree),
+            say_pitch,
+        ),
+    }
+}
+
+// The searches.
+fn say_search<W: Write>(
+    sink: &mut W,
+    name: &[u8],
+    line: &[u8],
+    c: &Columns,
+    x: f64,
+) -> io::Result<()> {
+    let scl = Scl {
+        count: count(line, 2),
+    };
+    let root = root(line);
+    let items = ItemColumns::new(&c.kind, &c.cents, &c.numer, &c.denom);
+    let list = ListColumns::new(&c.place, &c.ratio, &c.wraps);
+    let said = match name {
+        b"find" => finding::find_by_relative_pitch(scl, &items, &list, Ratio(x)),
+        b"find_sorted" => { finding::find_by_relative_pitch_sorted(scl, &items, &list, Ratio(x)) }
+        b"find_pitch" => finding::find_by_pitch(scl, &items, &list, root, Pitch(x)),
+        b"find_pitch_sorted" => {
+            finding::find_by_pitch_sorted(scl, &items, &list, root, Pitch(x))
+        }
+        b"find_key" => finding::find_key_by_pitch(scl, &items, &list, root, Pitch(x)),
+        _ => return Ok(()),
+    };
+    say::answer(sink, said, say_found)
 }

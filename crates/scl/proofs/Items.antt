@@ -1,4 +1,5 @@
 -- A usable item's ratio lies in 2 ^ -32..2 ^ 32. Assumes nothing.
+use Rattle.std.specs.Prelude.{Some, None, Option}
 use mathlib.Core.Path.{◌≡◌, sym, ◌∙◌, subst}
 use mathlib.Core.Bool.{true, false}
 use Prim.Native.Nat.{ℕ, ◌*◌, ◌^◌, ◌≤◌, ◌<◌}
@@ -22,8 +23,6 @@ use Rattle.explog.specs.Exp.{p_of}
 use Rattle.pitch.specs.Given.{computed}
 use Rattle.pitch.specs.Ratios.{cents_f, from_octaves, from_cents}
 use Rattle.scl.specs.Items.{is_usable_cents, is_usable_denom, is_usable, denom_of, ratio_of, Reached, Held}
-use Rattle.scl.specs.declared.Denom.{Denom}
-use Rattle.scl.specs.declared.Denom.TheVariants.{Given, Lacking}
 use Rattle.scl.specs.declared.Item.{Item}
 use Rattle.scl.specs.declared.Item.TheVariants.{Cents, Fraction}
 use Rattle.floats.proofs.Between.{within_more, within_reach, within_generator, quotient_within, range_sized}
@@ -96,9 +95,9 @@ module _ (n k : ℕ) (p : 0 < n) (h : n < 2 ^ 32) (q : 0 < k) (l : k < 2 ^ 32) w
   pub fraction_told : (gives r ≡ computed r) × (in_reach r ≡ true)
   fraction_told = (rw fraction_reach, fraction_reach)
 
-denom_pos : (d : Denom) → is_usable_denom d ≡ true → 0 < denom_of d
-denom_pos (Given d) h = ltb-true 0 d h
-denom_pos Lacking h = lit< tt
+denom_pos : (d : (Option ℕ)) → is_usable_denom d ≡ true → 0 < denom_of d
+denom_pos (Some d) h = ltb-true 0 d h
+denom_pos None h = lit< tt
 
 -- a usable item's ratio lies in 2 ^ -32..2 ^ 32; so `as_ratio` never refuses it
 pub item_ratio : (i : Item) → Held i → is_usable i ≡ true → Ratio 32 (ratio_of i)
@@ -107,5 +106,5 @@ item_ratio (Fraction n d) f h =
     let t = and_true (ltb 0 n) (is_usable_denom d) h in
     fraction_ratio n (denom_of d) (lib.Dec.ltb→lt 0 n t.0) f.0 (denom_pos d (is_true (is_usable_denom d) t.1)) f.1
 
-pub usable_fraction : (n : ℕ) (d : Denom) → is_usable (Fraction n d) ≡ true → (0 < n) × (0 < denom_of d)
+pub usable_fraction : (n : ℕ) (d : (Option ℕ)) → is_usable (Fraction n d) ≡ true → (0 < n) × (0 < denom_of d)
 usable_fraction n d h = let t = and_true (ltb 0 n) (is_usable_denom d) h in (lib.Dec.ltb→lt 0 n t.0, denom_pos d (is_true (is_usable_denom d) t.1))

@@ -1,4 +1,5 @@
 -- A lent table of items: what stands at a place, how the code goes over it, and what the test means. Assumes nothing.
+use Rattle.std.specs.Prelude.{Some, None}
 use mathlib.Core.Path.{◌≡◌, refl, sym, ◌∙◌, ap}
 use mathlib.Core.Logic.{◌↔◌}
 use mathlib.Core.Bool.{Bool, true, false, ◌&&◌, ◌||◌, and_assoc, and-true, true≢false}
@@ -15,7 +16,6 @@ use borrow.Author.Tests.{eq-eqb, ne_eqb, lt-ltb, le-ltb, ltb-true}
 use Rattle.floats.specs.Floats.{zero_f}
 use Rattle.scl.specs.Items.{is_usable_cents, is_usable}
 use Rattle.scl.specs.Table.{ItemTable, no_item, item_of, items_of, items_in, are_usable, have_items, is_items, Items}
-use Rattle.scl.specs.declared.Denom.TheVariants.{Given, Lacking}
 use Rattle.scl.specs.declared.Item.{Item}
 use Rattle.scl.specs.declared.Item.TheVariants.{Cents, Fraction}
 
@@ -28,10 +28,10 @@ module _ (k : ℕ) (c : Float) (n d : ℕ) where
   pub item_cents : k ≡ 0 → item_of k c n d ≡ Cents c
   item_cents e = rw (eq-eqb k 0 e)
 
-  pub item_fraction : (k ≡ 0 → ⊥) → k ≡ 1 → item_of k c n d ≡ Fraction n (Given d)
+  pub item_fraction : (k ≡ 0 → ⊥) → k ≡ 1 → item_of k c n d ≡ Fraction n (Some d)
   item_fraction z e = rw (ne_eqb k 0 z, eq-eqb k 1 e)
 
-  pub item_whole : (k ≡ 0 → ⊥) → (k ≡ 1 → ⊥) → k ≡ 2 → item_of k c n d ≡ Fraction n Lacking
+  pub item_whole : (k ≡ 0 → ⊥) → (k ≡ 1 → ⊥) → k ≡ 2 → item_of k c n d ≡ Fraction n None
   item_whole z o e = rw (ne_eqb k 0 z, ne_eqb k 1 o, eq-eqb k 2 e)
 
   pub item_none : (k ≡ 0 → ⊥) → (k ≡ 1 → ⊥) → (k ≡ 2 → ⊥) → item_of k c n d ≡ no_item

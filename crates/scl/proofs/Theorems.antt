@@ -1,20 +1,19 @@
 -- What the calls on items come to, and that each has one result. Document 01, "Scale". Assumes nothing.
-use mathlib.Core.Path.{◌≡◌, refl}
-use mathlib.Core.Logic.{inl, inr}
+use Rattle.std.specs.Prelude.{Option}
+use mathlib.Core.Path.{◌≡◌}
 use mathlib.Core.Bool.{true}
 use Prim.Native.Nat.{ℕ}
 use lib.Ieee.{Float, nan}
-use lib.ListN.{get_or}
+use mathlib.Core.List.{List}
+use lib.ListN.{length, get_or, take}
 use Rattle.base.specs.Said.{Said, One}
-use Rattle.base.proofs.Said.{Split, one_result, one_answer}
+use Rattle.base.proofs.Said.{one_result, one_read}
 use Rattle.pitch.specs.Answers.{says_ratio}
 use Rattle.pitch.proofs.Theorems.{ratio_one}
 use Rattle.scl.specs.Answers.{says_scl}
 use Rattle.scl.specs.Items.{is_usable_cents, is_usable, denom_of, ratio_of, given_ratio, Reached, Held}
-use Rattle.scl.specs.Table.{ItemTable, item_of, is_items}
-use Rattle.scl.specs.declared.Denom.{Denom}
+use Rattle.scl.specs.Table.{ItemTable, item_table, item_of, item_at, is_items}
 use Rattle.scl.specs.declared.Item.{Item}
-use Rattle.scl.specs.declared.SclAnswer.TheVariants as OfScl
 use Rattle.scl.proofs.Items.{item_ratio, ratio_reached}
 
 -- "Usable: numerator and denominator at least 1; cents from -38,400 to 38,400": the ratio of such an item lies in 2^-32..2^32, so
@@ -22,18 +21,13 @@ use Rattle.scl.proofs.Items.{item_ratio, ratio_reached}
 pub usable_ratio : (i : Item) → Held i → is_usable i ≡ true → Reached (ratio_of i)
 usable_ratio i h u = ratio_reached (item_ratio i h u)
 
--- ---- two results of one input are equal
-pub scl_split : Split OfScl.Is OfScl.Refused
-scl_split (OfScl.Is x) = inl (x, refl)
-scl_split (OfScl.Refused r) = inr (r, refl)
-
 pub scl_one : (s : Said ℕ) → One says_scl s
-scl_one = one_answer scl_split says_scl (λ x. x.count) (λ a b e i. record { count = e i }) (λ a. refl) (λ r. refl)
+scl_one = one_read (λ x. x.count) (λ a b e i. record { count = e i })
 
 pub is_usable_cents_one : (cents : Float) → One (λ r. r) (is_usable_cents cents)
 is_usable_cents_one cents = one_result (is_usable_cents cents)
 
-pub denom_of_one : (d : Denom) → One (λ r. r) (denom_of d)
+pub denom_of_one : (d : (Option ℕ)) → One (λ r. r) (denom_of d)
 denom_of_one d = one_result (denom_of d)
 
 pub is_usable_one : (i : Item) → One (λ r. r) (is_usable i)
@@ -50,3 +44,19 @@ item_at_one t i = one_result (item_of (get_or t.kinds i 0) (get_or t.cents i nan
 
 pub is_items_one : (t : ItemTable) (count : ℕ) → One (λ r. r) (is_items count t)
 is_items_one t count = one_result (is_items count t)
+
+-- the columns that are lent to be read
+pub columns_new_one : (ks : List ℕ) (cs : List Float) (ns ds : List ℕ) → One (λ r. r) (item_table ks cs ns ds)
+columns_new_one ks cs ns ds = one_result (item_table ks cs ns ds)
+
+pub columns_len_one : (t : ItemTable) → One (λ r. r) (length t.kinds)
+columns_len_one t = one_result (length t.kinds)
+
+pub columns_first_one : (t : ItemTable) (n : ℕ) → One (λ r. r) (item_table (take n t.kinds) (take n t.cents) (take n t.numers) (take n t.denoms))
+columns_first_one t n = one_result (item_table (take n t.kinds) (take n t.cents) (take n t.numers) (take n t.denoms))
+
+pub columns_item_one : (t : ItemTable) (i : ℕ) → One (λ r. r) (item_at t i)
+columns_item_one t i = one_result (item_at t i)
+
+pub columns_holds_one : (t : ItemTable) (count : ℕ) → One (λ r. r) (is_items count t)
+columns_holds_one t count = one_result (is_items count t)

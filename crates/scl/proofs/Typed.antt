@@ -1,4 +1,5 @@
 -- The items of columns of u32 are what the machine holds. Assumes nothing.
+use Rattle.std.specs.Prelude.{Some, None}
 use mathlib.Core.Bool.{Bool, true, false}
 use mathlib.Core.List.{List, [], ◌∷◌}
 use Prim.Native.Nat.{ℕ, zero, suc, ◌+◌, ◌^◌, ◌<◌}
@@ -8,7 +9,6 @@ use lib.Ieee.{Float}
 use Rattle.base.specs.Said.{pick}
 use Rattle.scl.specs.Items.{Held, AllHeld}
 use Rattle.scl.specs.Table.{ItemTable, Typed, no_item, item_of, items_of, items_in}
-use Rattle.scl.specs.declared.Denom.TheVariants.{Given, Lacking}
 use Rattle.scl.specs.declared.Item.{Item}
 use Rattle.scl.specs.declared.Item.TheVariants.{Cents, Fraction}
 
@@ -25,7 +25,7 @@ below_take (suc k) (n ∷ ns) h (suc i) = below_take k ns (λ j. h (suc j)) i
 item_held : (k : ℕ) (c : Float) (n d : ℕ) → n < 2 ^ 32 → d < 2 ^ 32 → Held (item_of k c n d)
 item_held k c n d h l = go (eqb k 0) (eqb k 1) (eqb k 2)
   where
-    go : (x y z : Bool) → Held (pick x (Cents c) (pick y (Fraction n (Given d)) (pick z (Fraction n Lacking) no_item)))
+    go : (x y z : Bool) → Held (pick x (Cents c) (pick y (Fraction n (Some d)) (pick z (Fraction n None) no_item)))
     go true y z = tt
     go false true z = (h, l)
     go false false true = (h, lit< tt)

@@ -1,13 +1,13 @@
 -- An item written at a place of the columns: it is read back, and at the next place it is one item more. Assumes nothing.
+use Rattle.std.specs.Prelude.{Some, None}
 use mathlib.Core.Path.{◌≡◌, refl, ◌∙◌, ap}
 use mathlib.Core.List.{List, [], ◌∷◌, ◌++◌}
-use Prim.Native.Nat.{ℕ, suc, ◌+◌}
+use Prim.Native.Nat.{ℕ, suc}
 use native.Mathlib.Omega.{arith}
 use lib.Ieee.{Float}
 use lib.ListN.{length, take}
 use lib.Seq.{take-suc-set}
 use Rattle.scl.specs.Table.{ItemTable, item_of, items_of, kind_of, cents_of, numer_of, denom_at, written_at}
-use Rattle.scl.specs.declared.Denom.TheVariants.{Given, Lacking}
 use Rattle.scl.specs.declared.Item.{Item}
 use Rattle.scl.specs.declared.Item.TheVariants.{Cents, Fraction}
 use Rattle.scl.proofs.Table.{Roomy, first, cents_same, numers_same, denoms_same}
@@ -15,8 +15,8 @@ use Rattle.scl.proofs.Table.{Roomy, first, cents_same, numers_same, denoms_same}
 -- what stands for an item is the item
 pub item_back : (i : Item) → item_of (kind_of i) (cents_of i) (numer_of i) (denom_at i) ≡ i
 item_back (Cents c) = refl
-item_back (Fraction n (Given d)) = refl
-item_back (Fraction n Lacking) = refl
+item_back (Fraction n (Some d)) = refl
+item_back (Fraction n None) = refl
 
 items_snoc : (ks : List ℕ) (cs : List Float) (ns ds : List ℕ) (k : ℕ) (c : Float) (n d : ℕ) → length cs ≡ length ks → length ns ≡ length ks → length ds ≡ length ks
     → items_of (ks ++ (k ∷ [])) (cs ++ (c ∷ [])) (ns ++ (n ∷ [])) (ds ++ (d ∷ [])) ≡ items_of ks cs ns ds ++ (item_of k c n d ∷ [])

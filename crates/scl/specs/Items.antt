@@ -1,6 +1,6 @@
 -- A scale's items: document 01, "Scale": "Usable: numerator and denominator at least 1; cents from -38,400 to 38,400", "an
 -- integer item is a fraction whose denominator may be lacking"; and their ratio, the Rust's `PitchValue::as_ratio`. Assumes nothing.
-use Rattle.std.specs.Prelude.{◌≡◌, Bool, true, ◌&&◌, List, [], ◌∷◌, ℕ, ◌^◌, ◌<◌, ltb, pos, Float}
+use Rattle.std.specs.Prelude.{◌≡◌, Bool, true, ◌&&◌, List, [], ◌∷◌, ℕ, ◌^◌, ◌<◌, ltb, pos, Float, Some, None, Option}
 use Rattle.std.specs.Float.{binary64}
 use Rattle.std.specs.Float.Ieee.{div, neg, of_int, of_bits}
 use Rattle.base.specs.Numbers.{unusable}
@@ -8,8 +8,6 @@ use Rattle.base.specs.Said.{Said, gives, refuses, pick}
 use Rattle.floats.specs.Ranges.{within, in_generator}
 use Rattle.pitch.specs.Given.{computed}
 use Rattle.pitch.specs.Ratios.{from_cents}
-use Rattle.scl.specs.declared.Denom.{Denom}
-use Rattle.scl.specs.declared.Denom.TheVariants.{Given, Lacking}
 use Rattle.scl.specs.declared.Item.{Item}
 use Rattle.scl.specs.declared.Item.TheVariants.{Cents, Fraction}
 
@@ -22,18 +20,18 @@ abbrev pub is_usable_cents : Float → Bool
 is_usable_cents = within (neg most_cents) most_cents
 
 -- "at least 1"
-abbrev pub is_usable_denom : Denom → Bool
-is_usable_denom (Given d) = ltb 0 d
-is_usable_denom Lacking = true
+abbrev pub is_usable_denom : (Option ℕ) → Bool
+is_usable_denom (Some d) = ltb 0 d
+is_usable_denom None = true
 
 abbrev pub is_usable : Item → Bool
 is_usable (Cents c) = is_usable_cents c
 is_usable (Fraction n d) = ltb 0 n && is_usable_denom d
 
 -- `denom.unwrap_or(1)`
-abbrev pub denom_of : Denom → ℕ
-denom_of (Given d) = d
-denom_of Lacking = 1
+abbrev pub denom_of : (Option ℕ) → ℕ
+denom_of (Some d) = d
+denom_of None = 1
 
 -- `Ratio::from_cents(cents)`, and `f64::from(numer) / f64::from(denom)`
 abbrev pub ratio_of : Item → Said Float

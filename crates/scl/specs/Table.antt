@@ -1,12 +1,11 @@
 -- A scale's lent table of items, as the interface fixes it: four columns, and what they must be to be used ("Before all else a
 -- call on lent tables gives 10 unless the count fits them, items are usable"). "Item j takes place j; place 0 holds the implicit
 -- 0.0 cents". Assumes nothing.
-use Rattle.std.specs.Prelude.{◌≡◌, Bool, true, ◌&&◌, List, [], ◌∷◌, ℕ, ◌+◌, ◌^◌, ◌<◌, eqb, ltb, length, get_or, set, take, Float}
+use Rattle.std.specs.Prelude.{◌≡◌, Bool, true, ◌&&◌, List, [], ◌∷◌, ℕ, ◌+◌, ◌^◌, ◌<◌, eqb, ltb, length, get_or, set, take, Float, Some, None}
 use Rattle.std.specs.Float.{nan}
 use Rattle.base.specs.Said.{pick}
 use Rattle.floats.specs.Floats.{zero_f}
 use Rattle.scl.specs.Items.{is_usable}
-use Rattle.scl.specs.declared.Denom.TheVariants.{Given, Lacking}
 use Rattle.scl.specs.declared.Item.{Item}
 use Rattle.scl.specs.declared.Item.TheVariants.{Cents, Fraction}
 
@@ -32,7 +31,18 @@ no_item = Cents nan
 
 -- kind 0: cents; 1: the fraction numer/denom; 2: the integer numer (denominator lacking); no item at any other kind
 abbrev pub item_of : ℕ → Float → ℕ → ℕ → Item
-item_of kind cents numer denom = pick (eqb kind 0) (Cents cents) (pick (eqb kind 1) (Fraction numer (Given denom)) (pick (eqb kind 2) (Fraction numer Lacking) no_item))
+item_of kind cents numer denom = pick (eqb kind 0) (Cents cents) (pick (eqb kind 1) (Fraction numer (Some denom)) (pick (eqb kind 2) (Fraction numer None) no_item))
+
+-- a place of each column
+pub record IsPlace (t : ItemTable) (i : ℕ) : Type 0 where
+  pub kinds : i < length t.kinds
+  pub cents : i < length t.cents
+  pub numers : i < length t.numers
+  pub denoms : i < length t.denoms
+
+-- the item that stands there
+abbrev pub item_at : ItemTable → ℕ → Item
+item_at t i = item_of (get_or t.kinds i 0) (get_or t.cents i nan) (get_or t.numers i 0) (get_or t.denoms i 0)
 
 -- four columns as one list of items
 unfoldable pub items_of : List ℕ → List Float → List ℕ → List ℕ → List Item
@@ -53,8 +63,8 @@ implicit = Cents zero_f
 -- ---- writing an item
 abbrev pub kind_of : Item → ℕ
 kind_of (Cents c) = 0
-kind_of (Fraction n (Given d)) = 1
-kind_of (Fraction n Lacking) = 2
+kind_of (Fraction n (Some d)) = 1
+kind_of (Fraction n None) = 2
 
 -- what a kind does not use is stored as 0
 abbrev pub cents_of : Item → Float
@@ -67,8 +77,8 @@ numer_of (Fraction n d) = n
 
 abbrev pub denom_at : Item → ℕ
 denom_at (Cents c) = 0
-denom_at (Fraction n (Given d)) = d
-denom_at (Fraction n Lacking) = 0
+denom_at (Fraction n (Some d)) = d
+denom_at (Fraction n None) = 0
 
 -- the table with an item written at a place
 abbrev pub written_at : ItemTable → ℕ → Item → ItemTable

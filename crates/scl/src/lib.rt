@@ -9,10 +9,11 @@ ghost use Rattle.std.specs.Prelude.{◌≡◌, true, ◌≤◌, ◌<◌, length,
 ghost use Rattle.std.specs.Float.{nan};
 ghost use Rattle.pitch.specs.Answers.{says_ratio};
 ghost use Rattle.scl.specs.Items.{is_usable_cents, is_usable_denom, is_usable, denom_of, ratio_of, given_ratio, Reached};
-ghost use Rattle.scl.specs.Table.{item_of, items_of, item_table, are_usable, is_items};
+ghost use Rattle.scl.specs.Table.{ItemTable, Typed, IsPlace, item_at, item_of, items_of, item_table, are_usable, is_items};
 
-use base::Refusal;
-use pitch::{Ratio, RatioAnswer};
+use base::{Reason, Refusal};
+use pitch::Ratio;
+use std::marker::Model;
 
 // A scale, beside its tables: `count` items after place 0.
 #[derive(Clone, Copy)]
@@ -20,24 +21,11 @@ pub struct Scl {
     pub count: u16,
 }
 
-#[derive(Clone, Copy)]
-pub enum SclAnswer {
-    Is(Scl),
-    Refused(Refusal),
-}
-
-// A fraction's denominator, where it was given.
-#[derive(Clone, Copy)]
-pub enum Denom {
-    Given(u32),
-    Lacking,
-}
-
 // An item of a scale.
 #[derive(Clone, Copy)]
 pub enum Item {
     Cents(f64),
-    Fraction(u32, Denom),
+    Fraction(u32, Option<u32>),
 }
 
 // The kind of an item in cents.
@@ -49,7 +37,7 @@ pub const WHOLE: u8 = 2;
 
 // 10: a lent table, a state or an item cannot be used.
 pub const NOT_USABLE: Refusal = Refusal {
-    number: base::UNUSABLE,
+    reason: Reason::Unusable,
     detail: 0,
 };
 
@@ -57,29 +45,24 @@ pub const NOT_USABLE: Refusal = Refusal {
 pub fn is_usable_cents(cents: f64) -> bool
     ensures { result ≡ is_usable_cents cents }
 {
-    let low = cents >= -38400.0;
-    let high = cents <= 38400.0;
-    low & high
+    floats::is_within(-38400.0, 38400.0, cents)
 }
 
 // Whether a denominator is at least 1, or lacking.
-fn is_usable_denom(denom: Denom) -> bool
+fn is_usable_denom(denom: Option<u32>) -> bool
     ensures { result ≡ is_usable_denom denom }
 {
     match denom {
-        Denom::Given(number) => 0 < number,
-        Denom::Lacking => true,
+        Some(number) => 0 < number,
+        None => true,
     }
 }
 
 // The denominator's number, 1 where it is lacking.
-pub fn denom_of(denom: Denom) -> u32
+pub fn denom_of(denom: Option<u32>) -> u32
     ensures { result ≡ denom_of denom }
 {
-    match denom {
-        Denom::Given(number) => number,
-        Denom::Lacking => 1,
-    }
+    denom.unwrap_or(1)
 }
 
 impl Item {
@@ -89,18 +72,12 @@ impl Item {
     {
         match self {
             Item::Cents(cents) => is_usable_cents(cents),
-            Item::Fraction(numer, denom) => {
-                if 0 < numer {
-                    is_usable_denom(denom)
-                } else {
-                    false
-                }
-            }
+            Item::Fraction(numer, denom) => 0 < numer && is_usable_denom(denom),
         }
     }
 
     // The item as a ratio; 18 where that is out of reach, never for an item that can be used.
-    fn ratio(self) -> RatioAnswer
+    fn ratio(self) -> Result<Ratio, Refusal>
         ensures value { says_ratio result ≡ ratio_of self }
         ensures reached { is_usable self ≡ true → Reached (says_ratio result) }
     {
@@ -113,14 +90,14 @@ impl Item {
     }
 
     // The item as a ratio; 10 for an item that cannot be used, and never another refusal.
-    pub fn as_ratio(self) -> RatioAnswer
+    pub fn as_ratio(self) -> Result<Ratio, Refusal>
         ensures value { says_ratio result ≡ given_ratio self }
         ensures reached { is_usable self ≡ true → Reached (says_ratio result) }
     {
         if self.is_usable() {
             self.ratio()
         } else {
-            RatioAnswer::Refused(NOT_USABLE)
+            Err(NOT_USABLE)
         }
     }
 }
@@ -129,24 +106,12 @@ impl Item {
 pub fn item_of(kind: u8, cents: f64, numer: u32, denom: u32) -> Item
     ensures { result ≡ item_of kind cents numer denom }
 {
-    if kind == CENTS {
-        return Item::Cents(cents);
+    match kind {
+        CENTS => Item::Cents(cents),
+        FRACTION => Item::Fraction(numer, Some(denom)),
+        WHOLE => Item::Fraction(numer, None),
+        _ => Item::Cents(0.0 / 0.0),
     }
-    if kind == FRACTION {
-        return Item::Fraction(numer, Denom::Given(denom));
-    }
-    if kind == WHOLE {
-        return Item::Fraction(numer, Denom::Lacking);
-    }
-    Item::Cents(0.0 / 0.0)
-}
-
-// The item that stands at place i.
-pub fn item_at(kind: &[u8], cents: &[f64], numer: &[u32], denom: &[u32], i: usize) -> Item
-    requires { (i < length kind.now) × (i < length cents.now) × (i < length numer.now) × (i < length denom.now) }
-    ensures { result ≡ item_of (get_or kind.now i 0) (get_or cents.now i nan) (get_or numer.now i 0) (get_or denom.now i 0) }
-{
-    item_of(kind[i], cents[i], numer[i], denom[i])
 }
 
 // Whether the item that stands in the columns can be used.
@@ -166,26 +131,84 @@ fn are_items(kind: &[u8], cents: &[f64], numer: &[u32], denom: &[u32], n: usize)
     ensures { result ≡ are_usable (items_of (take n kind.now) (take n cents.now) (take n numer.now) (take n denom.now)) }
 {
     let mut all = true;
-    let mut i: usize = 0;
-    while i < n {
+    for i in 0..n {
         all = all & is_item(kind[i], cents[i], numer[i], denom[i]);
-        i += 1;
     }
     all
 }
 
-// Whether the columns hold `count` usable items after place 0, which is usable too. Each column is gone over once.
-pub fn is_items(kind: &[u8], cents: &[f64], numer: &[u32], denom: &[u32], count: usize) -> bool
-    ensures { result ≡ is_items count (item_table kind.now cents.now numer.now denom.now) }
-{
-    if count < kind.len() {
-        if count < cents.len() {
-            if count < numer.len() {
-                if count < denom.len() {
-                    return are_items(kind, cents, numer, denom, count + 1);
-                }
-            }
+// The four columns of a scale's items, as they are lent to be read.
+#[derive(Drop)]
+pub struct ItemColumns<'a> {
+    kind: &'a [u8],
+    cents: &'a [f64],
+    numer: &'a [u32],
+    denom: &'a [u32],
+}
+
+impl<'a> Model for ItemColumns<'a> {
+    ghost Value = { ItemTable };
+
+    ghost view = { λ c. item_table c.kind.now c.cents.now c.numer.now c.denom.now };
+
+    ghost invariant = { λ c. Typed (item_table c.kind.now c.cents.now c.numer.now c.denom.now) };
+}
+
+impl<'a> ItemColumns<'a> {
+    // The columns as one.
+    pub fn new(
+        kind: &'a [u8],
+        cents: &'a [f64],
+        numer: &'a [u32],
+        denom: &'a [u32],
+    ) -> ItemColumns<'a>
+        ensures { result ≡ item_table kind.now cents.now numer.now denom.now }
+    {
+        ItemColumns {
+            kind,
+            cents,
+            numer,
+            denom,
         }
     }
-    false
+
+    // How many places the first column has.
+    pub fn len(&self) -> usize
+        ensures { result ≡ length self.now.kinds }
+    {
+        self.kind.len()
+    }
+
+    // The first n places.
+    pub fn first(&self, n: usize) -> ItemColumns<'a>
+        requires { (n ≤ length self.now.kinds) × (n ≤ length self.now.cents) × (n ≤ length self.now.numers) × (n ≤ length self.now.denoms) }
+        ensures { result ≡ item_table (take n self.now.kinds) (take n self.now.cents) (take n self.now.numers) (take n self.now.denoms) }
+    {
+        ItemColumns {
+            kind: &self.kind[..n],
+            cents: &self.cents[..n],
+            numer: &self.numer[..n],
+            denom: &self.denom[..n],
+        }
+    }
+
+    // The item that stands at place i.
+    pub fn item(&self, i: usize) -> Item
+        requires { IsPlace self.now i }
+        ensures { result ≡ item_at self.now i }
+    {
+        item_of(self.kind[i], self.cents[i], self.numer[i], self.denom[i])
+    }
+
+    // Whether they hold `count` usable items after place 0, which is usable too. Each column is gone over once.
+    pub fn holds(&self, count: usize) -> bool
+        ensures value { result ≡ is_items count self.now }
+        ensures typed { Typed self.now }
+    {
+        let room = count < self.kind.len()
+            && count < self.cents.len()
+            && count < self.numer.len()
+            && count < self.denom.len();
+        room && are_items(self.kind, self.cents, self.numer, self.denom, count + 1)
+    }
 }

@@ -2,7 +2,7 @@
 use mathlib.Core.Path.{◌≡◌, refl, sym, ◌∙◌, ap}
 use mathlib.Core.Bool.{Bool, true, false, ◌&&◌}
 use mathlib.Core.List.{List}
-use Prim.Native.Nat.{ℕ, ◌+◌, ◌-◌, ◌≤◌, ◌<◌}
+use Prim.Native.Nat.{ℕ, ◌+◌, ◌≤◌, ◌<◌}
 use native.Mathlib.Omega.{arith}
 use lib.ListN.{length, get_or}
 use lib.Ieee.{nan}
@@ -24,12 +24,6 @@ use Rattle.scl_build.proofs.Pushes.{fit_says, FitList, fit_list_says}
 
 -- ---- whether the state is ready
 module _ (b : SclBuilder) (t : ItemTable) (l : ListTable) where
-  pub items_unfit : fits_items b t ≡ false → false ≡ is_ready b t l
-  items_unfit f = rw f
-
-  pub list_unfit : fits_items b t ≡ true → fits_list b l ≡ false → false ≡ is_ready b t l
-  list_unfit f g = rw (f, g)
-
   pub ready : fits_items b t ≡ true → fits_list b l ≡ true → {r : Bool} → r ≡ is_items b.count t → r ≡ is_ready b t l
   ready f g e = rw (f, g) e
 

@@ -1,5 +1,6 @@
 -- "Builder calls act, push for push, as appending to a plain list. [..] a refused push appends nothing" (document 01, "What is taken",
 -- 5): after any run of calls from a new builder, refused pushes among them, the builder acts as the plain list. Assumes nothing.
+use Rattle.std.specs.Prelude.{Some, None}
 use mathlib.Core.Path.{◌≡◌, refl, sym, ◌∙◌, ap}
 use mathlib.Core.Bool.{Bool, true, false, ◌&&◌}
 use mathlib.Core.List.{List, [], ◌∷◌, ◌++◌, append_assoc, append-nil}
@@ -15,7 +16,6 @@ use Rattle.pitch.specs.Ratios.{as_cents}
 use Rattle.sorted.specs.Lent.{ListTable}
 use Rattle.scl.specs.Items.{is_usable}
 use Rattle.scl.specs.Table.{ItemTable, items_in, implicit, written_at, kind_of, cents_of, numer_of, denom_at, are_usable, is_items}
-use Rattle.scl.specs.declared.Denom.TheVariants.{Given, Lacking}
 use Rattle.scl.specs.declared.Item.{Item}
 use Rattle.scl.specs.declared.Item.TheVariants.{Cents, Fraction}
 use Rattle.scl.proofs.Table.{both, have_items_law}
@@ -93,8 +93,8 @@ module _ (t : ItemTable) (l : ListTable) where
         go : (x : Said Float) → and_then x (λ c. pushed b u (Cents c)) ≡ and_then (ratio_by room is x) (λ js. gives (builder_for room js))
         go (gives c) = next_says (Cents c)
         go (refuses n d) = refl
-    next_call (Call.int n) = next_says (Fraction n Lacking)
-    next_call (Call.fraction n d) = next_says (Fraction n (Given d))
+    next_call (Call.int n) = next_says (Fraction n None)
+    next_call (Call.fraction n d) = next_says (Fraction n (Some d))
 
     -- ---- what it leaves
     -- the builder of the list after it, and a table that holds it
@@ -133,8 +133,8 @@ module _ (t : ItemTable) (l : ListTable) where
             → Goes (plain_after is (ratio_by room is x)) (beside (builder_after b (and_then x (λ c. pushed b u (Cents c)))) (after_cents b u x))
         go (gives c) = item_goes (Cents c)
         go (refuses n d) = (u, (refl, h))
-    call_goes (Call.int n) = item_goes (Fraction n Lacking)
-    call_goes (Call.fraction n d) = item_goes (Fraction n (Given d))
+    call_goes (Call.int n) = item_goes (Fraction n None)
+    call_goes (Call.fraction n d) = item_goes (Fraction n (Some d))
 
     -- ---- a build is the plain list's
     table_usable : is_items (length is) u ≡ true
@@ -225,5 +225,5 @@ unfolding plain_calls items_given accepted_of
 plain_accepted room [] is = sym (append-nil is)
 plain_accepted room (Call.cents c ∷ cs) is = item_accepted room cs (items_given cs) (plain_accepted room cs) is (Cents c)
 plain_accepted room (Call.ratio r ∷ cs) is = ratio_accepted room cs (items_given cs) (plain_accepted room cs) is (as_cents r)
-plain_accepted room (Call.int n ∷ cs) is = item_accepted room cs (items_given cs) (plain_accepted room cs) is (Fraction n Lacking)
-plain_accepted room (Call.fraction n d ∷ cs) is = item_accepted room cs (items_given cs) (plain_accepted room cs) is (Fraction n (Given d))
+plain_accepted room (Call.int n ∷ cs) is = item_accepted room cs (items_given cs) (plain_accepted room cs) is (Fraction n None)
+plain_accepted room (Call.fraction n d ∷ cs) is = item_accepted room cs (items_given cs) (plain_accepted room cs) is (Fraction n (Some d))

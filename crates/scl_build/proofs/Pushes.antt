@@ -4,29 +4,16 @@ use mathlib.Core.Bool.{true, false, ◌&&◌}
 use Prim.Native.Nat.{ℕ, ◌+◌, ◌≤◌, ◌<◌}
 use lib.Dec.{leb, ltb}
 use lib.ListN.{length}
-use lib.Ieee.{Float}
 use borrow.Author.Tests.{ltb-true, lt-ltb, le-ltb, leb-true, le-leb}
 use Rattle.base.specs.Numbers.{unusable, no_room}
-use Rattle.base.specs.Said.{Said, gives, refuses, and_then}
-use Rattle.pitch.specs.Ratios.{as_cents}
+use Rattle.base.specs.Said.{Said, gives, refuses}
 use Rattle.sorted.specs.Lent.{ListTable}
 use Rattle.scl.specs.Items.{is_usable}
-use Rattle.scl.specs.Table.{ItemTable, implicit, written_at}
+use Rattle.scl.specs.Table.{ItemTable, written_at}
 use Rattle.scl.specs.declared.Item.{Item}
-use Rattle.scl.specs.declared.Item.TheVariants.{Cents}
 use Rattle.scl.proofs.Table.{both}
-use Rattle.scl_tables.specs.Room.{room_of}
-use Rattle.scl_build.specs.Builder.{state, builder_of, after_new, fits_items, fits_list, pushed, written_where, after_push, pushed_ratio, after_cents, after_ratio}
+use Rattle.scl_build.specs.Builder.{state, fits_items, fits_list, pushed, written_where, after_push}
 use Rattle.scl_build.specs.declared.SclBuilder.{SclBuilder}
-
--- ---- a new builder
-module _ (t : ItemTable) (l : ListTable) where
-  module _ {r : ℕ} (e : r ≡ room_of t l) where
-    pub new_given : 0 < r → {t' : ItemTable} → t' ≡ written_at t 0 implicit → (gives (state r 0) ≡ builder_of t l) × (t' ≡ after_new t l)
-    new_given h w = let some = ap (ltb 0) (sym e) ∙ lt-ltb 0 r h in (rw some (ap (λ (x : ℕ). gives (state x 0)) e), rw some w)
-
-    pub new_none : r ≤ 0 → (refuses no_room 0 ≡ builder_of t l) × (t ≡ after_new t l)
-    new_none h = let none = ap (ltb 0) (sym e) ∙ le-ltb 0 r h in (rw none, rw none)
 
 -- ---- what it is to fit
 pub record Fit (b : SclBuilder) (t : ItemTable) : Type 0 where
@@ -97,13 +84,3 @@ module _ (b : SclBuilder) (t : ItemTable) (i : Item) where
       pub push_more : b.count + 1 < b.room → pushed b t i ≡ gives (state b.room (b.count + 1))
       unfolding pushed
       push_more h = rw (f, u, lt-ltb (b.count + 1) b.room h)
-
--- ---- the push of a ratio: that of its cents
-module _ (b : SclBuilder) (t : ItemTable) (r : Float) where
-  pub ratio_pushed : {c : Float} → gives c ≡ as_cents r → {s : Said SclBuilder} {t' : ItemTable} → (s ≡ pushed b t (Cents c)) × (t' ≡ after_push b t (Cents c)) → (s ≡ pushed_ratio b t r) × (t' ≡ after_ratio b t r)
-  unfolding pushed_ratio after_ratio
-  ratio_pushed e h = (h.0 ∙ ap (λ (x : Said Float). and_then x (λ c. pushed b t (Cents c))) e, h.1 ∙ ap (after_cents b t) e)
-
-  pub ratio_refused : {n d : ℕ} → refuses n d ≡ as_cents r → (refuses n d ≡ pushed_ratio b t r) × (t ≡ after_ratio b t r)
-  unfolding pushed_ratio after_ratio
-  ratio_refused e = (ap (λ (x : Said Float). and_then x (λ c. pushed b t (Cents c))) e, ap (after_cents b t) e)

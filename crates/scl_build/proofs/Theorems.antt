@@ -1,6 +1,7 @@
 -- What the builder's calls come to, and that each has one result. Document 01, "What is taken", 5. Assumes nothing.
+use Rattle.std.specs.Prelude.{Some, None}
 use mathlib.Core.Path.{◌≡◌, refl, sym, ◌∙◌, ap}
-use mathlib.Core.Logic.{◌↔◌, inl, inr}
+use mathlib.Core.Logic.{◌↔◌}
 use mathlib.Core.Bool.{Bool, true, false}
 use mathlib.Core.List.{List, [], ◌∷◌}
 use Prim.Native.Nat.{ℕ, ◌+◌, ◌-◌, ◌≤◌, ◌<◌}
@@ -9,8 +10,8 @@ use lib.Dec.{leb}
 use lib.Ieee.{Float, le, lt, eq, neg, of_bits}
 use borrow.Author.Tests.{lt-ltb, leb-true, le-leb}
 use Rattle.base.specs.Numbers.{too_large, unusable, beyond_reach}
-use Rattle.base.specs.Said.{Said, gives, refuses, pick, One}
-use Rattle.base.proofs.Said.{Split, one_result, one_plain}
+use Rattle.base.specs.Said.{Said, gives, refuses, pick, One, outcome}
+use Rattle.base.proofs.Said.{one_result, one_said}
 use Rattle.scl_tables.proofs.Answered.{never}
 use Rattle.floats.specs.Floats.{one_f}
 use Rattle.sorting.specs.Entries.{Entry}
@@ -18,7 +19,6 @@ use Rattle.sorted.specs.Lent.{ListTable}
 use Rattle.scl.specs.Answers.{says_scl}
 use Rattle.scl.specs.Items.{is_usable, ratio_of, AllHeld}
 use Rattle.scl.specs.Table.{ItemTable, items_of, items_in, implicit, written_at, are_usable, have_items}
-use Rattle.scl.specs.declared.Denom.TheVariants.{Given, Lacking}
 use Rattle.scl.specs.declared.Item.{Item}
 use Rattle.scl.specs.declared.Item.TheVariants.{Cents, Fraction}
 use Rattle.scl.proofs.Table.{have_items_law, length_first, items_roomy, items_usable}
@@ -29,10 +29,8 @@ use Rattle.scl_tables.specs.Room.{room_of}
 use Rattle.scl_tables.proofs.Beyond.{scale_looks}
 use Rattle.scl_tables.proofs.Room.{room_within}
 use Rattle.scl_tables.proofs.Theorems.{beyond_reach_is, list_leaves, left_list}
-use Rattle.scl_build.specs.Answers.{says_builder}
 use Rattle.scl_build.specs.Builder.{state, builder_of, after_new, fits_items, fits_list, pushed, after_push, pushed_ratio, after_ratio, beside, after_all, accepted_of, Built, Appended, is_ready, built, counted, Leaves}
 use Rattle.scl_build.specs.declared.SclBuilder.{SclBuilder}
-use Rattle.scl_build.specs.declared.SclBuilderAnswer.TheVariants as OfBuilder
 use Rattle.scl_build.proofs.Appends.{written_fits, run_appends, accepted_usable}
 use Rattle.scl_build.proofs.Builds.{ready, ready_items, ready_count, too_many}
 use Rattle.scl_build.proofs.Pushes.{Fit, fit_says, says_fit, says_fit_list}
@@ -146,32 +144,27 @@ module _ (b : SclBuilder) (t : ItemTable) (l : ListTable) (es : List Entry) wher
           }
       go false h e = never e refl
 
--- ---- two results of one input are equal
-pub builder_split : Split OfBuilder.Is OfBuilder.Refused
-builder_split (OfBuilder.Is x) = inl (x, refl)
-builder_split (OfBuilder.Refused r) = inr (r, refl)
-
-pub builder_one : (s : Said SclBuilder) → One says_builder s
-builder_one = one_plain builder_split says_builder (λ a. refl) (λ r. refl)
+pub builder_one : (s : Said SclBuilder) → One outcome s
+builder_one = one_said
 
 -- the answer, and the columns that a call leaves
-pub new_one : (t : ItemTable) (l : ListTable) → One says_builder (builder_of t l) × One (λ r. r) (after_new t l)
+pub new_one : (t : ItemTable) (l : ListTable) → One outcome (builder_of t l) × One (λ r. r) (after_new t l)
 new_one t l = (builder_one (builder_of t l), one_result (after_new t l))
 
-push_one : (b : SclBuilder) (t : ItemTable) (i : Item) → One says_builder (pushed b t i) × One (λ r. r) (after_push b t i)
+push_one : (b : SclBuilder) (t : ItemTable) (i : Item) → One outcome (pushed b t i) × One (λ r. r) (after_push b t i)
 push_one b t i = (builder_one (pushed b t i), one_result (after_push b t i))
 
-pub push_cents_one : (b : SclBuilder) (t : ItemTable) (cents : Float) → One says_builder (pushed b t (Cents cents)) × One (λ r. r) (after_push b t (Cents cents))
+pub push_cents_one : (b : SclBuilder) (t : ItemTable) (cents : Float) → One outcome (pushed b t (Cents cents)) × One (λ r. r) (after_push b t (Cents cents))
 push_cents_one b t cents = push_one b t (Cents cents)
 
-pub push_ratio_one : (b : SclBuilder) (t : ItemTable) (ratio : Float) → One says_builder (pushed_ratio b t ratio) × One (λ r. r) (after_ratio b t ratio)
+pub push_ratio_one : (b : SclBuilder) (t : ItemTable) (ratio : Float) → One outcome (pushed_ratio b t ratio) × One (λ r. r) (after_ratio b t ratio)
 push_ratio_one b t ratio = (builder_one (pushed_ratio b t ratio), one_result (after_ratio b t ratio))
 
-pub push_int_one : (b : SclBuilder) (t : ItemTable) (number : ℕ) → One says_builder (pushed b t (Fraction number Lacking)) × One (λ r. r) (after_push b t (Fraction number Lacking))
-push_int_one b t number = push_one b t (Fraction number Lacking)
+pub push_int_one : (b : SclBuilder) (t : ItemTable) (number : ℕ) → One outcome (pushed b t (Fraction number None)) × One (λ r. r) (after_push b t (Fraction number None))
+push_int_one b t number = push_one b t (Fraction number None)
 
-pub push_fraction_one : (b : SclBuilder) (t : ItemTable) (numer denom : ℕ) → One says_builder (pushed b t (Fraction numer (Given denom))) × One (λ r. r) (after_push b t (Fraction numer (Given denom)))
-push_fraction_one b t numer denom = push_one b t (Fraction numer (Given denom))
+pub push_fraction_one : (b : SclBuilder) (t : ItemTable) (numer denom : ℕ) → One outcome (pushed b t (Fraction numer (Some denom))) × One (λ r. r) (after_push b t (Fraction numer (Some denom)))
+push_fraction_one b t numer denom = push_one b t (Fraction numer (Some denom))
 
 pub build_one : (b : SclBuilder) (t : ItemTable) (l : ListTable) → One says_scl (counted b (built b t l)) × One (λ r. r) (after_list (built b t l) l)
 build_one b t l = (scl_one (counted b (built b t l)), one_result (after_list (built b t l) l))

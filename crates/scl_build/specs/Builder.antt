@@ -13,7 +13,7 @@ use Rattle.scl.specs.Items.{is_usable, ratio_of}
 use Rattle.scl.specs.Table.{ItemTable, item_table, items_in, implicit, written_at, is_items}
 use Rattle.scl.specs.declared.Item.{Item}
 use Rattle.scl.specs.declared.Item.TheVariants.{Cents}
-use Rattle.scl_tables.specs.Build.{sized_of, last_of, after_list}
+use Rattle.scl_tables.specs.Build.{sized_of, last_of}
 use Rattle.scl_tables.specs.Room.{room_of}
 use Rattle.scl_build.specs.declared.SclBuilder.{SclBuilder}
 

@@ -1,14 +1,13 @@
 -- A RUN OF BUILDER CALLS, in any order and refused ones too, and the plain list beside it: document 01, "What is taken", 5: "Builder
 -- calls act, push for push, as appending to a plain list. A push gives 10 by the readers' limits, then 12; a refused push appends
 -- nothing". The plain list is of the items after place 0. Assumes nothing.
-use Rattle.std.specs.Prelude.{◌≡◌, true, List, [], ◌∷◌, ◌++◌, ℕ, ◌+◌, ltb, Float, length}
+use Rattle.std.specs.Prelude.{◌≡◌, true, List, [], ◌∷◌, ◌++◌, ℕ, ◌+◌, ltb, Float, length, Some, None}
 use Rattle.base.specs.Numbers.{unusable, no_room}
 use Rattle.base.specs.Said.{Said, gives, refuses, pick, and_then}
 use Rattle.pitch.specs.Ratios.{as_cents}
 use Rattle.sorted.specs.Lent.{ListTable}
 use Rattle.scl.specs.Items.{is_usable}
 use Rattle.scl.specs.Table.{ItemTable, items_in, implicit, is_items}
-use Rattle.scl.specs.declared.Denom.TheVariants.{Given, Lacking}
 use Rattle.scl.specs.declared.Item.{Item}
 use Rattle.scl.specs.declared.Item.TheVariants.{Cents, Fraction}
 use Rattle.scl_tables.specs.Build.{sized_of}
@@ -29,14 +28,14 @@ pub data Call : Type 0 where
 abbrev pub says_call : Built → Call → Said SclBuilder
 says_call s (Call.cents c) = pushed s.builder s.table (Cents c)
 says_call s (Call.ratio r) = pushed_ratio s.builder s.table r
-says_call s (Call.int n) = pushed s.builder s.table (Fraction n Lacking)
-says_call s (Call.fraction n d) = pushed s.builder s.table (Fraction n (Given d))
+says_call s (Call.int n) = pushed s.builder s.table (Fraction n None)
+says_call s (Call.fraction n d) = pushed s.builder s.table (Fraction n (Some d))
 
 abbrev pub table_after : Built → Call → ItemTable
 table_after s (Call.cents c) = after_push s.builder s.table (Cents c)
 table_after s (Call.ratio r) = after_ratio s.builder s.table r
-table_after s (Call.int n) = after_push s.builder s.table (Fraction n Lacking)
-table_after s (Call.fraction n d) = after_push s.builder s.table (Fraction n (Given d))
+table_after s (Call.int n) = after_push s.builder s.table (Fraction n None)
+table_after s (Call.fraction n d) = after_push s.builder s.table (Fraction n (Some d))
 
 -- one call, whether it is accepted or refused
 abbrev pub after_call : Built → Call → Built
@@ -52,8 +51,8 @@ after_calls s (c ∷ cs) = after_calls (after_call s c) cs
 abbrev pub item_pushed : Call → Said Item
 item_pushed (Call.cents c) = gives (Cents c)
 item_pushed (Call.ratio r) = and_then (as_cents r) (λ c. gives (Cents c))
-item_pushed (Call.int n) = gives (Fraction n Lacking)
-item_pushed (Call.fraction n d) = gives (Fraction n (Given d))
+item_pushed (Call.int n) = gives (Fraction n None)
+item_pushed (Call.fraction n d) = gives (Fraction n (Some d))
 
 -- one item more: "10 by the readers' limits, then 12" where all of so many places, place 0 among them, are taken
 abbrev pub plain_push : ℕ → List Item → Item → Said (List Item)
@@ -76,8 +75,8 @@ unfoldable pub items_given : List Call → List Item
 items_given [] = []
 items_given (Call.cents c ∷ cs) = Cents c ∷ items_given cs
 items_given (Call.ratio r ∷ cs) = with_cents (as_cents r) (items_given cs)
-items_given (Call.int n ∷ cs) = Fraction n Lacking ∷ items_given cs
-items_given (Call.fraction n d ∷ cs) = Fraction n (Given d) ∷ items_given cs
+items_given (Call.int n ∷ cs) = Fraction n None ∷ items_given cs
+items_given (Call.fraction n d ∷ cs) = Fraction n (Some d) ∷ items_given cs
 
 -- ---- both
 -- the builder of a plain list, of tables of so many places

@@ -1,3 +1,2 @@
 pub mod Builder
-pub mod Answers
 pub mod Calls

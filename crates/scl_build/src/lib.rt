@@ -5,20 +5,18 @@
 // and `push_int(.., 2)`, then `build(.., &mut place, &mut ratio, &mut wraps)` is a scale of two items, 3/2 and 2, with its sorted list.
 #![tactic(auto)]
 
-ghost use Rattle.std.specs.Prelude.{◌≡◌, ◌&&◌, leb, ltb};
+ghost use Rattle.std.specs.Prelude.{◌≡◌, ◌&&◌, leb, ltb, Some, None};
+ghost use Rattle.base.specs.Said.{outcome};
 ghost use Rattle.scl.specs.Answers.{says_scl};
 ghost use Rattle.scl.specs.Table.{item_table};
-ghost use Rattle.scl.specs.declared.Denom.TheVariants.{Given, Lacking};
 ghost use Rattle.scl.specs.declared.Item.TheVariants.{Cents, Fraction};
 ghost use Rattle.sorted.specs.Lent.{list_table};
 ghost use Rattle.scl_tables.specs.Build.{after_list};
-ghost use Rattle.scl_build.specs.Answers.{says_builder};
 ghost use Rattle.scl_build.specs.Builder.{builder_of, after_new, pushed, after_push, pushed_ratio, after_ratio, is_ready, built, counted, Comes};
 
-use base::Refusal;
-use floats::FloatAnswer;
+use base::{Reason, Refusal};
 use pitch::Ratio;
-use scl::{Denom, Item, Scl, SclAnswer};
+use scl::{Item, ItemColumns, Scl};
 
 #[derive(Clone, Copy)]
 pub struct SclBuilder {
@@ -26,27 +24,21 @@ pub struct SclBuilder {
     pub count: usize,
 }
 
-#[derive(Clone, Copy)]
-pub enum SclBuilderAnswer {
-    Is(SclBuilder),
-    Refused(Refusal),
-}
-
 // 12: the tables are full.
 const NO_PLACE: Refusal = Refusal {
-    number: base::NO_ROOM,
+    reason: Reason::NoRoom,
     detail: 0,
 };
 
 // 13: over 65,535 items.
 const TOO_MANY: Refusal = Refusal {
-    number: base::TOO_LARGE,
+    reason: Reason::TooLarge,
     detail: 0,
 };
 
 // 18: of two or more items, the period is 1.0.
 const OUT_OF_REACH: Refusal = Refusal {
-    number: base::BEYOND_REACH,
+    reason: Reason::BeyondReach,
     detail: 0,
 };
 
@@ -55,9 +47,7 @@ fn fits_items(state: SclBuilder, kinds: usize, cents: usize, numers: usize, deno
     ensures { result ≡ (ltb state.count state.room && (leb state.room kinds && leb state.room cents && leb state.room numers && leb state.room denoms)) }
 {
     let room = state.room;
-    let inside = state.count < room;
-    let columns = (room <= kinds) & (room <= cents) & (room <= numers) & (room <= denoms);
-    inside & columns
+    (state.count < room) & ((room <= kinds) & (room <= cents) & (room <= numers) & (room <= denoms))
 }
 
 // Whether a state fits three columns of these lengths.
@@ -78,17 +68,17 @@ impl SclBuilder {
         place: &[u32],
         ratio: &[f64],
         wraps: &[i32],
-    ) -> SclBuilderAnswer
-        ensures { (says_builder result ≡ builder_of (item_table kind.old cents.old numer.old denom.old) (list_table place.now ratio.now wraps.now))
+    ) -> Result<SclBuilder, Refusal>
+        ensures { (outcome result ≡ builder_of (item_table kind.old cents.old numer.old denom.old) (list_table place.now ratio.now wraps.now))
             × (item_table kind.new cents.new numer.new denom.new
             ≡ after_new (item_table kind.old cents.old numer.old denom.old) (list_table place.now ratio.now wraps.now)) }
     {
         let room = scl_tables::room_of(kind, cents, numer, denom, place, ratio, wraps);
         if 0 < room {
             scl_tables::write_item(kind, cents, numer, denom, 0, Item::Cents(0.0));
-            return SclBuilderAnswer::Is(SclBuilder { room, count: 0 });
+            return Ok(SclBuilder { room, count: 0 });
         }
-        SclBuilderAnswer::Refused(NO_PLACE)
+        Err(NO_PLACE)
     }
 
     // One item more, at the next place; 10 for a state that does not fit the columns or an item that cannot be used, 12.
@@ -99,8 +89,8 @@ impl SclBuilder {
         numer: &mut [u32],
         denom: &mut [u32],
         item: Item,
-    ) -> SclBuilderAnswer
-        ensures { (says_builder result ≡ pushed self (item_table kind.old cents.old numer.old denom.old) item)
+    ) -> Result<SclBuilder, Refusal>
+        ensures { (outcome result ≡ pushed self (item_table kind.old cents.old numer.old denom.old) item)
             × (item_table kind.new cents.new numer.new denom.new
             ≡ after_push self (item_table kind.old cents.old numer.old denom.old) item) }
     {
@@ -111,12 +101,12 @@ impl SclBuilder {
                 let next = count + 1;
                 if next < room {
                     scl_tables::write_item(kind, cents, numer, denom, next, item);
-                    return SclBuilderAnswer::Is(SclBuilder { room, count: next });
+                    return Ok(SclBuilder { room, count: next });
                 }
-                return SclBuilderAnswer::Refused(NO_PLACE);
+                return Err(NO_PLACE);
             }
         }
-        SclBuilderAnswer::Refused(scl::NOT_USABLE)
+        Err(scl::NOT_USABLE)
     }
 
     // One item in cents more; 10 outside -38400..38400, 12.
@@ -127,8 +117,8 @@ impl SclBuilder {
         numer: &mut [u32],
         denom: &mut [u32],
         cents_value: f64,
-    ) -> SclBuilderAnswer
-        ensures { (says_builder result ≡ pushed self (item_table kind.old cents.old numer.old denom.old) (Cents cents_value))
+    ) -> Result<SclBuilder, Refusal>
+        ensures { (outcome result ≡ pushed self (item_table kind.old cents.old numer.old denom.old) (Cents cents_value))
             × (item_table kind.new cents.new numer.new denom.new
             ≡ after_push self (item_table kind.old cents.old numer.old denom.old) (Cents cents_value)) }
     {
@@ -136,6 +126,7 @@ impl SclBuilder {
     }
 
     // One ratio more, as its cents; 10 for a ratio outside 2^-900..2^900 or cents outside -38400..38400, 12.
+    #[tactic(auto, unfolding(crate::specs::Builder::pushed_ratio, crate::specs::Builder::after_ratio))]
     pub fn push_ratio(
         self,
         kind: &mut [u8],
@@ -143,15 +134,12 @@ impl SclBuilder {
         numer: &mut [u32],
         denom: &mut [u32],
         ratio: Ratio,
-    ) -> SclBuilderAnswer
-        ensures { (says_builder result ≡ pushed_ratio self (item_table kind.old cents.old numer.old denom.old) ratio.0)
+    ) -> Result<SclBuilder, Refusal>
+        ensures { (outcome result ≡ pushed_ratio self (item_table kind.old cents.old numer.old denom.old) ratio.0)
             × (item_table kind.new cents.new numer.new denom.new
             ≡ after_ratio self (item_table kind.old cents.old numer.old denom.old) ratio.0) }
     {
-        match ratio.as_cents() {
-            FloatAnswer::Is(value) => self.push(kind, cents, numer, denom, Item::Cents(value)),
-            FloatAnswer::Refused(refusal) => SclBuilderAnswer::Refused(refusal),
-        }
+        self.push(kind, cents, numer, denom, Item::Cents(ratio.as_cents()?))
     }
 
     // One integer more, a fraction without a denominator; 10 for 0, 12.
@@ -162,18 +150,12 @@ impl SclBuilder {
         numer: &mut [u32],
         denom: &mut [u32],
         int_value: u32,
-    ) -> SclBuilderAnswer
-        ensures { (says_builder result ≡ pushed self (item_table kind.old cents.old numer.old denom.old) (Fraction int_value Lacking))
+    ) -> Result<SclBuilder, Refusal>
+        ensures { (outcome result ≡ pushed self (item_table kind.old cents.old numer.old denom.old) (Fraction int_value None))
             × (item_table kind.new cents.new numer.new denom.new
-            ≡ after_push self (item_table kind.old cents.old numer.old denom.old) (Fraction int_value Lacking)) }
+            ≡ after_push self (item_table kind.old cents.old numer.old denom.old) (Fraction int_value None)) }
     {
-        self.push(
-            kind,
-            cents,
-            numer,
-            denom,
-            Item::Fraction(int_value, Denom::Lacking),
-        )
+        self.push(kind, cents, numer, denom, Item::Fraction(int_value, None))
     }
 
     // One fraction more; 10 where either number is 0, 12.
@@ -185,17 +167,17 @@ impl SclBuilder {
         denom: &mut [u32],
         numer_value: u32,
         denom_value: u32,
-    ) -> SclBuilderAnswer
-        ensures { (says_builder result ≡ pushed self (item_table kind.old cents.old numer.old denom.old) (Fraction numer_value (Given denom_value)))
+    ) -> Result<SclBuilder, Refusal>
+        ensures { (outcome result ≡ pushed self (item_table kind.old cents.old numer.old denom.old) (Fraction numer_value (Some denom_value)))
             × (item_table kind.new cents.new numer.new denom.new
-            ≡ after_push self (item_table kind.old cents.old numer.old denom.old) (Fraction numer_value (Given denom_value))) }
+            ≡ after_push self (item_table kind.old cents.old numer.old denom.old) (Fraction numer_value (Some denom_value))) }
     {
         self.push(
             kind,
             cents,
             numer,
             denom,
-            Item::Fraction(numer_value, Denom::Given(denom_value)),
+            Item::Fraction(numer_value, Some(denom_value)),
         )
     }
 
@@ -212,12 +194,9 @@ impl SclBuilder {
     ) -> bool
         ensures { result ≡ is_ready self (item_table kind.now cents.now numer.now denom.now) (list_table place.now ratio.now wraps.now) }
     {
-        if fits_items(self, kind.len(), cents.len(), numer.len(), denom.len()) {
-            if fits_list(self, place.len(), ratio.len(), wraps.len()) {
-                return scl::is_items(kind, cents, numer, denom, self.count);
-            }
-        }
-        false
+        fits_items(self, kind.len(), cents.len(), numer.len(), denom.len())
+            && fits_list(self, place.len(), ratio.len(), wraps.len())
+            && ItemColumns::new(kind, cents, numer, denom).holds(self.count)
     }
 
     // The scale, and its sorted list: 10 where the state does not fit or an item cannot be used, 13 over 65,535 items, 18 where two or
@@ -231,7 +210,7 @@ impl SclBuilder {
         place: &mut [u32],
         ratio: &mut [f64],
         wraps: &mut [i32],
-    ) -> SclAnswer
+    ) -> Result<Scl, Refusal>
         ensures value { (says_scl result ≡ counted self (built self (item_table kind.now cents.now numer.now denom.now) (list_table place.old ratio.old wraps.old)))
             × (list_table place.new ratio.new wraps.new
             ≡ after_list (built self (item_table kind.now cents.now numer.now denom.now) (list_table place.old ratio.old wraps.old)) (list_table place.old ratio.old wraps.old)) }
@@ -240,17 +219,18 @@ impl SclBuilder {
         if self.is_ready(kind, cents, numer, denom, place, ratio, wraps) {
             let count = self.count;
             if 65535 < count {
-                return SclAnswer::Refused(TOO_MANY);
+                return Err(TOO_MANY);
             }
-            let last = scl::item_at(kind, cents, numer, denom, count);
+            let items = ItemColumns::new(kind, cents, numer, denom);
+            let last = items.item(count);
             if scl_tables::is_beyond(last, count) {
-                return SclAnswer::Refused(OUT_OF_REACH);
+                return Err(OUT_OF_REACH);
             }
-            scl_tables::build_list(kind, cents, numer, denom, place, ratio, wraps, count);
-            return SclAnswer::Is(Scl {
+            scl_tables::build_list(&items, place, ratio, wraps, count);
+            return Ok(Scl {
                 count: count as u16,
             });
         }
-        SclAnswer::Refused(scl::NOT_USABLE)
+        Err(scl::NOT_USABLE)
     }
 }

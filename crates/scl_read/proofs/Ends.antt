@@ -3,13 +3,13 @@ use mathlib.Core.Path.{◌≡◌, refl, sym, ◌∙◌, ap}
 use mathlib.Core.Bool.{Bool, true, false}
 use mathlib.Core.List.{List, [], ◌∷◌}
 use mathlib.Core.Logic.{inl, inr}
-use Prim.Native.Nat.{ℕ, ◌-◌, ◌≤◌, ◌<◌}
+use Prim.Native.Nat.{ℕ, ◌≤◌}
 use native.Mathlib.Omega.{arith}
 use lib.Dec.{ltb, eqb}
 use lib.ListN.{length}
 use borrow.Author.Tests.{lt-ltb, le-ltb, ltb-true, ltb-false, eq-eqb, ne_eqb, eqb-true, eqb-false}
 use Rattle.base.specs.Numbers.{too_large, inconsistent_count, beyond_reach}
-use Rattle.base.specs.Said.{Said, gives, refuses, pick}
+use Rattle.base.specs.Said.{gives, refuses, pick}
 use Rattle.base.proofs.Said.{same_value, no_value, no_refusal, same_refuses}
 use Rattle.listing.proofs.Given.{given_entries}
 use Rattle.listing.specs.Listing.{Entries}
@@ -19,9 +19,9 @@ use Rattle.scl.specs.Table.{implicit, are_usable}
 use Rattle.scl.specs.declared.Item.{Item}
 use Rattle.scl_read.proofs.ItemLanguage.{item_is}
 use Rattle.scl_read.specs.Tokens.{item_in}
-use Rattle.scl_tables.proofs.Beyond.{scale_looks, sorted_given}
+use Rattle.scl_tables.proofs.Beyond.{scale_looks}
 use Rattle.scl_tables.proofs.Theorems.{list_given}
-use Rattle.scl_tables.specs.Build.{count_of, last_of, sorted_of, scale_of, is_beyond}
+use Rattle.scl_tables.specs.Build.{count_of, sorted_of, scale_of, is_beyond}
 use Rattle.sorting.specs.Entries.{Entry}
 use Rattle.text.specs.Reading.{Meaning}
 use Rattle.scl_read.specs.Language.{ContentLine, required, scale, Values, declared_count_of, WrongEnd}

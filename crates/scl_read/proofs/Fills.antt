@@ -1,8 +1,10 @@
 -- The laws of the second pass: what stands in the columns after each item. Assumes nothing.
+use Rattle.base.specs.declared.Reason.{Reason}
+use Rattle.std.specs.Prelude.{Err, Ok, Result}
 use mathlib.Core.Path.{◌≡◌, refl, sym, ◌∙◌, ap}
 use mathlib.Core.Bool.{Bool, true, false}
 use mathlib.Core.List.{List, [], ◌∷◌, ◌++◌, append_assoc, append-nil}
-use Prim.Native.Nat.{ℕ, zero, suc, ◌+◌, ◌-◌, ◌≤◌, ◌<◌}
+use Prim.Native.Nat.{ℕ, zero, suc, ◌+◌, ◌-◌, ◌<◌}
 use native.Mathlib.Omega.{arith}
 use lib.Dec.{ltb}
 use lib.ListN.{length, length-append, length-set}
@@ -14,8 +16,6 @@ use Rattle.scl.proofs.Writing.{first_written}
 use Rattle.scl.specs.Table.{ItemTable, items_of, implicit, written_at}
 use Rattle.scl.specs.declared.Item.{Item}
 use Rattle.scl_read.specs.Tokens.{item_in}
-use Rattle.scl_read.specs.declared.item.ItemRead.{ItemRead}
-use Rattle.scl_read.specs.declared.item.ItemRead.TheVariants as item
 use Rattle.text.specs.Reading.{Meaning, invalid, blank, comment, content}
 use Rattle.scl_read.specs.Reader.{found_item, found_in, listed, given_from, written_from}
 use Rattle.scl_read.specs.declared.line.Found.{Found}
@@ -90,10 +90,10 @@ required_some n blank e = let z : ◌≡◌ {A = ℕ} 0 1 = cc in absurd (omega 
 required_some n comment e = let z : ◌≡◌ {A = ℕ} 0 1 = cc in absurd (omega arith)
 required_some n (content m t) e = go (ltb 0 n) refl (item_in t) e
   where
-    go : (b : Bool) → ltb 0 n ≡ b → (r : ItemRead) → found.Required ≡ pick b found.Required (found_item r) → 0 < n
+    go : (b : Bool) → ltb 0 n ≡ b → (r : (Result Item Reason)) → found.Required ≡ pick b found.Required (found_item r) → 0 < n
     go true p r q = ltb-true 0 n p
-    go false p (item.Is x) q = let z : ◌≡◌ {A = ℕ} 0 1 = cc in absurd (omega arith)
-    go false p (item.IsNot k) q = let z : ◌≡◌ {A = ℕ} 0 1 = cc in absurd (omega arith)
+    go false p (Ok x) q = let z : ◌≡◌ {A = ℕ} 0 1 = cc in absurd (omega arith)
+    go false p (Err k) q = let z : ◌≡◌ {A = ℕ} 0 1 = cc in absurd (omega arith)
 
 -- what is given with one line more, by what the line gives
 abbrev with_found : Found → ℕ → List Meaning → List Item
@@ -109,9 +109,9 @@ given_turn n comment ms = refl
 given_turn (suc n) (content m t) ms = let z : suc n - 1 ≡ n = omega arith in rw (lt-ltb 0 (suc n) (omega arith), z)
 given_turn zero (content m t) ms = go (item_in t)
   where
-    go : (r : ItemRead) → listed r ++ given_from 0 ms ≡ with_found (found_item r) 0 ms
-    go (item.Is e) = refl
-    go (item.IsNot n) = refl
+    go : (r : (Result Item Reason)) → listed r ++ given_from 0 ms ≡ with_found (found_item r) 0 ms
+    go (Ok e) = refl
+    go (Err n) = refl
 
 -- THE SECOND PASS ON LISTS: of what the lines say, ms, `rest` is left, with `left` required lines in it; the items `done` stand in the
 -- table from place 1 on, and n is the next place

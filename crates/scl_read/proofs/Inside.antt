@@ -10,13 +10,11 @@ use lib.Dec.{ltb}
 use lib.ListN.{length, drop, length-map}
 use lib.Seq.{drop-set-lt, drop-append_seam}
 use borrow.Author.Tests.{ltb-true, ltb-false}
-use Rattle.base.specs.Said.{gives}
 use Rattle.base.specs.Tables.{over}
 use Rattle.listing.specs.Refusals.{DetailOf}
 use Rattle.listing.proofs.Details.{lines_few, says_lines, fault_line}
 use Rattle.scl.specs.Table.{ItemTable, item_table, kind_of, cents_of, numer_of, denom_at, implicit, written_at}
 use Rattle.scl.specs.declared.Item.{Item}
-use Rattle.scl_tables.specs.Build.{after_list}
 use Rattle.scl_tables.specs.Room.{room_of}
 use Rattle.scl_tables.proofs.Theorems.{list_leaves}
 use Rattle.sorted.specs.Lent.{ListTable, list_table, places_of, ratios_of, wraps_of}
@@ -24,7 +22,7 @@ use Rattle.sorting.specs.Entries.{Entry}
 use Rattle.text.proofs.LinesLanguage.{the_lines}
 use Rattle.text.proofs.Placed.{placed_turn, placed_end}
 use Rattle.text.proofs.Shown.{within, line_turn}
-use Rattle.text.specs.Cut.{cut, lines}
+use Rattle.text.specs.Cut.{cut}
 use Rattle.text.specs.Lines.{Lines}
 use Rattle.text.specs.Placed.{placed_from}
 use Rattle.text.specs.ReadLine.{strictly, InText}

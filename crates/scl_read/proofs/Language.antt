@@ -3,7 +3,7 @@
 use mathlib.Core.Path.{◌≡◌, refl, sym, ◌∙◌, ap}
 use mathlib.Core.List.{List, [], ◌∷◌, ◌++◌}
 use mathlib.Core.Logic.{◌↔◌}
-use Prim.Native.Nat.{ℕ, zero, suc, ◌+◌, ◌≤◌, ◌<◌}
+use Prim.Native.Nat.{ℕ, zero, suc, ◌≤◌, ◌<◌}
 use native.Mathlib.Omega.{arith}
 use lib.ListN.{length}
 use Rattle.base.specs.Said.{Said, gives, refuses, and_then}
@@ -21,11 +21,11 @@ use Rattle.text.proofs.LineLanguage.{strict_text, one_strict_text}
 use Rattle.text.proofs.Placed.{shown_all, placed_says}
 use Rattle.text.specs.Placed.{placed_in}
 use Rattle.text.specs.Part.{part}
-use Rattle.text.specs.ReadLine.{said_in, shown}
-use Rattle.text.specs.Reading.{Meaning, invalid, blank, comment, content}
+use Rattle.text.specs.ReadLine.{said_in}
+use Rattle.text.specs.Reading.{Meaning}
 use Rattle.text.specs.declared.line.LineSays.{LineSays}
 use Rattle.text.specs.declared.line.LineSays.TheVariants.{NotUtf8, Blank, Comment, Content}
-use Rattle.scl_read.specs.Language.{Required, required, ContentLine, scale, Values, description_of, declared_count_of, ScaleText, WrongEnd, FaultText}
+use Rattle.scl_read.specs.Language.{required, ContentLine, scale, Values, description_of, ScaleText, WrongEnd, FaultText}
 use Rattle.scl_read.specs.Reader.{check_of, given_from, given_in, first_content, description_in, scale_read, read_of, ReaderFinds}
 use Rattle.scl_read.specs.declared.SclRead.{SclRead}
 use Rattle.scl_read.proofs.Ends.{given_is, lines_sorted, end_gives, sorted_too, gives_end, end_wrong, wrong_end}

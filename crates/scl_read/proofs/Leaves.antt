@@ -1,21 +1,21 @@
 -- What a read answers and leaves, by the passes that the code makes; and that what an accepted one leaves passes every later call's
 -- test of lent tables. Assumes nothing.
+use Rattle.base.specs.Numbers.{number_of}
+use Rattle.std.specs.Prelude.{Result, Ok, Err}
 use mathlib.Core.Path.{◌≡◌, refl, sym, ◌∙◌, ap}
 use mathlib.Core.Bool.{true}
-use mathlib.Core.List.{List, [], ◌∷◌}
+use mathlib.Core.List.{List, ◌∷◌}
 use Prim.Native.Nat.{ℕ, zero, suc, ◌+◌, ◌-◌, ◌≤◌, ◌<◌}
 use native.Mathlib.Omega.{arith}
 use lib.ListN.{length}
 use Rattle.base.specs.Numbers.{no_room}
 use Rattle.base.specs.Said.{Said, gives, refuses, refusal, and_then}
 use Rattle.base.specs.declared.Refusal.{Refusal}
-use Rattle.scl.proofs.Table.{Roomy, first, items_test}
+use Rattle.scl.proofs.Table.{Roomy, items_test}
 use Rattle.scl.specs.Answers.{says_scl}
 use Rattle.scl.specs.Table.{ItemTable, implicit, items_in, are_usable, is_items}
 use Rattle.scl.specs.declared.Item.{Item}
 use Rattle.scl.specs.declared.Scl.{Scl}
-use Rattle.scl.specs.declared.SclAnswer.{SclAnswer}
-use Rattle.scl.specs.declared.SclAnswer.TheVariants as OfScl
 use Rattle.scl_tables.proofs.Theorems.{list_leaves, left_list}
 use Rattle.scl_tables.specs.Build.{sorted_of, after_list}
 use Rattle.scl_tables.specs.Room.{room_of}
@@ -23,13 +23,12 @@ use Rattle.sorted.specs.Lent.{ListTable, is_list}
 use Rattle.sorting.specs.Entries.{Entry}
 use Rattle.text.specs.ReadLine.{said_in}
 use Rattle.scl_read.specs.Language.{ScaleText}
-use Rattle.scl_read.specs.Reader.{check_of, given_in, items_read, description_in, scale_read, read_of, written_from, after_items, after_sorted}
+use Rattle.scl_read.specs.Reader.{check_of, items_read, description_in, scale_read, read_of, written_from, after_items, after_sorted}
 use Rattle.scl_read.specs.declared.Description.{Description}
 use Rattle.scl_read.specs.declared.SclRead.{SclRead}
-use Rattle.scl_read.proofs.Ends.{lines_usable, lines_held, sorted_too}
-use Rattle.scl_read.proofs.Fills.{SameLengths, lengths_roomy, written_items, written_lengths}
-use Rattle.scl_read.proofs.Language.{InLanguage, checked, accepted, accepts, text_reading}
-use Rattle.scl_read.proofs.Stands.{blank_head}
+use Rattle.scl_read.proofs.Ends.{lines_usable, lines_held}
+use Rattle.scl_read.proofs.Fills.{lengths_roomy, written_items, written_lengths}
+use Rattle.scl_read.proofs.Language.{InLanguage, checked, accepts, text_reading}
 use Rattle.scl_read.proofs.Usable.{implicit_usable, given_usable}
 
 -- with a place there is a first pass
@@ -74,14 +73,14 @@ module _ (text : List ℕ) (t : ItemTable) (l : ListTable) {r : ℕ} (e : r ≡ 
   pub no_place : r ≡ 0 → Left (refuses no_room 0) t l
   no_place z = left_refused no_room 0 (ap (λ k. read_of k text) (sym e ∙ z))
 
-  module _ (some : r ≡ 0 → ⊥) (x : SclAnswer) (q : says_scl x ≡ check_of (r - 1) text) where
+  module _ (some : r ≡ 0 → ⊥) (x : (Result Scl Refusal)) (q : says_scl x ≡ check_of (r - 1) text) where
     is_read : read_of (room_of t l) text ≡ and_then (says_scl x) (λ n. gives (scale_read n text))
     is_read = ap (λ k. read_of k text) (sym e) ∙ some_read r text some ∙ ap (λ s. and_then s (λ n. gives (scale_read n text))) (sym q)
 
-    pub read_refused : {k : Refusal} → x ≡ OfScl.Refused k → Left (refusal k) t l
-    read_refused {k} p = left_refused k.number k.detail (is_read ∙ rw p)
+    pub read_refused : {k : Refusal} → x ≡ Err k → Left (refusal k) t l
+    read_refused {k} p = left_refused (number_of k.reason) k.detail (is_read ∙ rw p)
 
-    module _ {k : Scl} (p : x ≡ OfScl.Is k) where
+    module _ {k : Scl} (p : x ≡ Ok k) where
       in_language : InLanguage (r - 1) text k.count
       in_language = checked (r - 1) text k.count (sym q ∙ ap says_scl p)
 

@@ -1,4 +1,8 @@
 -- What `read_scl` says is a scale or one of document 01's numbers. Assumes nothing.
+use Rattle.base.specs.declared.Reason.{Reason}
+use Rattle.base.specs.declared.Reason.TheVariants as reason
+use Rattle.base.specs.Numbers.{number_of}
+use Rattle.std.specs.Prelude.{Some, None, Ok, Err, Result, Float}
 use mathlib.Core.Bool.{Bool, true, false}
 use mathlib.Core.List.{List, [], ◌∷◌}
 use Prim.Native.Nat.{ℕ, zero, suc, ◌+◌, ◌^◌, ◌≤◌}
@@ -6,22 +10,19 @@ use native.Mathlib.Omega.{arith}
 use lib.Dec.{leb, ltb, eqb}
 use lib.IntN.{nat_abs}
 use lib.ListN.{length, take, drop}
-use Rattle.base.specs.Numbers.{int_value, unusable}
+use Rattle.base.specs.Numbers.{int_value}
 use Rattle.base.specs.Said.{Numbered, pick}
 use Rattle.base.proofs.Said.{numbered_pick, numbered_then}
 use Rattle.decimals.specs.DecimalScan.{read_decimal}
-use Rattle.decimals.specs.declared.DecimalAnswer.{DecimalAnswer}
-use Rattle.decimals.specs.declared.DecimalAnswer.TheVariants as decimal
+use Rattle.decimals.specs.declared.DecimalError.{DecimalError}
+use Rattle.decimals.specs.declared.DecimalError.TheVariants as decimal
 use Rattle.integers.specs.AtLine.{int_at}
 use Rattle.integers.specs.Integer.{Int, value, none, read_int}
 use Rattle.listing.specs.Reader.{walk_lines}
 use Rattle.scl.specs.Items.{is_usable}
-use Rattle.scl.specs.declared.Denom.TheVariants.{Given, Lacking}
 use Rattle.scl.specs.declared.Item.{Item}
 use Rattle.scl.specs.declared.Item.TheVariants.{Cents, Fraction}
 use Rattle.scl_read.specs.Tokens.{position_of, usable_item, cents_in, over_denom, fraction_in, whole_in, slashed_in, item_in}
-use Rattle.scl_read.specs.declared.item.ItemRead.{ItemRead}
-use Rattle.scl_read.specs.declared.item.ItemRead.TheVariants.{Is, IsNot}
 use Rattle.scl_tables.specs.Build.{is_beyond}
 use Rattle.text.specs.ReadLine.{said_in}
 use Rattle.text.specs.Reading.{Meaning, invalid, blank, comment, content}
@@ -31,24 +32,24 @@ use Rattle.scl_read.specs.declared.line.Due.TheVariants as due
 use Rattle.scl_read.specs.declared.line.State.{State}
 
 -- ---- an item, or a number of 01's
-abbrev Known : ItemRead → Type 0
-Known (Is i) = Unit {0}
-Known (IsNot n) = (1 ≤ n) × (n ≤ 18)
+abbrev Known : (Result Item Reason) → Type 0
+Known (Ok i) = Unit {0}
+Known (Err r) = (1 ≤ number_of r) × (number_of r ≤ 18)
 
-pick_known : (b : Bool) (x y : ItemRead) → Known x → Known y → Known (pick b x y)
+pick_known : (b : Bool) (x y : (Result Item Reason)) → Known x → Known y → Known (pick b x y)
 pick_known true x y h k = h
 pick_known false x y h k = k
 
 usable_known : (i : Item) → Known (usable_item i)
-usable_known i = pick_known (is_usable i) (Is i) (IsNot unusable) tt (omega arith, omega arith)
+usable_known i = pick_known (is_usable i) (Ok i) (Err reason.Unusable) tt (omega arith, omega arith)
 
-cents_known : (x : DecimalAnswer) → Known (cents_in x)
-cents_known (decimal.Is v) = usable_known (Cents v)
-cents_known decimal.Unsupported = (omega arith, omega arith)
-cents_known decimal.Bad = (omega arith, omega arith)
+cents_known : (x : (Result Float DecimalError)) → Known (cents_in x)
+cents_known (Ok v) = usable_known (Cents v)
+cents_known (Err decimal.Unsupported) = (omega arith, omega arith)
+cents_known (Err decimal.Bad) = (omega arith, omega arith)
 
 denom_known : (n : ℕ) (d : Int) → Known (over_denom n d)
-denom_known n (value z) = usable_known (Fraction n (Given (nat_abs z)))
+denom_known n (value z) = usable_known (Fraction n (Some (nat_abs z)))
 denom_known n none = (omega arith, omega arith)
 
 fraction_known : (n d : Int) → Known (fraction_in n d)
@@ -56,7 +57,7 @@ fraction_known (value z) d = denom_known (nat_abs z) d
 fraction_known none d = (omega arith, omega arith)
 
 whole_known : (n : Int) → Known (whole_in n)
-whole_known (value z) = usable_known (Fraction (nat_abs z) Lacking)
+whole_known (value z) = usable_known (Fraction (nat_abs z) None)
 whole_known none = (omega arith, omega arith)
 
 slashed_known : (t : List ℕ) (k : ℕ) → Known (slashed_in t k)
@@ -76,9 +77,9 @@ int_numbered : (k : ℕ) (i : Int) → Numbered (int_at int_value k i)
 int_numbered k (value z) = Numbered.value z
 int_numbered k none = Numbered.number {n = 3} (omega arith) (omega arith)
 
-placed_numbered : (places k : ℕ) (s : State) (r : ItemRead) → Known r → Numbered (item_placed places k s r)
-placed_numbered places k s (Is i) h = numbered_pick (leb places s.count) (Numbered.number (omega arith) (omega arith)) (Numbered.value _)
-placed_numbered places k s (IsNot n) h = Numbered.number h.0 h.1
+placed_numbered : (places k : ℕ) (s : State) (r : (Result Item Reason)) → Known r → Numbered (item_placed places k s r)
+placed_numbered places k s (Ok i) h = numbered_pick (leb places s.count) (Numbered.number (omega arith) (omega arith)) (Numbered.value _)
+placed_numbered places k s (Err n) h = Numbered.number h.0 h.1
 
 due_numbered : (places k : ℕ) (t : List ℕ) (s : State) (d : Due) → Numbered (take_due places k t s d)
 due_numbered places k t s due.Description = Numbered.value _

@@ -1,4 +1,5 @@
 -- Worked scale files, computed: a good one, and faults of it. Assumes nothing.
+use Rattle.std.specs.Prelude.{Some}
 use mathlib.Core.Path.{◌≡◌, refl}
 use mathlib.Core.Bool.{false}
 use mathlib.Core.List.{List, [], ◌∷◌, ◌++◌}
@@ -13,7 +14,6 @@ use Rattle.decimals.specs.DecimalScan.{read_decimal}
 use Rattle.integers.specs.Integer.{scan, magnitude_of, read_signed}
 use Rattle.listing.specs.Reader.{walk_lines, given_after}
 use Rattle.numerals.specs.Scan.{digit_run_of, spelled, scan_of}
-use Rattle.scl.specs.declared.Denom.TheVariants.{Given}
 use Rattle.scl.specs.declared.Item.TheVariants.{Cents, Fraction}
 use Rattle.scl_read.specs.Tokens.{position_of, item_in}
 use Rattle.scl_tables.specs.Build.{is_beyond}
@@ -50,7 +50,7 @@ scale_with n start end = record { scl = record { count = n }; description = reco
 pub record Samples : Type 0 where
   -- the description is `a b`, without the spaces around it; place 0 takes a place
   pub scale : read_of 3 (head ++ fifth ++ octave) ≡ gives (scale_with 2 4 7)
-  pub items : given_in (head ++ fifth ++ octave) ≡ Fraction 3 (Given 2) ∷ Cents (round binary64 false 1200 1) ∷ []
+  pub items : given_in (head ++ fifth ++ octave) ≡ Fraction 3 (Some 2) ∷ Cents (round binary64 false 1200 1) ∷ []
   -- 12: no place at all; place 0 and one item; place 0 alone
   pub no_place : read_of 0 (head ++ fifth ++ octave) ≡ refuses 12 0
   pub one_place : read_of 2 (head ++ fifth ++ octave) ≡ refuses 12 6

@@ -1,13 +1,13 @@
 -- The reader's walk is the walk of the format: its state stands to a place by what is due, the number of notes, how many items were given
 -- and the last of them. Assumes nothing.
+use Rattle.std.specs.Prelude.{Err, Ok, Result}
 use mathlib.Core.Path.{◌≡◌, refl, sym, ◌∙◌, ap}
 use mathlib.Core.Bool.{Bool, true, false}
 use mathlib.Core.List.{List, [], ◌∷◌, ◌++◌}
-use mathlib.Core.Logic.{inl, inr}
-use Prim.Native.Nat.{ℕ, zero, suc, ◌+◌, ◌-◌, ◌^◌}
+use Prim.Native.Nat.{ℕ, ◌+◌, ◌-◌, ◌^◌}
 use native.Mathlib.Omega.{arith}
 use lib.Dec.{leb, ltb, eqb, lit<}
-use lib.IntN.{ℤ, pos, nat_abs}
+use lib.IntN.{pos, nat_abs}
 use lib.ListN.{length, get_or, length-append}
 use Rattle.base.specs.Numbers.{int_value, line_missing, no_room, too_large, inconsistent_count, beyond_reach}
 use Rattle.base.specs.Said.{Said, gives, refuses, pick, and_then}
@@ -15,7 +15,6 @@ use Rattle.base.proofs.Said.{same_value, no_value, no_refusal, same_refuses}
 use Rattle.integers.proofs.AtLine.{int_gives, gives_int, refuses_int, int_wrong, unsigned}
 use Rattle.integers.specs.AtLine.{int_at}
 use Rattle.integers.specs.Integer.{Int, value, none, read_int}
-use Rattle.integers.specs.IntegerText.{IntText, NoInteger}
 use Rattle.listing.proofs.Given.{Alike}
 use Rattle.listing.proofs.Given as walks
 use Rattle.listing.proofs.Language.{at_start}
@@ -23,14 +22,13 @@ use Rattle.listing.proofs.Walks.{Reads, Place, placed, word_on, step_on, end_on,
 use Rattle.scl.specs.Table.{no_item, implicit}
 use Rattle.scl.specs.declared.Item.{Item}
 use Rattle.scl_read.proofs.ItemLanguage.{is_item, item_is, is_no_item, no_item_is}
-use Rattle.scl_read.specs.ItemText.{ItemText, NoItem}
+use Rattle.base.specs.Numbers.{number_of}
+use Rattle.base.specs.declared.Reason.{Reason}
 use Rattle.scl_read.specs.Tokens.{item_in, item_said}
-use Rattle.scl_read.specs.declared.item.ItemRead.{ItemRead}
-use Rattle.scl_read.specs.declared.item.ItemRead.TheVariants as item
 use Rattle.scl_tables.specs.Build.{last_of, is_beyond}
 use Rattle.text.specs.Reading.{Meaning, invalid, blank, comment, content}
 use Rattle.scl_read.specs.Language.{Required, required, ContentLine, Value, Gives, Wrong, scale}
-use Rattle.scl_read.specs.Reader.{item_placed, take_count, take_due, take_token, take_meaning, which_of, finished, unread, walk}
+use Rattle.scl_read.specs.Reader.{item_placed, take_due, take_token, take_meaning, which_of, finished, unread, walk}
 use Rattle.scl_read.specs.declared.line.Due.{Due}
 use Rattle.scl_read.specs.declared.line.Due.TheVariants as due
 use Rattle.scl_read.specs.declared.line.State.{State}
@@ -72,13 +70,13 @@ wrong_read Required.description k l n w = absurd w
 wrong_read Required.count k l n w = refuses_int int_value false (2 ^ 16) (lit< tt) k l.token (λ z. gives (nat_abs z)) w
 
 -- an item at line k
-pub at_is : (k : ℕ) (r : ItemRead) (i : Item) → item_said k r ≡ gives i → r ≡ item.Is i
-at_is k (item.Is x) i e = ap item.Is (same_value x i e)
-at_is k (item.IsNot n) i e = no_value e
+pub at_is : (k : ℕ) (r : (Result Item Reason)) (i : Item) → item_said k r ≡ gives i → r ≡ Ok i
+at_is k (Ok x) i e = ap Ok (same_value x i e)
+at_is k (Err n) i e = no_value e
 
-pub at_not : (k : ℕ) (r : ItemRead) (n d : ℕ) → item_said k r ≡ refuses n d → (d ≡ k) × (r ≡ item.IsNot n)
-at_not k (item.Is x) n d e = no_refusal e
-at_not k (item.IsNot m) n d e = let q = same_refuses e in (sym q.1, ap item.IsNot q.0)
+pub at_not : (k : ℕ) (r : (Result Item Reason)) (n d : ℕ) → item_said k r ≡ refuses n d → (d ≡ k) × (s : Reason) × (r ≡ Err s) × (number_of s ≡ n)
+at_not k (Ok x) n d e = no_refusal e
+at_not k (Err m) n d e = let q = same_refuses e in (sym q.1, m, refl, q.0)
 
 -- HOW A SCALE IS READ
 abbrev pub reads : Reads scale
@@ -95,8 +93,8 @@ reads = record {
   wrong_read = λ f h. wrong_read f;
   entry_is = λ k l i q. is_item l.token i (at_is k (item_in l.token) i q);
   is_entry = λ k l i x. ap (item_said k) (item_is l.token i x);
-  entry_bad = λ k l n d q. let r = at_not k (item_in l.token) n d q in (r.0, is_no_item l.token n r.1);
-  bad_entry = λ k l n w. ap (item_said k) (no_item_is l.token n w);
+  entry_bad = λ k l n d q. let r = at_not k (item_in l.token) n d q in (r.0, rw (← r.3) (is_no_item l.token r.1 r.2));
+  bad_entry = λ k l n w. no_item_is l.token n k w;
 }
 
 -- the last item so far, the implicit one before the first
@@ -133,8 +131,8 @@ module _ (places k : ℕ) (m t : List ℕ) (s : State) (p : Place scale reads) (
   count_alike (value z) = Alike.values _ _ (record { fields = refl; declared = refl; count = x.count; last = x.last })
   count_alike none = Alike.refusals _ _
 
-  item_alike : (r : ItemRead) → Alike Stands (item_placed places k s r) (and_then (item_said k r) (placed scale reads places k p.head p.es))
-  item_alike (item.Is i) = rw (sym x.count) (go (leb places s.count))
+  item_alike : (r : (Result Item Reason)) → Alike Stands (item_placed places k s r) (and_then (item_said k r) (placed scale reads places k p.head p.es))
+  item_alike (Ok i) = rw (sym x.count) (go (leb places s.count))
     where
       go : (b : Bool) →
           Alike Stands (pick b (refuses no_room k) (gives (record { due = due.Items; declared = s.declared; count = s.count + 1; last = i })))
@@ -142,7 +140,7 @@ module _ (places k : ℕ) (m t : List ℕ) (s : State) (p : Place scale reads) (
       go true = Alike.refusals no_room k
       go false = Alike.values (record { due = due.Items; declared = s.declared; count = s.count + 1; last = i }) (record { fields = []; head = p.head; es = p.es ++ i ∷ [] })
           (record { fields = refl; declared = x.declared; count = omega (arith, x.count, length-append p.es (i ∷ [])); last = sym (last_more p.es i) })
-  item_alike (item.IsNot n) = Alike.refusals n k
+  item_alike (Err r) = Alike.refusals (number_of r) k
 
   due_alike : (d : Due) → Alike Stands (take_due places k t s d) (word_on scale reads places k (record { whole = m; token = t }) p.head p.es (fields_from d))
   due_alike due.Description = Alike.values (record { due = due.Count; declared = s.declared; count = s.count; last = s.last }) (record { fields = Required.count ∷ []; head = with_field Required.description p.head m; es = p.es })

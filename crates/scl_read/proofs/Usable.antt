@@ -1,34 +1,32 @@
 -- Every item that is read can be used, and is what the machine holds. Assumes nothing.
+use Rattle.base.specs.declared.Reason.{Reason}
+use Rattle.std.specs.Prelude.{Result, Ok, Err}
+use Rattle.base.specs.declared.Refusal.{Refusal}
 use mathlib.Core.Path.{◌≡◌, refl, sym, ◌∙◌, ap}
-use mathlib.Core.Bool.{Bool, true, false, ◌&&◌}
+use mathlib.Core.Bool.{Bool, true, false}
 use mathlib.Core.List.{List, [], ◌∷◌, ◌++◌}
-use Prim.Native.Nat.{ℕ, zero, suc, ◌+◌, ◌^◌, ◌<◌}
-use native.Mathlib.Omega.{arith}
+use Prim.Native.Nat.{ℕ, zero, suc, ◌+◌, ◌^◌}
 use lib.Dec.{leb, lit<}
 use lib.Ieee.{le, lt, eq, neg, of_bits}
 use borrow.Author.Tests.{lt-ltb}
 use Rattle.base.specs.Numbers.{no_room}
-use Rattle.base.specs.Said.{Said, gives, refuses, pick, and_then}
+use Rattle.base.specs.Said.{gives, refuses, pick, and_then, outcome}
 use Rattle.base.proofs.Said.{same_value, no_value}
 use Rattle.integers.proofs.AtLine.{int_below}
 use Rattle.integers.specs.AtLine.{int_at}
 use Rattle.integers.specs.Integer.{Int, value, none, read_int}
 use Rattle.listing.specs.Reader.{given_after}
-use Rattle.scl.specs.Items.{is_usable, Held, AllHeld}
+use Rattle.scl.specs.Items.{is_usable, Held}
 use Rattle.scl.specs.Table.{implicit, are_usable}
 use Rattle.scl.specs.declared.Item.{Item}
 use Rattle.scl_read.proofs.ItemLanguage.{is_item}
 use Rattle.scl_read.specs.ItemText.{ItemText}
 use Rattle.scl_read.specs.Tokens.{item_in}
-use Rattle.scl_read.specs.declared.item.ItemRead.{ItemRead}
-use Rattle.scl_read.specs.declared.item.ItemRead.TheVariants as item
 use Rattle.text.specs.Reading.{Meaning, invalid, blank, comment, content}
-use Rattle.scl_read.specs.Reader.{says_step, item_placed, take_count, take_due, take_token, take_meaning, listed, given_from}
+use Rattle.scl_read.specs.Reader.{item_placed, take_due, take_token, take_meaning, listed, given_from}
 use Rattle.scl_read.specs.declared.line.Due.{Due}
 use Rattle.scl_read.specs.declared.line.Due.TheVariants as due
 use Rattle.scl_read.specs.declared.line.State.{State}
-use Rattle.scl_read.specs.declared.line.Step.{Step}
-use Rattle.scl_read.specs.declared.line.Step.TheVariants as step
 
 -- an item of the language
 pub item_usable : {t : List ℕ} {i : Item} → ItemText t i → is_usable i ≡ true
@@ -50,10 +48,10 @@ pub implicit_held : Held implicit
 implicit_held = tt
 
 -- those that a second pass collects
-listed_usable : (r : ItemRead) → ((i : Item) → r ≡ item.Is i → is_usable i ≡ true) → (is : List Item) → are_usable is ≡ true → are_usable (listed r ++ is) ≡ true
+listed_usable : (r : (Result Item Reason)) → ((i : Item) → r ≡ Ok i → is_usable i ≡ true) → (is : List Item) → are_usable is ≡ true → are_usable (listed r ++ is) ≡ true
 unfolding are_usable
-listed_usable (item.Is i) h is a = rw (h i refl) a
-listed_usable (item.IsNot n) h is a = a
+listed_usable (Ok i) h is a = rw (h i refl) a
+listed_usable (Err n) h is a = a
 
 pub given_usable : (n : ℕ) (ms : List Meaning) → are_usable (given_from n ms) ≡ true
 unfolding given_after are_usable
@@ -73,13 +71,13 @@ module _ (places k : ℕ) (s s' : State) (u : Last s) where
   count_last (value z) e = rw (sym (ap (λ x. x.last) (same_value _ s' e))) u
   count_last none e = no_value e
 
-  item_last : (r : ItemRead) → ((i : Item) → r ≡ item.Is i → is_usable i ≡ true) → item_placed places k s r ≡ gives s' → Last s'
-  item_last (item.Is i) h e = go (leb places s.count) e
+  item_last : (r : (Result Item Reason)) → ((i : Item) → r ≡ Ok i → is_usable i ≡ true) → item_placed places k s r ≡ gives s' → Last s'
+  item_last (Ok i) h e = go (leb places s.count) e
     where
       go : (b : Bool) → pick b (refuses no_room k) (gives (record { due = due.Items; declared = s.declared; count = s.count + 1; last = i })) ≡ gives s' → Last s'
       go true q = no_value q
       go false q = rw (sym (ap (λ x. x.last) (same_value (record { due = due.Items; declared = s.declared; count = s.count + 1; last = i }) s' q))) (h i refl)
-  item_last (item.IsNot n) h e = no_value e
+  item_last (Err n) h e = no_value e
 
   due_last : (t : List ℕ) (d : Due) → take_due places k t s d ≡ gives s' → Last s'
   due_last t due.Description e = rw (sym (ap (λ x. x.last) (same_value (record { due = due.Count; declared = s.declared; count = s.count; last = s.last }) s' e))) u
@@ -94,5 +92,5 @@ module _ (places k : ℕ) (s s' : State) (u : Last s) where
   meaning_last (content m t) e = due_last t s.due e
 
 -- r is what a call answered, and a match made a state of it
-pub step_last : (places k : ℕ) (m : Meaning) (s : State) {s' : State} {r : Step} → says_step r ≡ take_meaning places k m s → r ≡ step.Is s' → is_usable s.last ≡ true → is_usable s'.last ≡ true
-step_last places k m s {s'} e q u = meaning_last places k s s' u m (sym e ∙ ap says_step q)
+pub step_last : (places k : ℕ) (m : Meaning) (s : State) {s' : State} {r : (Result State Refusal)} → outcome r ≡ take_meaning places k m s → r ≡ Ok s' → is_usable s.last ≡ true → is_usable s'.last ≡ true
+step_last places k m s {s'} e q u = meaning_last places k s s' u m (sym e ∙ ap outcome q)

@@ -1,6 +1,6 @@
 -- THE LANGUAGE OF SCALES, document 01, "Lines" and "Scale": which texts are scale files, what one says, and the earliest fault of any
 -- other. No reader is named here. Assumes nothing.
-use Rattle.std.specs.Prelude.{◌≡◌, Bool, false, List, [], ◌∷◌, ◌⊎◌, ℕ, suc, ◌^◌, ◌≤◌, ◌<◌, pos, length}
+use Rattle.std.specs.Prelude.{◌≡◌, false, List, [], ◌∷◌, ◌⊎◌, ℕ, suc, ◌^◌, ◌≤◌, ◌<◌, pos, length}
 use Rattle.base.specs.Numbers.{int_value, no_room, too_large, inconsistent_count, beyond_reach}
 use Rattle.base.specs.Said.{gives, refuses}
 use Rattle.integers.specs.IntegerText.{IntText, NoInteger}

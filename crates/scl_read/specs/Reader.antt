@@ -1,14 +1,13 @@
 -- Document 01, "Scale": what the reader computes, by what the lines of the text say. `Language` says what a scale file is,
 -- `proofs/Language` that the two agree. Assumes nothing.
-use Rattle.std.specs.Prelude.{◌≡◌, List, [], ◌∷◌, ℕ, zero, suc, ◌+◌, ltb, eqb}
+use Rattle.std.specs.Prelude.{◌≡◌, List, [], ◌∷◌, ℕ, zero, suc, ◌+◌, ltb, eqb, Err, Ok, Result}
 use Rattle.base.specs.Numbers.{line_missing, no_room, too_large, inconsistent_count, beyond_reach}
-use Rattle.base.specs.Said.{Said, gives, refuses, refusal, pick, and_then}
+use Rattle.base.specs.declared.Reason.{Reason}
+use Rattle.base.specs.Said.{Said, gives, refuses, pick, and_then}
 use Rattle.listing.specs.Reader.{walk_lines, given_after}
 use Rattle.scl.specs.Table.{ItemTable, implicit, written_at}
 use Rattle.scl.specs.declared.Item.{Item}
 use Rattle.scl_read.specs.Tokens.{item_in}
-use Rattle.scl_read.specs.declared.item.ItemRead.{ItemRead}
-use Rattle.scl_read.specs.declared.item.ItemRead.TheVariants as item
 use Rattle.scl_tables.specs.Build.{sorted_of, is_beyond, after_list}
 use Rattle.scl_tables.specs.Room.{room_of}
 use Rattle.sorted.specs.Lent.{ListTable}
@@ -16,23 +15,16 @@ use Rattle.sorting.specs.Entries.{Entry}
 use Rattle.text.specs.Placed.{placed_in}
 use Rattle.text.specs.Part.{part}
 use Rattle.text.specs.ReadLine.{said_in}
-use Rattle.text.specs.Reading.{Meaning, content}
+use Rattle.text.specs.Reading.{Meaning}
 use Rattle.text.specs.declared.line.LineSays.{LineSays}
 use Rattle.text.specs.declared.line.LineSays.TheVariants.{NotUtf8, Blank, Comment, Content}
 use Rattle.scl_read.specs.declared.Description.{Description}
 use Rattle.scl_read.specs.declared.SclRead.{SclRead}
-use Rattle.scl_read.specs.declared.SclReadAnswer.{SclReadAnswer}
-use Rattle.scl_read.specs.declared.SclReadAnswer.TheVariants as answer
 use Rattle.scl_read.specs.declared.line.Due.{Due}
 use Rattle.scl_read.specs.declared.line.Due.TheVariants as due
 use Rattle.scl_read.specs.declared.line.State.{State}
-pub use Rattle.scl_read.specs.Steps.{says_step, take_count, item_placed, take_item, take_due, take_meaning, found_item, found_in}
+pub use Rattle.scl_read.specs.Steps.{take_count, item_placed, take_item, take_due, take_meaning, found_item, found_in}
 unfoldable pub use Rattle.scl_read.specs.Steps.{take_token}
-
--- what a read says
-abbrev pub says_read : SclReadAnswer → Said SclRead
-says_read (answer.Is s) = gives s
-says_read (answer.Refused r) = refusal r
 
 -- which required line is missing, counted from 1; 0 for none
 abbrev pub which_of : Due → ℕ
@@ -61,9 +53,9 @@ abbrev pub check_of : ℕ → List ℕ → Said ℕ
 check_of places text = walk places 1 unread (said_in text)
 
 -- the item of a line after the required ones, where it is one
-abbrev pub listed : ItemRead → List Item
-listed (item.Is i) = i ∷ []
-listed (item.IsNot n) = []
+abbrev pub listed : (Result Item Reason) → List Item
+listed (Ok i) = i ∷ []
+listed (Err n) = []
 
 -- the items that lines give, after n required ones
 abbrev pub given_from : ℕ → List Meaning → List Item

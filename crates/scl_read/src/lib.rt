@@ -8,17 +8,18 @@ mod item;
 mod line;
 
 ghost use Rattle.std.specs.Prelude.{◌≡◌, true, ◌≤◌, length};
-ghost use Rattle.base.specs.Said.{refuses};
+ghost use Rattle.base.specs.Numbers.{number_of};
+ghost use Rattle.base.specs.Said.{refuses, outcome};
 ghost use Rattle.scl.specs.Answers.{says_scl};
 ghost use Rattle.scl.specs.Items.{is_usable};
 ghost use Rattle.scl.specs.Table.{item_table};
 ghost use Rattle.scl_tables.specs.Room.{room_of};
 ghost use Rattle.sorted.specs.Lent.{list_table};
-ghost use Rattle.scl_read.specs.Reader.{says_read, unread, which_of, finished, check_of, items_read, written_from, description_in, read_of, after_items, after_sorted};
+ghost use Rattle.scl_read.specs.Reader.{unread, which_of, finished, check_of, items_read, written_from, description_in, read_of, after_items, after_sorted};
 
-use crate::line::{Due, Found, State, Step, found_in, take_line};
-use base::Refusal;
-use scl::{Item, Scl, SclAnswer};
+use crate::line::{Due, Found, State, found_in, take_line};
+use base::{Reason, Refusal};
+use scl::{Item, ItemColumns, Scl};
 use text::line::{LineSays, read_line};
 use text::lines::next_line;
 
@@ -36,26 +37,20 @@ pub struct SclRead {
     pub description: Description,
 }
 
-#[derive(Clone, Copy)]
-pub enum SclReadAnswer {
-    Is(SclRead),
-    Refused(Refusal),
-}
-
 // The most items that a scale can have.
 const MOST: usize = 65535;
 
 // 12: a lent table has no place.
 const NO_PLACE: Refusal = Refusal {
-    number: base::NO_ROOM,
+    reason: Reason::NoRoom,
     detail: 0,
 };
 
 // A refusal after the last line.
-fn refuse(number: u32, detail: usize) -> SclAnswer
-    ensures { says_scl result ≡ refuses number detail }
+fn refused(reason: Reason, detail: usize) -> Result<Scl, Refusal>
+    ensures { says_scl result ≡ refuses (number_of reason) detail }
 {
-    SclAnswer::Refused(Refusal { number, detail })
+    Err(Refusal { reason, detail })
 }
 
 // Which required line is missing, counted from 1, where no line is left; 0 for none.
@@ -70,29 +65,27 @@ fn which_of(due: Due) -> usize
 }
 
 // The scale after the last line; 2, 13, 14, 18.
-fn finish(state: State) -> SclAnswer
+fn finish(state: State) -> Result<Scl, Refusal>
     requires { is_usable state.last ≡ true }
     ensures { says_scl result ≡ finished state }
 {
-    let due = state.due;
     let count = state.count;
-    let last = state.last;
-    let missing = which_of(due);
-    if 0 < missing {
-        return refuse(base::LINE_MISSING, missing);
+    let missing = which_of(state.due);
+    if missing > 0 {
+        return refused(Reason::LineMissing, missing);
     }
     if MOST < count {
-        return refuse(base::TOO_LARGE, 0);
+        return refused(Reason::TooLarge, 0);
     }
-    if count == (state.declared as usize) {
-        if scl_tables::is_beyond(last, count) {
-            return refuse(base::BEYOND_REACH, 0);
-        }
-        return SclAnswer::Is(Scl {
-            count: count as u16,
-        });
+    if count != usize::from(state.declared) {
+        return refused(Reason::InconsistentCount, 0);
     }
-    refuse(base::INCONSISTENT_COUNT, 0)
+    if scl_tables::is_beyond(state.last, count) {
+        return refused(Reason::BeyondReach, 0);
+    }
+    Ok(Scl {
+        count: state.declared,
+    })
 }
 
 // Before the first line.
@@ -108,24 +101,17 @@ fn unread() -> State
 }
 
 // The first pass: the scale that the text is, where so many items have a place, or its first fault.
-fn check(text: &[u8], places: usize) -> SclAnswer
+fn check(text: &[u8], places: usize) -> Result<Scl, Refusal>
     ensures { says_scl result ≡ check_of places text.now }
 {
     let mut at = 0;
     let mut line = 1;
     let mut state = unread();
+    // A `while`, here and below, since a line has any length, and `next_line` says where the next one starts.
     while at < text.len() {
         let ends = next_line(text, at);
         let says = read_line(text, at, ends.end);
-        let step = take_line(text, says, line, places, state);
-        match step {
-            Step::Refused(refusal) => {
-                return SclAnswer::Refused(refusal);
-            }
-            Step::Is(next) => {
-                state = next;
-            }
-        }
+        state = take_line(text, says, line, places, state)?;
         line += 1;
         at = ends.next;
     }
@@ -146,8 +132,7 @@ fn fill(text: &[u8], kind: &mut [u8], cents: &mut [f64], numer: &mut [u32], deno
     while at < text.len() {
         let ends = next_line(text, at);
         let says = read_line(text, at, ends.end);
-        let found = found_in(text, says, required);
-        match found {
+        match found_in(text, says, required) {
             Found::Nothing => {}
             Found::Required => {
                 required -= 1;
@@ -197,8 +182,8 @@ pub fn read_scl(
     place: &mut [u32],
     ratio: &mut [f64],
     wraps: &mut [i32],
-) -> SclReadAnswer
-    ensures value { says_read result ≡ read_of (room_of (item_table kind.old cents.old numer.old denom.old) (list_table place.old ratio.old wraps.old)) text.now }
+) -> Result<SclRead, Refusal>
+    ensures value { outcome result ≡ read_of (room_of (item_table kind.old cents.old numer.old denom.old) (list_table place.old ratio.old wraps.old)) text.now }
     ensures table_after { item_table kind.new cents.new numer.new denom.new
         ≡ after_items text.now (item_table kind.old cents.old numer.old denom.old) (list_table place.old ratio.old wraps.old) }
     ensures list_after { list_table place.new ratio.new wraps.new
@@ -206,16 +191,18 @@ pub fn read_scl(
 {
     let room = scl_tables::room_of(kind, cents, numer, denom, place, ratio, wraps);
     if room == 0 {
-        return SclReadAnswer::Refused(NO_PLACE);
+        return Err(NO_PLACE);
     }
-    match check(text, room - 1) {
-        SclAnswer::Refused(refusal) => SclReadAnswer::Refused(refusal),
-        SclAnswer::Is(scl) => {
-            let count = scl.count as usize;
-            fill(text, kind, cents, numer, denom);
-            scl_tables::build_list(kind, cents, numer, denom, place, ratio, wraps, count);
-            let description = description_of(text);
-            SclReadAnswer::Is(SclRead { scl, description })
-        }
-    }
+    let scl = check(text, room - 1)?;
+    let count = scl.count as usize;
+    fill(text, kind, cents, numer, denom);
+    scl_tables::build_list(
+        &ItemColumns::new(kind, cents, numer, denom),
+        place,
+        ratio,
+        wraps,
+        count,
+    );
+    let description = description_of(text);
+    Ok(SclRead { scl, description })
 }

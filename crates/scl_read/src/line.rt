@@ -1,12 +1,11 @@
 // What one line of a scale file adds to what was said. Document 01, "Lines" and "Scale".
 ghost use Rattle.std.specs.Prelude.{◌≡◌};
-ghost use Rattle.base.specs.Said.{refuses};
+ghost use Rattle.base.specs.Said.{outcome};
 ghost use Rattle.text.specs.ReadLine.{shown, InText};
-ghost use Rattle.scl_read.specs.Steps.{says_step, take_count, take_item, take_token, take_meaning, found_in};
+ghost use Rattle.scl_read.specs.Steps.{take_count, take_item, take_token, take_meaning, found_in};
 
-use crate::item::{ItemRead, read_item};
-use base::Refusal;
-use integers::{U16, read_u16};
+use crate::item::read_item;
+use base::{Reason, Refusal};
 use scl::Item;
 use text::line::LineSays;
 
@@ -27,13 +26,6 @@ pub struct State {
     pub last: Item,
 }
 
-// What the lines say with one line more, or why it is refused.
-#[derive(Clone, Copy)]
-pub enum Step {
-    Is(State),
-    Refused(Refusal),
-}
-
 // What a line gives the table: an item, nothing, or nothing since it is a required line.
 #[derive(Clone, Copy)]
 pub enum Found {
@@ -42,82 +34,78 @@ pub enum Found {
     Nothing,
 }
 
-// The line is refused with this number.
-fn refused(number: u32, line: usize) -> Step
-    ensures { says_step result ≡ refuses number line }
+// A line is refused for this reason.
+fn refused(reason: Reason, line: usize) -> Refusal
+    ensures { result ≡ record { reason = reason; detail = line } }
 {
-    Step::Refused(Refusal {
-        number,
+    Refusal {
+        reason,
         detail: line,
-    })
+    }
 }
 
 // The number of notes; 3.
-fn take_count(token: &[u8], line: usize, state: State) -> Step
-    ensures { says_step result ≡ take_count line token.now state }
+fn take_count(token: &[u8], line: usize, state: State) -> Result<State, Refusal>
+    ensures { outcome result ≡ take_count line token.now state }
 {
-    let U16::Is(declared) = read_u16(token) else {
-        return refused(base::INT_VALUE, line);
-    };
-    let last = state.last;
-    Step::Is(State {
+    Ok(State {
         due: Due::Items,
-        declared,
+        declared: integers::read_at::<u16>(token, line)?,
         count: state.count,
-        last,
+        last: state.last,
     })
 }
 
 // An item; 3 to 6, 9, 10, and 12 where it has no place.
-fn take_item(token: &[u8], line: usize, places: usize, state: State) -> Step
-    ensures { says_step result ≡ take_item places line token.now state }
+fn take_item(token: &[u8], line: usize, places: usize, state: State) -> Result<State, Refusal>
+    ensures { outcome result ≡ take_item places line token.now state }
 {
-    match read_item(token) {
-        ItemRead::IsNot(number) => refused(number, line),
-        ItemRead::Is(item) => {
-            let count = state.count;
-            if places <= count {
-                return refused(base::NO_ROOM, line);
-            }
-            Step::Is(State {
-                due: Due::Items,
-                declared: state.declared,
-                count: count + 1,
-                last: item,
-            })
-        }
+    let item = match read_item(token) {
+        Ok(item) => item,
+        Err(reason) => return Err(refused(reason, line)),
+    };
+    let count = state.count;
+    if places <= count {
+        return Err(refused(Reason::NoRoom, line));
     }
+    Ok(State {
+        due: Due::Items,
+        declared: state.declared,
+        count: count + 1,
+        last: item,
+    })
 }
 
 // The token of the line that is due.
-fn take_token(token: &[u8], line: usize, places: usize, state: State) -> Step
-    ensures { says_step result ≡ take_token places line token.now state }
+fn take_token(token: &[u8], line: usize, places: usize, state: State) -> Result<State, Refusal>
+    ensures { outcome result ≡ take_token places line token.now state }
 {
-    let due = state.due;
-    match due {
-        Due::Description => {
-            let last = state.last;
-            Step::Is(State {
-                due: Due::Count,
-                declared: state.declared,
-                count: state.count,
-                last,
-            })
-        }
+    match state.due {
+        Due::Description => Ok(State {
+            due: Due::Count,
+            declared: state.declared,
+            count: state.count,
+            last: state.last,
+        }),
         Due::Count => take_count(token, line, state),
         Due::Items => take_item(token, line, places, state),
     }
 }
 
 // A line of the text: 1 where it is not UTF-8, and nothing new where it is blank or a comment.
-pub fn take_line(text: &[u8], says: LineSays, line: usize, places: usize, state: State) -> Step
+pub fn take_line(
+    text: &[u8],
+    says: LineSays,
+    line: usize,
+    places: usize,
+    state: State,
+) -> Result<State, Refusal>
     requires { InText text.now says }
-    ensures { says_step result ≡ take_meaning places line (shown text.now says) state }
+    ensures { outcome result ≡ take_meaning places line (shown text.now says) state }
 {
     match says {
-        LineSays::NotUtf8 => refused(base::NOT_UTF8, line),
-        LineSays::Blank => Step::Is(state),
-        LineSays::Comment => Step::Is(state),
+        LineSays::NotUtf8 => Err(refused(Reason::NotUtf8, line)),
+        LineSays::Blank | LineSays::Comment => Ok(state),
         LineSays::Content {
             start,
             end: _,
@@ -132,21 +120,19 @@ pub fn found_in(text: &[u8], says: LineSays, required: usize) -> Found
     ensures { result ≡ found_in required (shown text.now says) }
 {
     match says {
-        LineSays::NotUtf8 => Found::Nothing,
-        LineSays::Blank => Found::Nothing,
-        LineSays::Comment => Found::Nothing,
+        LineSays::NotUtf8 | LineSays::Blank | LineSays::Comment => Found::Nothing,
         LineSays::Content {
             start,
             end: _,
             token_end,
         } => {
-            if 0 < required {
+            if required > 0 {
                 return Found::Required;
             }
-            let ItemRead::Is(item) = read_item(&text[start..token_end]) else {
-                return Found::Nothing;
-            };
-            Found::Is(item)
+            match read_item(&text[start..token_end]) {
+                Ok(item) => Found::Is(item),
+                Err(_) => Found::Nothing,
+            }
         }
     }
 }

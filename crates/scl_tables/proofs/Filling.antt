@@ -16,16 +16,9 @@ use Rattle.floats.specs.Ranges.{in_reach}
 use Rattle.sorting.specs.Entries.{Entry, zip}
 use Rattle.sorted.specs.Lent.{AllInReach, from}
 use Rattle.sorted.proofs.Numbering.{length_from, from_snoc}
-use Rattle.scl.specs.Items.{ratio_of}
 use Rattle.scl.specs.Table.{no_item}
-use Rattle.scl_tables.specs.Reduce.{reduced_by}
 use Rattle.scl_tables.specs.Build.{entry, reduced_entry, entries_from}
 use Rattle.scl.specs.declared.Item.{Item}
-use Rattle.scl_tables.specs.declared.reduction.Reduced.{Reduced}
-
--- ---- one entry
-pub entry_told : (period : Float) (i : ℕ) (item : Item) {r : Float} {x : Reduced} → gives r ≡ ratio_of item → gives x ≡ reduced_by period r → gives (entry i x.ratio x.wraps) ≡ reduced_entry period i item
-entry_told period i item h k = rw (← h, ← k)
 
 -- ---- what is said of a list, one element after the other
 and_then_same : {A B : Type 0} (s : Said A) (f g : A → Said B) → ((a : A) → f a ≡ g a) → and_then s f ≡ and_then s g

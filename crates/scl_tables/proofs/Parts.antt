@@ -2,7 +2,7 @@
 use mathlib.Core.Path.{◌≡◌, sym, ◌∙◌, ap}
 use mathlib.Core.Bool.{true}
 use mathlib.Core.List.{List, ◌++◌}
-use Prim.Native.Nat.{ℕ, ◌+◌, ◌≤◌, ◌<◌}
+use Prim.Native.Nat.{ℕ, ◌+◌, ◌<◌}
 use native.Mathlib.Omega.{arith}
 use lib.IntN.{ℤ}
 use lib.Ieee.{Float}
@@ -13,8 +13,8 @@ use Rattle.base.specs.Tables.{over}
 use Rattle.sorting.specs.Entries.{Entry, zip}
 use Rattle.sorting.proofs.Columns.{columns_zip}
 use Rattle.sorted.specs.Lent.{ListTable, list_table}
-use Rattle.scl.specs.Table.{ItemTable, items_in, are_usable, is_items}
-use Rattle.scl.proofs.Table.{items_roomy, items_usable}
+use Rattle.scl.specs.Table.{ItemTable, is_items}
+use Rattle.scl.proofs.Table.{items_roomy}
 use Rattle.scl_tables.specs.Build.{after_list}
 
 -- ---- what the parts are asked
@@ -22,35 +22,8 @@ module _ (count : ℕ) (t : ItemTable) (h : is_items count t ≡ true) where
   pub kinds_part : length (take (count + 1) t.kinds) ≡ count + 1
   kinds_part = length-take-le (count + 1) t.kinds (items_roomy count t h).kinds
 
-  pub cents_part : length (take (count + 1) t.cents) ≡ count + 1
-  cents_part = length-take-le (count + 1) t.cents (items_roomy count t h).cents
-
-  pub numers_part : length (take (count + 1) t.numers) ≡ count + 1
-  numers_part = length-take-le (count + 1) t.numers (items_roomy count t h).numers
-
-  pub denoms_part : length (take (count + 1) t.denoms) ≡ count + 1
-  denoms_part = length-take-le (count + 1) t.denoms (items_roomy count t h).denoms
-
 pub list_part : {A : Type 0} (count : ℕ) (l : List A) → count < length l → length (take (count + 1) l) ≡ count + 1
 list_part count l h = length-take-le (count + 1) l (omega (arith, h))
-
-module _ (count : ℕ) (t : ItemTable) (l : ListTable) (h : is_items count t ≡ true) (few : count ≤ 65535) (p : count < length l.places) (r : count < length l.ratios) (w : count < length l.wraps) where
-  pub whole_asks : (0 < length (take (count + 1) t.kinds)) × (length (take (count + 1) t.kinds) ≤ 65536)
-      × (length (take (count + 1) t.cents) ≡ length (take (count + 1) t.kinds)) × (length (take (count + 1) t.numers) ≡ length (take (count + 1) t.kinds)) × (length (take (count + 1) t.denoms) ≡ length (take (count + 1) t.kinds))
-      × (length (take (count + 1) l.places) ≡ length (take (count + 1) t.kinds)) × (length (take (count + 1) l.ratios) ≡ length (take (count + 1) t.kinds)) × (length (take (count + 1) l.wraps) ≡ length (take (count + 1) t.kinds))
-      × (are_usable (items_in count t) ≡ true)
-  whole_asks =
-      let k = kinds_part count t h in (
-        omega (arith, k),
-        omega (arith, k, few),
-        cents_part count t h ∙ sym k,
-        numers_part count t h ∙ sym k,
-        denoms_part count t h ∙ sym k,
-        list_part count l.places p ∙ sym k,
-        list_part count l.ratios r ∙ sym k,
-        list_part count l.wraps w ∙ sym k,
-        items_usable count t h,
-      )
 
 -- ---- what is left of the columns
 column : {A : Type 0} (n : ℕ) (old new new' : List A) → length new ≡ n → new ≡ new' → new ++ drop n old ≡ over old new'

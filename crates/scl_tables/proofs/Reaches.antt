@@ -20,7 +20,6 @@ use Rattle.floats.proofs.Compare.{le_pos}
 use Rattle.floats.proofs.Ranges.{Within, reach_says}
 use Rattle.explog.specs.Rules.{L, in_powers, log_of, log_at, octaves_of}
 use Rattle.explog.proofs.Theorems.{log_far, log_zero, log_one}
-use Rattle.pitch.specs.Ratios.{from_octaves}
 use Rattle.scl_tables.specs.Reduce.{reduced_to, is_count, reduced_octaves, reduced_by}
 use Rattle.scl_tables.specs.declared.reduction.Reduced.{Reduced}
 use Rattle.floats.proofs.Sized.{Sized, sized, sized_count}
@@ -111,13 +110,6 @@ period_one x r f h = (
 -- ---- the steps of `reduce`
 pub counted : (q : Float) → is_count q ≡ true → count q ≡ gives (to_signed 31 q)
 counted q h = rw h
-
-pub plain_reduced : (period ratio : Float) → negligible period ≡ true → gives (reduced_to ratio (pos 0)) ≡ reduced_by period ratio
-plain_reduced period ratio n = rw n
-
-pub octaves_reduced : (period ratio : Float) {size octaves : Float} {r : Float} {w : ℤ} → negligible period ≡ false → L period ≡ gives size → gives octaves ≡ L ratio
-    → gives r ≡ from_octaves (rem_euclid octaves size) → gives w ≡ count (div_euclid octaves size) → gives (reduced_to r w) ≡ reduced_by period ratio
-octaves_reduced period ratio n p o r w = rw (n, p, ← o, ← r, ← w)
 
 module _ (period ratio size octaves : Float) (fp : fits binary64 period ≡ true) (fr : fits binary64 ratio ≡ true) (p : in_reach period ≡ true) (r : in_reach ratio ≡ true)
     (n : negligible period ≡ false) (lp : L period ≡ gives size) (lr : L ratio ≡ gives octaves) where

@@ -6,7 +6,7 @@
 
 pub mod reduction;
 
-ghost use Rattle.std.specs.Prelude.{◌≡◌, true, ◌<◌, ◌≤◌, ◌-◌, min, pos, length, get_or, set};
+ghost use Rattle.std.specs.Prelude.{◌≡◌, true, ◌<◌, ◌≤◌, ◌-◌, pos, length, get_or, set};
 ghost use Rattle.std.specs.Float.{nan, binary64};
 ghost use Rattle.std.specs.Float.Ieee.{le, div};
 ghost use Rattle.base.specs.Said.{gives, pick};
@@ -22,14 +22,7 @@ ghost use Rattle.scl_tables.specs.Room.{room_of};
 ghost use Rattle.scl_tables.specs.Writing.{stored_of};
 
 use crate::reduction::{Period, Reduced};
-use scl::{Denom, Item};
-
-// The lesser of two numbers.
-fn lesser(a: usize, b: usize) -> usize
-    ensures { result ≡ min a b }
-{
-    if a < b { a } else { b }
-}
+use scl::{Item, ItemColumns};
 
 // The room of a scale's tables: the length of the shortest column.
 pub fn room_of(
@@ -43,12 +36,12 @@ pub fn room_of(
 ) -> usize
     ensures { result ≡ room_of (item_table kind.now cents.now numer.now denom.now) (list_table place.now ratio.now wraps.now) }
 {
-    let items = lesser(
-        lesser(kind.len(), cents.len()),
-        lesser(numer.len(), denom.len()),
-    );
-    let list = lesser(lesser(place.len(), ratio.len()), wraps.len());
-    lesser(items, list)
+    let items = kind
+        .len()
+        .min(cents.len())
+        .min(numer.len().min(denom.len()));
+    let list = place.len().min(ratio.len()).min(wraps.len());
+    items.min(list)
 }
 
 // What stands in the four columns for an item.
@@ -71,19 +64,17 @@ fn columns_of(item: Item) -> Stored
             numer: 0,
             denom: 0,
         },
-        Item::Fraction(numer, denom) => match denom {
-            Denom::Given(number) => Stored {
-                kind: scl::FRACTION,
-                cents: 0.0,
-                numer,
-                denom: number,
-            },
-            Denom::Lacking => Stored {
-                kind: scl::WHOLE,
-                cents: 0.0,
-                numer,
-                denom: 0,
-            },
+        Item::Fraction(numer, Some(denom)) => Stored {
+            kind: scl::FRACTION,
+            cents: 0.0,
+            numer,
+            denom,
+        },
+        Item::Fraction(numer, None) => Stored {
+            kind: scl::WHOLE,
+            cents: 0.0,
+            numer,
+            denom: 0,
         },
     }
 }
@@ -101,60 +92,37 @@ pub fn write_item(
     ensures { item_table kind.new cents.new numer.new denom.new
         ≡ written_at (item_table kind.old cents.old numer.old denom.old) at item }
 {
-    let x = columns_of(item);
-    let k = x.kind;
-    let c = x.cents;
-    let n = x.numer;
-    let d = x.denom;
-    kind[at] = k;
-    cents[at] = c;
-    numer[at] = n;
-    denom[at] = d;
+    let stored = columns_of(item);
+    kind[at] = stored.kind;
+    cents[at] = stored.cents;
+    numer[at] = stored.numer;
+    denom[at] = stored.denom;
 }
 
 // The item at place i, reduced by the period.
-fn reduced_at(
-    kind: &[u8],
-    cents: &[f64],
-    numer: &[u32],
-    denom: &[u32],
-    period: Period,
-    i: usize,
-) -> Reduced
-    requires { (i < length kind.now) × (length cents.now ≡ length kind.now) × (length numer.now ≡ length kind.now) × (length denom.now ≡ length kind.now)
-        × (is_usable (item_of (get_or kind.now i 0) (get_or cents.now i nan) (get_or numer.now i 0) (get_or denom.now i 0)) ≡ true) × IsPeriod period }
-    ensures { (gives (entry i result.ratio result.wraps) ≡ reduced_entry period.ratio i (item_of (get_or kind.now i 0) (get_or cents.now i nan) (get_or numer.now i 0) (get_or denom.now i 0)))
+fn reduced_at(items: &ItemColumns<'_>, period: Period, i: usize) -> Reduced
+    requires { (i < length items.now.kinds) × (length items.now.cents ≡ length items.now.kinds) × (length items.now.numers ≡ length items.now.kinds) × (length items.now.denoms ≡ length items.now.kinds)
+        × (is_usable (item_of (get_or items.now.kinds i 0) (get_or items.now.cents i nan) (get_or items.now.numers i 0) (get_or items.now.denoms i 0)) ≡ true) × IsPeriod period }
+    ensures { (gives (entry i result.ratio result.wraps) ≡ reduced_entry period.ratio i (item_of (get_or items.now.kinds i 0) (get_or items.now.cents i nan) (get_or items.now.numers i 0) (get_or items.now.denoms i 0)))
         × (in_reach result.ratio ≡ true) }
 {
-    let item = scl::item_at(kind, cents, numer, denom, i);
+    let item = items.item(i);
     reduction::reduce(period, reduction::ratio_of(item))
 }
 
 // The items, reduced by the period, in the order of their places.
-fn fill(
-    kind: &[u8],
-    cents: &[f64],
-    numer: &[u32],
-    denom: &[u32],
-    period: Period,
-    ratio: &mut [f64],
-    wraps: &mut [i32],
-)
-    requires { (length cents.now ≡ length kind.now) × (length numer.now ≡ length kind.now) × (length denom.now ≡ length kind.now)
-        × (length ratio.old ≡ length kind.now) × (length wraps.old ≡ length kind.now)
-        × (are_usable (items_of kind.now cents.now numer.now denom.now) ≡ true) × IsPeriod period }
+fn fill(items: &ItemColumns<'_>, period: Period, ratio: &mut [f64], wraps: &mut [i32])
+    requires { (length items.now.cents ≡ length items.now.kinds) × (length items.now.numers ≡ length items.now.kinds) × (length items.now.denoms ≡ length items.now.kinds)
+        × (length ratio.old ≡ length items.now.kinds) × (length wraps.old ≡ length items.now.kinds)
+        × (are_usable (items_of items.now.kinds items.now.cents items.now.numers items.now.denoms) ≡ true) × IsPeriod period }
     ensures { (gives (zip (from 0 (length ratio.new)) ratio.new wraps.new)
-        ≡ entries_from period.ratio 0 (items_of kind.now cents.now numer.now denom.now))
+        ≡ entries_from period.ratio 0 (items_of items.now.kinds items.now.cents items.now.numers items.now.denoms))
         × AllInReach ratio.new }
 {
-    let mut i: usize = 0;
-    while i < ratio.len() {
-        let x = reduced_at(kind, cents, numer, denom, period, i);
-        let rest = x.ratio;
-        let count = x.wraps;
-        ratio[i] = rest;
-        wraps[i] = count;
-        i += 1;
+    for i in 0..ratio.len() {
+        let reduced = reduced_at(items, period, i);
+        ratio[i] = reduced.ratio;
+        wraps[i] = reduced.wraps;
     }
 }
 
@@ -175,62 +143,47 @@ fn override_period(period: f64, ratio: &mut [f64], wraps: &mut [i32])
 }
 
 // The period: the ratio of the last item.
-fn period_at(kind: &[u8], cents: &[f64], numer: &[u32], denom: &[u32]) -> Period
-    requires { (0 < length kind.now) × (length cents.now ≡ length kind.now) × (length numer.now ≡ length kind.now) × (length denom.now ≡ length kind.now)
-        × (are_usable (items_of kind.now cents.now numer.now denom.now) ≡ true) }
-    ensures { (gives result.ratio ≡ ratio_of (last_of (items_of kind.now cents.now numer.now denom.now))) × IsPeriod result }
+fn period_at(items: &ItemColumns<'_>) -> Period
+    requires { (0 < length items.now.kinds) × (length items.now.cents ≡ length items.now.kinds) × (length items.now.numers ≡ length items.now.kinds) × (length items.now.denoms ≡ length items.now.kinds)
+        × (are_usable (items_of items.now.kinds items.now.cents items.now.numers items.now.denoms) ≡ true) }
+    ensures { (gives result.ratio ≡ ratio_of (last_of (items_of items.now.kinds items.now.cents items.now.numers items.now.denoms))) × IsPeriod result }
 {
-    let last = kind.len() - 1;
-    let item = scl::item_at(kind, cents, numer, denom, last);
+    let last = items.len() - 1;
+    let item = items.item(last);
     reduction::period_of(reduction::ratio_of(item))
 }
 
 // The sorted list of usable items, place 0 among them, in columns of their length. 18 never arises.
-fn build_whole(
-    kind: &[u8],
-    cents: &[f64],
-    numer: &[u32],
-    denom: &[u32],
-    place: &mut [u32],
-    ratio: &mut [f64],
-    wraps: &mut [i32],
-)
-    requires { (0 < length kind.now) × (length kind.now ≤ 65536) × (length cents.now ≡ length kind.now) × (length numer.now ≡ length kind.now) × (length denom.now ≡ length kind.now)
-        × (length place.old ≡ length kind.now) × (length ratio.old ≡ length kind.now) × (length wraps.old ≡ length kind.now)
-        × (are_usable (items_of kind.now cents.now numer.now denom.now) ≡ true) }
-    ensures { gives (zip place.new ratio.new wraps.new) ≡ sorted_of (items_of kind.now cents.now numer.now denom.now) }
+fn build_whole(items: &ItemColumns<'_>, place: &mut [u32], ratio: &mut [f64], wraps: &mut [i32])
+    requires { (0 < length items.now.kinds) × (length items.now.kinds ≤ 65536) × (length items.now.cents ≡ length items.now.kinds) × (length items.now.numers ≡ length items.now.kinds) × (length items.now.denoms ≡ length items.now.kinds)
+        × (length place.old ≡ length items.now.kinds) × (length ratio.old ≡ length items.now.kinds) × (length wraps.old ≡ length items.now.kinds)
+        × (are_usable (items_of items.now.kinds items.now.cents items.now.numers items.now.denoms) ≡ true) }
+    ensures { gives (zip place.new ratio.new wraps.new) ≡ sorted_of (items_of items.now.kinds items.now.cents items.now.numers items.now.denoms) }
 {
-    let period = period_at(kind, cents, numer, denom);
-    let by = period.ratio;
-    fill(kind, cents, numer, denom, period, ratio, wraps);
-    override_period(by, ratio, wraps);
+    let period = period_at(items);
+    fill(items, period, ratio, wraps);
+    override_period(period.ratio, ratio, wraps);
     sorted::arrange(place, ratio, wraps);
 }
 
 // The sorted list of `count` usable items and place 0, in columns that may be longer: what they hold after it stays. 18 never arises.
 pub fn build_list(
-    kind: &[u8],
-    cents: &[f64],
-    numer: &[u32],
-    denom: &[u32],
+    items: &ItemColumns<'_>,
     place: &mut [u32],
     ratio: &mut [f64],
     wraps: &mut [i32],
     count: usize,
 )
-    requires { (is_items count (item_table kind.now cents.now numer.now denom.now) ≡ true) × (count ≤ 65535)
+    requires { (is_items count items.now ≡ true) × (count ≤ 65535)
         × (count < length place.old) × (count < length ratio.old) × (count < length wraps.old) }
-    ensures { (is_given (sorted_of (items_in count (item_table kind.now cents.now numer.now denom.now))) ≡ true)
+    ensures { (is_given (sorted_of (items_in count items.now)) ≡ true)
         × (list_table place.new ratio.new wraps.new
-        ≡ after_list (sorted_of (items_in count (item_table kind.now cents.now numer.now denom.now)))
+        ≡ after_list (sorted_of (items_in count items.now))
         (list_table place.old ratio.old wraps.old)) }
 {
     let n = count + 1;
     build_whole(
-        &kind[..n],
-        &cents[..n],
-        &numer[..n],
-        &denom[..n],
+        &items.first(n),
         &mut place[..n],
         &mut ratio[..n],
         &mut wraps[..n],
@@ -242,10 +195,5 @@ pub fn is_beyond(last: Item, count: usize) -> bool
     requires { is_usable last ≡ true }
     ensures { result ≡ is_beyond count last }
 {
-    if 2 <= count {
-        let period = reduction::period_of(reduction::ratio_of(last));
-        let octaves = period.octaves;
-        return octaves == 0.0;
-    }
-    false
+    2 <= count && reduction::period_of(reduction::ratio_of(last)).octaves == 0.0
 }

@@ -14,9 +14,7 @@ ghost use Rattle.pitch.specs.Ratios.{from_cents, from_octaves};
 ghost use Rattle.scl.specs.Items.{is_usable_cents, is_usable, ratio_of};
 ghost use Rattle.scl_tables.specs.Reduce.{is_count, IsPeriod, reduced_by};
 
-use floats::FloatAnswer;
-use integer_math::I32Answer;
-use pitch::{Ratio, RatioAnswer};
+use pitch::Ratio;
 use scl::Item;
 
 // A period's ratio, and how many octaves it is.
@@ -38,10 +36,7 @@ fn cents_ratio(cents: f64) -> f64
     requires { is_usable_cents cents ≡ true }
     ensures { (gives result ≡ from_cents cents) × (in_reach result ≡ true) }
 {
-    match Ratio::from_cents(cents) {
-        RatioAnswer::Is(ratio) => ratio.0,
-        RatioAnswer::Refused(_) => 1.0,
-    }
+    Ratio::from_cents(cents).unwrap_or(Ratio(1.0)).0
 }
 
 // The ratio of a usable fraction.
@@ -49,7 +44,7 @@ fn fraction_ratio(numer: u32, denom: u32) -> f64
     requires { (0 < numer) × (0 < denom) }
     ensures { (gives result ≡ computed (div binary64 (of_int binary64 (pos numer)) (of_int binary64 (pos denom)))) × (in_reach result ≡ true) }
 {
-    (numer as f64) / (denom as f64)
+    f64::from(numer) / f64::from(denom)
 }
 
 // The ratio of a usable item.
@@ -68,10 +63,7 @@ fn octaves_of(ratio: f64) -> f64
     requires { in_reach ratio ≡ true }
     ensures { gives result ≡ L ratio }
 {
-    match explog::log2(ratio) {
-        FloatAnswer::Is(octaves) => octaves,
-        FloatAnswer::Refused(_) => 0.0,
-    }
+    explog::log2(ratio).unwrap_or(0.0)
 }
 
 // The ratio of at most 900 octaves, up or down.
@@ -79,10 +71,7 @@ fn ratio_of_octaves(octaves: f64) -> f64
     requires { in_powers octaves ≡ true }
     ensures { gives result ≡ from_octaves octaves }
 {
-    match Ratio::from_octaves(octaves) {
-        RatioAnswer::Is(ratio) => ratio.0,
-        RatioAnswer::Refused(_) => 1.0,
-    }
+    Ratio::from_octaves(octaves).unwrap_or(Ratio(1.0)).0
 }
 
 // The whole part of a quotient that is an i32.
@@ -90,10 +79,7 @@ fn wraps_of(quotient: f64) -> i32
     requires { is_count quotient ≡ true }
     ensures { gives result ≡ count quotient }
 {
-    match floats::count_of(quotient) {
-        I32Answer::Is(wraps) => wraps,
-        I32Answer::Refused(_) => 0,
-    }
+    floats::count_of(quotient).unwrap_or(0)
 }
 
 // A ratio in 2^-900..2^900 as a period.

@@ -1,14 +1,14 @@
 -- HOW LONG AN EXPORT IS AT MOST: the description, 7 bytes, and 22 for each item. So whoever lends that many bytes never gets 12.
 -- Assumes nothing.
+use Rattle.std.specs.Prelude.{Some, None}
 use mathlib.Core.Path.{◌≡◌, sym, ◌∙◌}
 use mathlib.Core.Bool.{true, false}
 use mathlib.Core.List.{List, [], ◌∷◌}
-use Prim.Native.Nat.{ℕ, ◌+◌, ◌*◌, ◌^◌, ◌≤◌, ◌<◌}
+use Prim.Native.Nat.{ℕ, ◌+◌, ◌*◌, ◌^◌, ◌≤◌}
 use native.Mathlib.Omega.{arith}
 use lib.Dec.{lit<}
 use lib.Ieee.{Float, neg, of_bits}
 use lib.ListN.{length}
-use Rattle.base.specs.Numbers.{no_room}
 use Rattle.base.specs.Said.{Said, gives, refuses}
 use Rattle.base.specs.Tables.{after}
 use Rattle.base.proofs.Said.{no_refusal, same_refuses}
@@ -24,7 +24,6 @@ use Rattle.writing.proofs.Room.{fitted_gives}
 use Rattle.writing.proofs.Widths.{few_thousandths, number_under, size_line, three_under}
 use Rattle.scl.specs.Items.{is_usable_cents, is_usable, Held, AllHeld}
 use Rattle.scl.specs.Table.{ItemTable, Typed, items_in, are_usable}
-use Rattle.scl.specs.declared.Denom.TheVariants.{Given, Lacking}
 use Rattle.scl.specs.declared.Item.{Item}
 use Rattle.scl.specs.declared.Item.TheVariants.{Cents, Fraction}
 use Rattle.scl.specs.declared.Scl.{Scl}
@@ -46,7 +45,7 @@ cents_few c h = few_thousandths (75 * 2 ^ 9) (cents_sized c h)
 -- the longest line: 4294967295/4294967295 and LF
 item_line : (i : Item) → Held i → is_usable i ≡ true → length (line (item_text i)) ≤ 22
 item_line (Cents c) f h = omega (arith, three_under 5 c (lit< tt) (omega (arith, cents_few c h)), sign_le (negative c) false)
-item_line (Fraction n (Given d)) f h =
+item_line (Fraction n (Some d)) f h =
     omega (
       arith,
       fraction_length n d,
@@ -55,7 +54,7 @@ item_line (Fraction n (Given d)) f h =
       length_number d 10,
       number_under 10 d 10 (lit< tt) (omega (arith, f.1)),
     )
-item_line (Fraction n Lacking) f h = omega (arith, number_under 10 n 10 (lit< tt) (omega (arith, f.0)))
+item_line (Fraction n None) f h = omega (arith, number_under 10 n 10 (lit< tt) (omega (arith, f.0)))
 
 item_lines : (is : List Item) → AllHeld is → are_usable is ≡ true → length (lines_text (item_texts is)) ≤ 22 * length is
 unfolding lines_text item_texts are_usable

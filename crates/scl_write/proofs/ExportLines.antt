@@ -1,5 +1,6 @@
 -- THE LINES OF AN EXPORT: the description, where it is one line, the count and the items, each with its LF. Document 01, "Writing".
 -- Assumes nothing.
+use Rattle.std.specs.Prelude.{Some, None}
 use mathlib.Core.List.{List, [], ◌∷◌, append_assoc}
 use Prim.Native.Nat.{ℕ}
 use native.Mathlib.Omega.{arith}
@@ -10,7 +11,6 @@ use Rattle.text.specs.Lines.{Lines}
 use Rattle.writing.specs.Lines.{lines_text, number_text}
 use Rattle.writing.proofs.Plain.{Plain, Word, Words, each_append, word_lines}
 use Rattle.writing.proofs.Printed.{whole_word, three_word}
-use Rattle.scl.specs.declared.Denom.TheVariants.{Given, Lacking}
 use Rattle.scl.specs.declared.Item.{Item}
 use Rattle.scl.specs.declared.Item.TheVariants.{Cents, Fraction}
 use Rattle.scl_write.specs.Export.{item_text, item_texts, scale_texts, scale_text}
@@ -19,14 +19,14 @@ use Rattle.scl_write.specs.Published.{OneLine}
 -- every byte of an item's text is plain
 pub item_word : (i : Item) → Word (item_text i)
 item_word (Cents c) = three_word c
-item_word (Fraction n (Given d)) =
+item_word (Fraction n (Some d)) =
     let a = whole_word (pos n) in
     let b = whole_word (pos d) in
     record {
       some = omega (arith, length-append (number_text n 47) (whole_text (pos d)), b.some);
       each = each_append Plain (number_text n 47) (whole_text (pos d)) (each_append Plain (whole_text (pos n)) (47 ∷ []) a.each ((omega arith, omega arith), tt)) b.each;
     }
-item_word (Fraction n Lacking) = whole_word (pos n)
+item_word (Fraction n None) = whole_word (pos n)
 
 pub item_words : (is : List Item) → Words (item_texts is)
 unfolding item_texts

@@ -1,4 +1,5 @@
 -- The lines of a scale's items: each by its kind, and one after another. Assumes nothing.
+use Rattle.std.specs.Prelude.{Some, None}
 use mathlib.Core.Path.{◌≡◌, ◌∙◌}
 use mathlib.Core.Bool.{true}
 use mathlib.Core.List.{List, [], ◌∷◌, ◌++◌, append_assoc}
@@ -17,7 +18,6 @@ use Rattle.writing.specs.Lines.{line, lines_text, number_text}
 use Rattle.writing.proofs.Lines.{length_number, number_short, decimal_short, step_length, step_sets}
 use Rattle.scl.specs.Items.{most_cents, is_usable_cents, is_usable}
 use Rattle.scl.specs.Table.{ItemTable, no_item, items_in, are_usable, is_items}
-use Rattle.scl.specs.declared.Denom.TheVariants.{Given, Lacking}
 use Rattle.scl.specs.declared.Item.{Item}
 use Rattle.scl.specs.declared.Item.TheVariants.{Cents, Fraction}
 use Rattle.scl.proofs.Table.{both, length_first, first_at, usable_at, items_roomy, items_usable}
@@ -29,21 +29,21 @@ unfolding of_bits neg
 cents_limited c h = let t = both (le (neg most_cents) c) (le c most_cents) h in limited_between 75 9 c (lit≤ tt) t.0 t.1
 
 -- a fraction's line: the numerator and a slash, the denominator and LF
-pub fraction_line : (n d : ℕ) → line (item_text (Fraction n (Given d))) ≡ number_text n 47 ++ number_text d 10
+pub fraction_line : (n d : ℕ) → line (item_text (Fraction n (Some d))) ≡ number_text n 47 ++ number_text d 10
 fraction_line n d = append_assoc (number_text n 47) (whole_text (pos d)) (10 ∷ [])
 
-pub fraction_length : (n d : ℕ) → length (line (item_text (Fraction n (Given d)))) ≡ length (whole_text (pos n)) + 1 + (length (whole_text (pos d)) + 1)
+pub fraction_length : (n d : ℕ) → length (line (item_text (Fraction n (Some d)))) ≡ length (whole_text (pos n)) + 1 + (length (whole_text (pos d)) + 1)
 fraction_length n d = rw (fraction_line n d) (omega (arith, length-append (number_text n 47) (number_text d 10), length_number n 47, length_number d 10))
 
 pub fraction_sets : (n d : ℕ) (l m o : List ℕ) (at next : ℕ) → m ≡ sets l at (number_text n 47) → next ≡ at + length (number_text n 47) → o ≡ sets m next (number_text d 10)
-    → o ≡ sets l at (line (item_text (Fraction n (Given d))))
+    → o ≡ sets l at (line (item_text (Fraction n (Some d))))
 fraction_sets n d l m o at next e p f = f ∙ rw (fraction_line n d, e) (sets_append l at next (number_text n 47) (number_text d 10) p)
 
 -- how long an item's line is at most, whatever its numbers
 pub item_short : (i : Item) → length (line (item_text i)) ≤ 40
 item_short (Cents c) = omega (arith, decimal_short 3 c (lit≤ tt))
-item_short (Fraction n (Given d)) = omega (arith, fraction_length n d, length_number n 47, number_short n 47, length_number d 10, number_short d 10)
-item_short (Fraction n Lacking) = omega (arith, number_short n 10)
+item_short (Fraction n (Some d)) = omega (arith, fraction_length n d, length_number n 47, number_short n 47, length_number d 10, number_short d 10)
+item_short (Fraction n None) = omega (arith, number_short n 10)
 
 -- the lines of the items from a place on
 abbrev pub left : ℕ → ItemTable → ℕ → List ℕ

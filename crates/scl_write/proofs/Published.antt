@@ -1,5 +1,6 @@
 -- THE EXPORT IN THE PUBLISHED FORMAT: where the description is one line, what is written is a scale file as Scala's pages have it, with that
 -- description, cents to three decimals and ratios exactly. Assumes nothing.
+use Rattle.std.specs.Prelude.{Some, None}
 use mathlib.Core.Path.{◌≡◌, refl, sym, ap}
 use mathlib.Core.Bool.{Bool, true, false}
 use mathlib.Core.List.{List, [], ◌∷◌, ◌++◌, append_assoc, append-nil}
@@ -17,7 +18,6 @@ use Rattle.writing.specs.PublishedLines.{Kept}
 use Rattle.writing.proofs.PublishedValues.{all_kept, number_digits, number}
 use Rattle.scl.specs.Items.{is_usable_cents, is_usable, Held, AllHeld}
 use Rattle.scl.specs.Table.{ItemTable, are_usable, Typed, items_in}
-use Rattle.scl.specs.declared.Denom.TheVariants.{Given, Lacking}
 use Rattle.scl.specs.declared.Item.{Item}
 use Rattle.scl.specs.declared.Item.TheVariants.{Cents, Fraction}
 use Rattle.scl.specs.declared.Scl.{Scl}
@@ -52,12 +52,12 @@ cents_text c h =
 -- an item's text is its pitch value
 value : (i : Item) → Held i → is_usable i ≡ true → P.PitchText (item_text i) (P.published_pitch i)
 value (Cents c) f h = P.PitchText.cents (cents_text c h)
-value (Fraction n (Given d)) f h =
-    let p = usable_fraction n (Given d) h in
+value (Fraction n (Some d)) f h =
+    let p = usable_fraction n (Some d) h in
     P.PitchText.ratio (whole_text (pos n)) (whole_text (pos d)) n d (append_assoc (whole_text (pos n)) (47 ∷ []) (whole_text (pos d)))
     (number_digits n (omega (arith, f.0))) (number_digits d (omega (arith, f.1))) p.0 p.1
-value (Fraction n Lacking) f h =
-    let p = usable_fraction n Lacking h in
+value (Fraction n None) f h =
+    let p = usable_fraction n None h in
     P.PitchText.whole n (number_digits n (omega (arith, f.0))) p.0
 
 -- a value alone leads its line

@@ -8,12 +8,11 @@ use Prim.Native.Nat.{ℕ, ◌≤◌, ◌<◌}
 use native.Mathlib.Omega.{arith}
 use lib.ListN.{length, drop}
 use Rattle.base.specs.Numbers.{unusable, no_room}
-use Rattle.base.specs.Said.{gives, refuses, pick, Numbered, One}
+use Rattle.base.specs.Said.{gives, refuses, pick, Numbered, One, outcome}
 use Rattle.base.specs.Tables.{after}
 use Rattle.base.proofs.Said.{one_result, no_value, numbered_pick}
 use Rattle.utf8.specs.Utf8Machine.{utf8_from, none_due}
 use Rattle.utf8.proofs.Utf8Language.{accepts}
-use Rattle.writing.specs.Answers.{says_size}
 use Rattle.writing.specs.Fitted.{fitted, text_length}
 use Rattle.writing.proofs.Room.{fitted_full, fitted_gives, fitted_given, fitted_refuses, fitted_numbered}
 use Rattle.writing.proofs.Theorems.{size_one}
@@ -24,7 +23,7 @@ use Rattle.scl_write.specs.Export.{export_text, export_of, Writable}
 
 -- one result, and one state of the lent bytes
 module _ (scl : Scl) (table : ItemTable) (description out : List ℕ) where
-  pub export_scl_one : One says_size (text_length (export_of scl table description (length out)))
+  pub export_scl_one : One outcome (text_length (export_of scl table description (length out)))
   export_scl_one = size_one (text_length (export_of scl table description (length out)))
 
   pub export_scl_bytes : One (λ l. l) (after (export_of scl table description (length out)) (λ t. t) out)

@@ -1,7 +1,7 @@
 -- Document 01, "Writing": the bytes that a scale is written as, "SCL: description, item count, items (place 0 omitted). .. A
 -- description that is not UTF-8 gives 10; any other is copied as it is. .. Every line ends in LF. Cents .. have three decimals, from
 -- the exact value, ties to even, sign kept .. Integers and fractions as declared." Assumes nothing.
-use Rattle.std.specs.Prelude.{◌≡◌, false, ◌&&◌, List, [], ◌∷◌, ◌++◌, ℕ, ◌+◌, ◌*◌, ◌≤◌, pos, length, drop, get_or}
+use Rattle.std.specs.Prelude.{◌≡◌, false, ◌&&◌, List, [], ◌∷◌, ◌++◌, ℕ, ◌+◌, ◌*◌, ◌≤◌, pos, length, drop, get_or, Some, None}
 use Rattle.std.specs.Float.{nan}
 use Rattle.base.specs.Numbers.{unusable, no_room}
 use Rattle.base.specs.Said.{Said, refuses, pick}
@@ -11,7 +11,6 @@ use Rattle.utf8.specs.Utf8Machine.{utf8_from, none_due}
 use Rattle.writing.specs.Fitted.{fitted}
 use Rattle.writing.specs.Lines.{lines_text, number_text}
 use Rattle.scl.specs.Table.{ItemTable, Items, item_of, items_in, is_items}
-use Rattle.scl.specs.declared.Denom.TheVariants.{Given, Lacking}
 use Rattle.scl.specs.declared.Item.{Item}
 use Rattle.scl.specs.declared.Item.TheVariants.{Cents, Fraction}
 use Rattle.scl.specs.declared.Scl.{Scl}
@@ -19,8 +18,8 @@ use Rattle.scl.specs.declared.Scl.{Scl}
 -- an item: cents with three decimals; numerator, slash and denominator; or the integer
 abbrev pub item_text : Item → List ℕ
 item_text (Cents c) = text_of 3 false c
-item_text (Fraction n (Given d)) = number_text n 47 ++ whole_text (pos d)
-item_text (Fraction n Lacking) = whole_text (pos n)
+item_text (Fraction n (Some d)) = number_text n 47 ++ whole_text (pos d)
+item_text (Fraction n None) = whole_text (pos n)
 
 -- the items, one to a line
 unfoldable pub item_texts : List Item → List (List ℕ)

@@ -2,18 +2,19 @@
 #![tactic(auto)]
 
 ghost use Rattle.std.specs.Prelude.{◌≡◌, true, ◌+◌, ◌≤◌, length};
+ghost use Rattle.base.specs.Said.{outcome};
 ghost use Rattle.std.proofs.lemmas.List.Edits.{sets};
 ghost use Rattle.base.specs.Tables.{after};
 ghost use Rattle.scl.specs.Items.{is_usable};
 ghost use Rattle.scl.specs.Table.{item_table, is_items};
-ghost use Rattle.writing.specs.Answers.{says_size};
 ghost use Rattle.writing.specs.Fitted.{fitted, text_length};
 ghost use Rattle.writing.specs.Lines.{line, lines_text};
 ghost use Rattle.scl_write.specs.Export.{standing, item_text, item_texts, listed_in, scale_text, export_of, NeverFull};
 
-use scl::{Denom, Item, Scl};
+use base::Refusal;
+use scl::{Item, ItemColumns, Scl};
 use utf8::is_utf8;
-use writing::{SizeAnswer, line_length, write_decimal, write_line, write_number, write_text};
+use writing::{line_length, write_decimal, write_line, write_number, write_text};
 
 // The item and LF at `at`; the next place.
 fn write_item(item: Item, out: &mut [u8], at: usize) -> usize
@@ -24,11 +25,11 @@ fn write_item(item: Item, out: &mut [u8], at: usize) -> usize
     match item {
         Item::Cents(cents) => write_decimal(cents, 3, out, at),
         Item::Fraction(numer, denom) => match denom {
-            Denom::Given(number) => {
+            Some(number) => {
                 let next = write_number(numer, b'/', out, at);
                 write_number(number, b'\n', out, next)
             }
-            Denom::Lacking => write_number(numer, b'\n', out, at),
+            None => write_number(numer, b'\n', out, at),
         },
     }
 }
@@ -43,47 +44,35 @@ fn item_length(item: Item) -> usize
 }
 
 // The item at place i of a usable table.
-fn item_at(kind: &[u8], cents: &[f64], numer: &[u32], denom: &[u32], count: usize, i: usize) -> Item
-    requires { (is_items count (item_table kind.now cents.now numer.now denom.now) ≡ true) × (i ≤ count) }
-    ensures { (result ≡ standing (item_table kind.now cents.now numer.now denom.now) i) × (is_usable result ≡ true) }
+fn item_at(items: &ItemColumns<'_>, count: usize, i: usize) -> Item
+    requires { (is_items count items.now ≡ true) × (i ≤ count) }
+    ensures { (result ≡ standing items.now i) × (is_usable result ≡ true) }
 {
-    scl::item_at(kind, cents, numer, denom, i)
+    items.item(i)
 }
 
 // How many bytes the items take, place 0 omitted.
-fn items_length(kind: &[u8], cents: &[f64], numer: &[u32], denom: &[u32], count: usize) -> usize
-    requires { (is_items count (item_table kind.now cents.now numer.now denom.now) ≡ true) × (count ≤ 65535) }
-    ensures { (result ≡ length (lines_text (item_texts (listed_in count (item_table kind.now cents.now numer.now denom.now))))) × (result ≤ 2621440) }
+fn items_length(items: &ItemColumns<'_>, count: usize) -> usize
+    requires { (is_items count items.now ≡ true) × (count ≤ 65535) }
+    ensures { (result ≡ length (lines_text (item_texts (listed_in count items.now)))) × (result ≤ 2621440) }
 {
     let mut total: usize = 0;
-    let mut i: usize = 1;
-    while i <= count {
-        total += item_length(item_at(kind, cents, numer, denom, count, i));
-        i += 1;
+    for i in 1..count + 1 {
+        total += item_length(item_at(items, count, i));
     }
     total
 }
 
 // The items from `at` on, place 0 omitted; the next place.
-fn write_items(
-    kind: &[u8],
-    cents: &[f64],
-    numer: &[u32],
-    denom: &[u32],
-    count: usize,
-    out: &mut [u8],
-    at: usize,
-) -> usize
-    requires { (is_items count (item_table kind.now cents.now numer.now denom.now) ≡ true)
-        × (at + length (lines_text (item_texts (listed_in count (item_table kind.now cents.now numer.now denom.now)))) ≤ length out.old) }
-    ensures value { result ≡ at + length (lines_text (item_texts (listed_in count (item_table kind.now cents.now numer.now denom.now)))) }
-    ensures out_after { out.new ≡ sets out.old at (lines_text (item_texts (listed_in count (item_table kind.now cents.now numer.now denom.now)))) }
+fn write_items(items: &ItemColumns<'_>, count: usize, out: &mut [u8], at: usize) -> usize
+    requires { (is_items count items.now ≡ true)
+        × (at + length (lines_text (item_texts (listed_in count items.now))) ≤ length out.old) }
+    ensures value { result ≡ at + length (lines_text (item_texts (listed_in count items.now))) }
+    ensures out_after { out.new ≡ sets out.old at (lines_text (item_texts (listed_in count items.now))) }
 {
     let mut next = at;
-    let mut i = 1;
-    while i <= count {
-        next = write_item(item_at(kind, cents, numer, denom, count, i), out, next);
-        i += 1;
+    for before in 0..count {
+        next = write_item(item_at(items, count, before + 1), out, next);
     }
     next
 }
@@ -91,26 +80,23 @@ fn write_items(
 // The whole text from the first byte on, and how many bytes it takes; 12 where it is longer than the lent bytes.
 fn write_scale(
     description: &[u8],
-    kind: &[u8],
-    cents: &[f64],
-    numer: &[u32],
-    denom: &[u32],
+    items: &ItemColumns<'_>,
     count: usize,
     out: &mut [u8],
-) -> SizeAnswer
-    requires { (is_items count (item_table kind.now cents.now numer.now denom.now) ≡ true) × (count ≤ 65535) }
-    ensures value { says_size result ≡ text_length (fitted (length out.old) (scale_text description.now (listed_in count (item_table kind.now cents.now numer.now denom.now)))) }
-    ensures out_after { out.new ≡ after (fitted (length out.old) (scale_text description.now (listed_in count (item_table kind.now cents.now numer.now denom.now)))) (λ t. t) out.old }
+) -> Result<usize, Refusal>
+    requires { (is_items count items.now ≡ true) × (count ≤ 65535) }
+    ensures value { outcome result ≡ text_length (fitted (length out.old) (scale_text description.now (listed_in count items.now))) }
+    ensures out_after { out.new ≡ after (fitted (length out.old) (scale_text description.now (listed_in count items.now))) (λ t. t) out.old }
 {
     let number = count as i32;
-    let items = items_length(kind, cents, numer, denom, count);
-    let total = description.len() + 1 + line_length(number) + items;
+    let taken = items_length(items, count);
+    let total = description.len() + 1 + line_length(number) + taken;
     if out.len() < total {
-        return SizeAnswer::Refused(writing::NO_ROOM);
+        return Err(writing::NO_ROOM);
     }
     let number_at = write_text(description, out, 0);
     let items_at = write_line(number, out, number_at);
-    SizeAnswer::Is(write_items(kind, cents, numer, denom, count, out, items_at))
+    Ok(write_items(items, count, out, items_at))
 }
 
 // The text of a scale into the lent bytes, and how many it takes. 10 for unusable items or a description that is not UTF-8, 12 where
@@ -118,21 +104,16 @@ fn write_scale(
 pub fn export_scl(
     scl: Scl,
     description: &[u8],
-    kind: &[u8],
-    cents: &[f64],
-    numer: &[u32],
-    denom: &[u32],
+    items: &ItemColumns<'_>,
     out: &mut [u8],
-) -> SizeAnswer
-    ensures value { says_size result ≡ text_length (export_of scl (item_table kind.now cents.now numer.now denom.now) description.now (length out.old)) }
-    ensures out_after { out.new ≡ after (export_of scl (item_table kind.now cents.now numer.now denom.now) description.now (length out.old)) (λ t. t) out.old }
-    ensures never_full { NeverFull scl description.now (length out.old) (says_size result) }
+) -> Result<usize, Refusal>
+    ensures value { outcome result ≡ text_length (export_of scl items.now description.now (length out.old)) }
+    ensures out_after { out.new ≡ after (export_of scl items.now description.now (length out.old)) (λ t. t) out.old }
+    ensures never_full { NeverFull scl description.now (length out.old) (outcome result) }
 {
     let count = scl.count as usize;
-    if scl::is_items(kind, cents, numer, denom, count) {
-        if is_utf8(description) {
-            return write_scale(description, kind, cents, numer, denom, count, out);
-        }
+    if items.holds(count) && is_utf8(description) {
+        return write_scale(description, items, count, out);
     }
-    SizeAnswer::Refused(writing::NOT_USABLE)
+    Err(writing::NOT_USABLE)
 }

@@ -2,7 +2,6 @@
 -- Assumes nothing.
 use mathlib.Core.Path.{◌≡◌, refl, sym, ◌∙◌, ap, subst}
 use mathlib.Core.Bool.{Bool, true, false, ◌&&◌}
-use mathlib.Core.Logic.{inl, inr}
 use mathlib.Core.List.{List}
 use Prim.Native.Nat.{ℕ, ◌-◌, ◌<◌}
 use native.Mathlib.Omega.{arith}
@@ -12,8 +11,8 @@ use lib.ListN.{length, get_or, length-map}
 use lib.Ieee.{Float, binary64, fits, lt, eq, mul, div}
 use borrow.Author.Tests.{ne_eqb}
 use Rattle.base.specs.Numbers.{unusable, beyond_reach}
-use Rattle.base.specs.Said.{Said, gives, refuses, pick, and_then, One}
-use Rattle.base.proofs.Said.{Split, one_plain, same_value}
+use Rattle.base.specs.Said.{Said, gives, refuses, pick, and_then, One, outcome}
+use Rattle.base.proofs.Said.{same_value, one_said}
 use Rattle.floats.specs.Floats.{zero_f, one_f}
 use Rattle.floats.specs.Ranges.{in_reach}
 use Rattle.explog.specs.Rules.{L}
@@ -32,20 +31,14 @@ use Rattle.relative.proofs.Back.{then_given, pick_other}
 use Rattle.relative.proofs.Places.{items_length, list_room, list_length}
 use Rattle.relative.proofs.Ratios.{item_held}
 use Rattle.kbm.specs.declared.KbmRoot.{KbmRoot}
-use Rattle.searching.specs.Answers.{says_choice, says_found}
 use Rattle.searching.specs.Nearest.{ratio_at, above_by, below_by, Picked, lower, upper, Searched}
 use Rattle.searching.specs.Search.{tolerance, choice, chosen_of, upper_of, index_of, found_at, nearest_of, search_of}
 use Rattle.searching.specs.declared.Choice.{Choice}
 use Rattle.searching.specs.declared.Found.{Found}
-use Rattle.searching.specs.declared.ChoiceAnswer.TheVariants as OfChoice
-use Rattle.searching.specs.declared.FoundAnswer.TheVariants as OfFound
 use Rattle.searching.proofs.Opened.{lastly, chosen_is, search_none}
 use Rattle.searching.proofs.Parting.{ratio_at_law, parts}
-use Rattle.searching.specs.DegreeAnswers.{says_degree_search, says_key_search}
 use Rattle.searching.specs.Degrees.{declared_of, ascending_of, key_of}
 use Rattle.searching.specs.declared.approximation.Approximation.{Approximation}
-use Rattle.searching.specs.declared.approximation.DegreeSearch.TheVariants as OfDegree
-use Rattle.searching.specs.declared.approximation.KeySearch.TheVariants as OfKey
 
 -- ---- of two neighbours none is nearer beyond the tolerance
 module _ (es : List Entry) (periods : ℤ) (target : Float) (at : ℕ) (l : in_reach (ratio_at es (at - 1)) ≡ true) (u : in_reach (ratio_at es at) ≡ true) (t : in_reach target ≡ true) where
@@ -130,43 +123,26 @@ module _ (count : ℕ) (t : ItemTable) (l : ListTable) (it : is_items count t �
         let p = then_given (ratio_of (last_of items)) tail e₀ in
         reduced_says p.0 f p.1.0 p.1.1
 
--- ---- two results of one input are equal
-found_split : Split OfFound.Is OfFound.Refused
-found_split (OfFound.Is x) = inl (x, refl)
-found_split (OfFound.Refused r) = inr (r, refl)
+pub found_one : (s : Said Found) → One outcome s
+found_one = one_said
 
-pub found_one : (s : Said Found) → One says_found s
-found_one = one_plain found_split says_found (λ a. refl) (λ r. refl)
-
-pub search_one : (items : List Item) (es : List Entry) (x : Float) → One says_found (search_of items es x)
+pub search_one : (items : List Item) (es : List Entry) (x : Float) → One outcome (search_of items es x)
 search_one items es x = found_one (search_of items es x)
 
-choice_split : Split OfChoice.Is OfChoice.Refused
-choice_split (OfChoice.Is x) = inl (x, refl)
-choice_split (OfChoice.Refused r) = inr (r, refl)
+pub choose_one : (a b x : Float) → One outcome (chosen_of a b x)
+choose_one a b x = one_said (chosen_of a b x)
 
-pub choose_one : (a b x : Float) → One says_choice (chosen_of a b x)
-choose_one a b x = one_plain choice_split says_choice (λ c. refl) (λ r. refl) (chosen_of a b x)
+pub degree_search_one : (s : Said Approximation) → One outcome s
+degree_search_one = one_said
 
-degree_split : Split OfDegree.Degree OfDegree.Refused
-degree_split (OfDegree.Degree x) = inl (x, refl)
-degree_split (OfDegree.Refused r) = inr (r, refl)
+pub key_search_one : (s : Said Approximation) → One outcome s
+key_search_one = one_said
 
-pub degree_search_one : (s : Said Approximation) → One says_degree_search s
-degree_search_one = one_plain degree_split says_degree_search (λ a. refl) (λ r. refl)
+pub declared_one : (count : ℕ) (found : Found) → One outcome (declared_of count found)
+declared_one count found = degree_search_one (declared_of count found)
 
-key_split : Split OfKey.Key OfKey.Refused
-key_split (OfKey.Key x) = inl (x, refl)
-key_split (OfKey.Refused r) = inr (r, refl)
+pub ascending_one : (count : ℕ) (found : Found) → One outcome (ascending_of count found)
+ascending_one count found = degree_search_one (ascending_of count found)
 
-pub key_search_one : (s : Said Approximation) → One says_key_search s
-key_search_one = one_plain key_split says_key_search (λ a. refl) (λ r. refl)
-
-pub declared_one : (found : Said Found) (count : ℕ) → One says_degree_search (and_then found (declared_of count))
-declared_one found count = degree_search_one (and_then found (declared_of count))
-
-pub ascending_one : (found : Said Found) (count : ℕ) → One says_degree_search (and_then found (ascending_of count))
-ascending_one found count = degree_search_one (and_then found (ascending_of count))
-
-pub key_from_one : (root : KbmRoot) (found : Said Approximation) → One says_key_search (and_then found (key_of root))
-key_from_one root found = key_search_one (and_then found (key_of root))
+pub key_from_one : (root : KbmRoot) (found : Approximation) → One outcome (key_of root found)
+key_from_one root found = key_search_one (key_of root found)

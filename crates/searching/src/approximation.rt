@@ -1,14 +1,12 @@
 // What a search answers: the nearest degree or key, and the deviation from it. The Rust's `Approximation` and what its searches take
 // from the one internal search; document 01, "Scales and searches".
 ghost use Rattle.std.specs.Prelude.{◌≡◌, pos, ◌+ℤ◌, ◌-ℤ◌, ◌*ℤ◌};
-ghost use Rattle.base.specs.Said.{and_then};
-ghost use Rattle.searching.specs.Answers.{says_found};
-ghost use Rattle.searching.specs.DegreeAnswers.{says_degree_search, says_key_search};
-ghost use Rattle.searching.specs.Degrees.{declared_of, ascending_of, key_of};
+ghost use Rattle.base.specs.Integers.{held};
+ghost use Rattle.base.specs.Said.{gives, and_then, outcome};
+ghost use Rattle.searching.specs.Degrees.{approximation, declared_of, ascending_of, key_of};
 
-use crate::FoundAnswer;
+use crate::Found;
 use base::Refusal;
-use integer_math::I32Answer;
 use kbm::KbmRoot;
 
 // The nearest degree or key, and how far the target lies above it, a ratio.
@@ -18,88 +16,56 @@ pub struct Approximation {
     pub deviation: f64,
 }
 
-// The number is a degree.
-#[derive(Clone, Copy)]
-pub enum DegreeSearch {
-    Degree(Approximation),
-    Refused(Refusal),
-}
-
-// The number is a key.
-#[derive(Clone, Copy)]
-pub enum KeySearch {
-    Key(Approximation),
-    Refused(Refusal),
-}
-
 // The exact declared degree of a place, so many periods up and so many wraparounds down.
 fn declared_number(place: u32, periods: i32, wraps: i32, count: u16) -> i64
     ensures { result ≡ pos place +ℤ (periods -ℤ wraps) *ℤ pos count }
 {
-    (place as i64) + ((periods as i64) - (wraps as i64)) * (count as i64)
+    i64::from(place) + (i64::from(periods) - i64::from(wraps)) * i64::from(count)
 }
 
 // The exact ascending degree of a place in the list, so many periods up.
 fn ascending_number(index: u32, periods: i32, count: u16) -> i64
     ensures { result ≡ pos index +ℤ periods *ℤ pos count }
 {
-    (index as i64) + (periods as i64) * (count as i64)
+    i64::from(index) + i64::from(periods) * i64::from(count)
+}
+
+// The answer of an exact number; 11 outside 32 bits.
+fn answer(number: i64, deviation: f64) -> Result<Approximation, Refusal>
+    ensures { outcome result ≡ and_then (held number) (λ z. gives (approximation deviation z)) }
+{
+    Ok(Approximation {
+        approx_value: integer_math::to_i32(number)?,
+        deviation,
+    })
 }
 
 // The declared degree of what was found; 11 outside 32 bits.
-pub fn declared(found: FoundAnswer, count: u16) -> DegreeSearch
-    ensures { says_degree_search result ≡ and_then (says_found found) (declared_of count) }
+pub fn declared(found: Found, count: u16) -> Result<Approximation, Refusal>
+    ensures { outcome result ≡ declared_of count found }
 {
-    match found {
-        FoundAnswer::Is(f) => {
-            let deviation = f.deviation;
-            match integer_math::to_i32(declared_number(f.place, f.periods, f.wraps, count)) {
-                I32Answer::Is(degree) => DegreeSearch::Degree(Approximation {
-                    approx_value: degree,
-                    deviation,
-                }),
-                I32Answer::Refused(refusal) => DegreeSearch::Refused(refusal),
-            }
-        }
-        FoundAnswer::Refused(refusal) => DegreeSearch::Refused(refusal),
-    }
+    answer(
+        declared_number(found.place, found.periods, found.wraps, count),
+        found.deviation,
+    )
 }
 
 // The ascending degree of what was found; 11 outside 32 bits.
-pub fn ascending(found: FoundAnswer, count: u16) -> DegreeSearch
-    ensures { says_degree_search result ≡ and_then (says_found found) (ascending_of count) }
+pub fn ascending(found: Found, count: u16) -> Result<Approximation, Refusal>
+    ensures { outcome result ≡ ascending_of count found }
 {
-    match found {
-        FoundAnswer::Is(f) => {
-            let deviation = f.deviation;
-            match integer_math::to_i32(ascending_number(f.index, f.periods, count)) {
-                I32Answer::Is(degree) => DegreeSearch::Degree(Approximation {
-                    approx_value: degree,
-                    deviation,
-                }),
-                I32Answer::Refused(refusal) => DegreeSearch::Refused(refusal),
-            }
-        }
-        FoundAnswer::Refused(refusal) => DegreeSearch::Refused(refusal),
-    }
+    answer(
+        ascending_number(found.index, found.periods, count),
+        found.deviation,
+    )
 }
 
 // The key of a degree found, counted from the reference key; 11 outside 32 bits.
-pub fn key_from(root: KbmRoot, found: DegreeSearch) -> KeySearch
-    ensures { says_key_search result ≡ and_then (says_degree_search found) (key_of root) }
+pub fn key_from(root: KbmRoot, found: Approximation) -> Result<Approximation, Refusal>
+    ensures { outcome result ≡ key_of root found }
 {
-    let reference = root.reference;
-    match found {
-        DegreeSearch::Degree(a) => {
-            let deviation = a.deviation;
-            match integer_math::to_i32(integer_math::sum(reference.0, a.approx_value)) {
-                I32Answer::Is(key) => KeySearch::Key(Approximation {
-                    approx_value: key,
-                    deviation,
-                }),
-                I32Answer::Refused(refusal) => KeySearch::Refused(refusal),
-            }
-        }
-        DegreeSearch::Refused(refusal) => KeySearch::Refused(refusal),
-    }
+    answer(
+        integer_math::sum(root.reference.0, found.approx_value),
+        found.deviation,
+    )
 }

@@ -4,14 +4,14 @@ use mathlib.Core.Bool.{Bool, true, false}
 use mathlib.Core.List.{List, [], ◌∷◌}
 use Prim.Native.Nat.{ℕ, zero, suc, ◌<◌}
 use native.Mathlib.Nat.{le_of_suc-le-suc, not-suc-le-zero}
-use lib.ListN.{length, get_or}
-use lib.IntN.{ℤ}
+use lib.ListN.{length, get_or, take}
+use lib.IntN.{ℤ, pos}
 use lib.Ieee.{Float, nan, lt}
 use Rattle.base.specs.Said.{pick, One}
 use Rattle.base.proofs.Said.{one_result}
 use Rattle.sorting.specs.Entries.{zip, Columns}
 use Rattle.sorting.proofs.Columns.{columns_one}
-use Rattle.sorted.specs.Lent.{ListTable, is_list, first_not_below, from}
+use Rattle.sorted.specs.Lent.{ListTable, list_table, is_list, first_not_below, from}
 use Rattle.sorted.specs.Repeats.{arranged}
 
 -- "Its start is the first entry not below the target": all before it are below
@@ -50,3 +50,22 @@ is_list_one t count = one_result (is_list count t)
 
 pub first_not_below_one : (rs : List Float) (x : Float) → One (λ r. r) (first_not_below rs x)
 first_not_below_one rs x = one_result (first_not_below rs x)
+
+-- the columns that are lent to be read
+pub columns_new_one : (ps : List ℕ) (rs : List Float) (ws : List ℤ) → One (λ r. r) (list_table ps rs ws)
+columns_new_one ps rs ws = one_result (list_table ps rs ws)
+
+pub columns_place_one : (t : ListTable) (i : ℕ) → One (λ r. r) (get_or t.places i 0)
+columns_place_one t i = one_result (get_or t.places i 0)
+
+pub columns_ratio_one : (t : ListTable) (i : ℕ) → One (λ r. r) (get_or t.ratios i nan)
+columns_ratio_one t i = one_result (get_or t.ratios i nan)
+
+pub columns_wraps_one : (t : ListTable) (i : ℕ) → One (λ r. r) (get_or t.wraps i (pos 0))
+columns_wraps_one t i = one_result (get_or t.wraps i (pos 0))
+
+pub columns_holds_one : (t : ListTable) (count : ℕ) → One (λ r. r) (is_list count t)
+columns_holds_one t count = one_result (is_list count t)
+
+pub columns_first_not_below_one : (t : ListTable) (n : ℕ) (x : Float) → One (λ r. r) (first_not_below (take n t.ratios) x)
+columns_first_not_below_one t n x = one_result (first_not_below (take n t.ratios) x)

@@ -4,7 +4,7 @@
 // An inner crate: what `number`, `arrange` and `first_not_below` ask of their columns, their callers have made sure of.
 #![tactic(auto)]
 
-ghost use Rattle.std.specs.Prelude.{◌≡◌, ◌&&◌, ◌≤◌, ◌<◌, length, get_or, set, take, pos, T, leb, ltb};
+ghost use Rattle.std.specs.Prelude.{◌≡◌, ◌&&◌, ◌≤◌, ◌<◌, ◌+◌, length, get_or, set, take, pos, T, leb, ltb};
 ghost use Rattle.std.specs.Float.{nan};
 ghost use Rattle.std.specs.Float.Ieee.Positive.{positive};
 ghost use Rattle.sorting.specs.Asked.{AllPositive};
@@ -12,7 +12,9 @@ ghost use Rattle.sorting.specs.Entries.{zip, Columns};
 ghost use Rattle.sorted.specs.Repeats.{near, keep, arranged};
 ghost use Rattle.sorting.specs.Stable.{NeverFalls};
 ghost use Rattle.base.specs.Said.{pick};
-ghost use Rattle.sorted.specs.Lent.{usable, are_within, list_table, is_list, first_not_below, from};
+ghost use Rattle.sorted.specs.Lent.{ListTable, usable, are_within, list_table, is_list, first_not_below, from};
+
+use std::marker::Model;
 
 // Whether the quotient of two ratios is as good as 1.
 fn is_near(a: f64, c: f64) -> bool
@@ -39,14 +41,12 @@ fn keep_first(place: &mut [u32], ratio: &mut [f64], wraps: &mut [i32])
     ensures { Columns (keep (zip place.old ratio.old wraps.old)) place.new ratio.new wraps.new }
 {
     let mut q: usize = 0;
-    let mut k: usize = 0;
-    while k < ratio.len() {
+    for k in 0..ratio.len() {
         if is_near(ratio[k], ratio[q]) {
             copy_entry(place, ratio, wraps, q, k);
         } else {
             q = k;
         }
-        k += 1;
     }
 }
 
@@ -55,10 +55,8 @@ pub fn number(place: &mut [u32])
     requires { length place.old ≤ 65536 }
     ensures { place.new ≡ from 0 (length place.old) }
 {
-    let mut i: usize = 0;
-    while i < place.len() {
+    for i in 0..place.len() {
         place[i] = i as u32;
-        i += 1;
     }
 }
 
@@ -74,12 +72,13 @@ pub fn arrange(place: &mut [u32], ratio: &mut [f64], wraps: &mut [i32])
 }
 
 // The place of the first ratio that is not below x, found by halving.
-pub fn first_not_below(ratio: &[f64], x: f64) -> usize
+fn first_not_below(ratio: &[f64], x: f64) -> usize
     requires { AllPositive ratio.now × NeverFalls ratio.now × T (positive x) }
     ensures { result ≡ first_not_below ratio.now x }
 {
     let mut lo: usize = 0;
     let mut hi: usize = ratio.len();
+    // A `while`: it halves what is left.
     while lo < hi {
         let mid = lo + (hi - lo) / 2;
         if ratio[mid] < x {
@@ -115,13 +114,11 @@ fn are_entries(place: &[u32], ratio: &[f64], n: usize, count: usize) -> bool
     let mut all = true;
     let mut last = floats::REACH_LOW;
     let mut highest: u32 = 0;
-    let mut i: usize = 0;
-    while i < n {
+    for i in 0..n {
         let r = ratio[i];
         all = all & (last <= r);
         last = r;
         highest = higher(highest, place[i]);
-        i += 1;
     }
     let rising = all & (last <= floats::REACH_HIGH);
     rising & is_at_most(highest, count)
@@ -129,16 +126,85 @@ fn are_entries(place: &[u32], ratio: &[f64], n: usize, count: usize) -> bool
 
 // Whether the columns hold the list of `count` items: place 0 and a place for each, ratios in 2^-900..2^900 that never fall, places
 // within the count. Ratios and places are gone over once; of the wraparounds only the number is looked at.
-pub fn is_list(place: &[u32], ratio: &[f64], wraps: &[i32], count: usize) -> bool
+fn is_list(place: &[u32], ratio: &[f64], wraps: &[i32], count: usize) -> bool
     ensures { result ≡ is_list count (list_table place.now ratio.now wraps.now) }
 {
     if count < place.len() {
         if count < ratio.len() {
             if count < wraps.len() {
-                let n = count + 1;
-                return are_entries(place, ratio, n, count);
+                return are_entries(place, ratio, count + 1, count);
             }
         }
     }
     false
+}
+
+// The three columns of a scale's sorted list, as they are lent to be read.
+#[derive(Drop)]
+pub struct ListColumns<'a> {
+    place: &'a [u32],
+    ratio: &'a [f64],
+    wraps: &'a [i32],
+}
+
+impl<'a> Model for ListColumns<'a> {
+    ghost Value = { ListTable };
+
+    ghost view = { λ c. list_table c.place.now c.ratio.now c.wraps.now };
+}
+
+impl<'a> ListColumns<'a> {
+    // The columns as one.
+    pub fn new(place: &'a [u32], ratio: &'a [f64], wraps: &'a [i32]) -> ListColumns<'a>
+        ensures { result ≡ list_table place.now ratio.now wraps.now }
+    {
+        ListColumns {
+            place,
+            ratio,
+            wraps,
+        }
+    }
+
+    // The place that entry i stands for.
+    pub fn place(&self, i: usize) -> u32
+        requires { i < length self.now.places }
+        ensures { result ≡ get_or self.now.places i 0 }
+    {
+        let place = self.place;
+        place[i]
+    }
+
+    // The ratio of entry i.
+    pub fn ratio(&self, i: usize) -> f64
+        requires { i < length self.now.ratios }
+        ensures { result ≡ get_or self.now.ratios i nan }
+    {
+        let ratio = self.ratio;
+        ratio[i]
+    }
+
+    // How many periods entry i was taken down.
+    pub fn wraps(&self, i: usize) -> i32
+        requires { i < length self.now.wraps }
+        ensures { result ≡ get_or self.now.wraps i (pos 0) }
+    {
+        let wraps = self.wraps;
+        wraps[i]
+    }
+
+    // Whether they hold the list of `count` items: place 0 and a place for each, ratios in 2^-900..2^900 that never fall, places
+    // within the count. Ratios and places are gone over once; of the wraparounds only the number is looked at.
+    pub fn holds(&self, count: usize) -> bool
+        ensures { result ≡ is_list count self.now }
+    {
+        is_list(self.place, self.ratio, self.wraps, count)
+    }
+
+    // The place of the first of n ratios that is not below x.
+    pub fn first_not_below(&self, n: usize, x: f64) -> usize
+        requires { (n ≤ length self.now.ratios) × AllPositive (take n self.now.ratios) × NeverFalls (take n self.now.ratios) × T (positive x) }
+        ensures { result ≡ first_not_below (take n self.now.ratios) x }
+    {
+        first_not_below(&self.ratio[..n], x)
+    }
 }

@@ -20,8 +20,10 @@ fn earlier(place: &[u32], ratio: &[f64], i: usize, j: usize) -> bool
     let b = ratio[j];
     if a < b {
         true
+    } else if b < a {
+        false
     } else {
-        if b < a { false } else { place[i] < place[j] }
+        place[i] < place[j]
     }
 }
 
@@ -53,15 +55,9 @@ fn swap_entries(place: &mut [u32], ratio: &mut [f64], wraps: &mut [i32], i: usiz
         × (ratio.new ≡ swapped nan ratio.old i j)
         × (wraps.new ≡ swapped (pos 0) wraps.old i j) }
 {
-    let p = place[i];
-    place[i] = place[j];
-    place[j] = p;
-    let r = ratio[i];
-    ratio[i] = ratio[j];
-    ratio[j] = r;
-    let w = wraps[i];
-    wraps[i] = wraps[j];
-    wraps[j] = w;
+    place.swap(i, j);
+    ratio.swap(i, j);
+    wraps.swap(i, j);
 }
 
 // Entry s goes down among the first k until no child is after it.
@@ -70,6 +66,7 @@ fn sift_down(place: &mut [u32], ratio: &mut [f64], wraps: &mut [i32], s: usize, 
     ensures { Sifts s k place.old ratio.old wraps.old place.new ratio.new wraps.new }
 {
     let mut i = s;
+    // A `while`: i goes from an entry to its child.
     while i < k {
         let c = top(place, ratio, i, k);
         if c == i {
@@ -87,6 +84,7 @@ fn heap_sort(place: &mut [u32], ratio: &mut [f64], wraps: &mut [i32])
 {
     let n = place.len();
     let mut s = n / 2;
+    // Two `while`s: they count down, and the heap is what is behind s, and then before k.
     while 0 < s {
         s -= 1;
         sift_down(place, ratio, wraps, s, n);
@@ -104,14 +102,11 @@ fn is_in_order(ratio: &[f64]) -> bool
     ensures { result ≡ in_order ratio.now }
 {
     let mut last = 0.0;
-    let mut i: usize = 0;
-    while i < ratio.len() {
-        let r = ratio[i];
-        if r < last {
+    for r in ratio {
+        if *r < last {
             return false;
         }
-        last = r;
-        i += 1;
+        last = *r;
     }
     true
 }

@@ -6,6 +6,7 @@ use Prim.Native.Nat.{ℕ, ◌≤◌, ◌<◌, ◌^◌}
 use native.Mathlib.Omega.{arith}
 use lib.ListN.{length, take, drop}
 use lib.Seq.{take-append-le, take-length}
+use Rattle.base.specs.Numbers.{number_of}
 use Rattle.base.specs.Said.{Said, gives, refuses, refusal, Numbered, NumberedOr}
 use Rattle.base.specs.declared.Refusal.{Refusal}
 use Rattle.base.proofs.Said.{no_value}
@@ -29,7 +30,7 @@ module _ {X A : Type 0} (says : X → Said A) {s : Said A} {x x' : X} (told : sa
   stored_part part old gave is-part = is-part ∙ ap (λ s. kept (field_of part s) old) (sym gave ∙ said)
 
   -- a refusal r: the result is its code, and what was there stays
-  pub refused : (r : Refusal) {n : ℕ} → says x' ≡ refusal r → n ≡ code r.number r.detail → n ≡ result s
+  pub refused : (r : Refusal) {n : ℕ} → says x' ≡ refusal r → n ≡ code (number_of r.reason) r.detail → n ≡ result s
   refused r gave coded = coded ∙ ap result (sym gave ∙ said)
 
   pub stays : (r : Refusal) (old : A) → says x' ≡ refusal r → old ≡ kept s old

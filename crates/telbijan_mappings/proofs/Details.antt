@@ -1,4 +1,5 @@
 -- The calls of this crate that read no text refuse with detail 0: a line for each. Assumes nothing.
+use Rattle.std.specs.Prelude.{Some, None, Option}
 use mathlib.Core.List.{List, [], ◌∷◌}
 use Prim.Native.Nat.{ℕ}
 use lib.IntN.{ℤ, ◌+ℤ◌, ◌*ℤ◌}
@@ -7,24 +8,20 @@ use Rattle.pitch.specs.declared.Pitch.{Pitch}
 use Rattle.kbm.specs.Degree.{degree_of_entry, degree_at, scale_degree_of}
 use Rattle.kbm.specs.Middle.{at_middle, scale_degree_from_middle}
 use Rattle.kbm.specs.Root.{root_of}
-use Rattle.kbm.specs.declared.Entry.{Entry}
-use Rattle.kbm.specs.declared.Entry.TheVariants.{Mapped, Unmapped}
 use Rattle.kbm.specs.declared.Kbm.{Kbm}
 use Rattle.kbm.specs.declared.KbmRoot.{KbmRoot}
 use Rattle.writing.specs.Fitted.{fitted, text_length}
 use Rattle.kbm_write.specs.Export.{export_of}
 use Rattle.kbm_build.specs.Builder.{builder_of, pushed, kbm_of, built}
 use Rattle.kbm_build.specs.declared.KbmBuilder.{KbmBuilder}
-use Rattle.kbm_build.specs.declared.Octave.{Octave}
-use Rattle.kbm_build.specs.declared.Octave.TheVariants.{Given, Missing}
 use Rattle.telbijan_answers.specs.Details.{Undetailed}
 use Rattle.telbijan_answers.proofs.Details.{steps, held_undetailed}
 
-entry_undetailed : (e : Entry) (q octave : ℤ) → Undetailed (degree_of_entry e q octave)
-entry_undetailed Unmapped q octave = Undetailed.number {n = 17}
-entry_undetailed (Mapped e) q octave = held_undetailed (e +ℤ q *ℤ octave)
+entry_undetailed : (e : (Option ℤ)) (q octave : ℤ) → Undetailed (degree_of_entry e q octave)
+entry_undetailed None q octave = Undetailed.number {n = 17}
+entry_undetailed (Some e) q octave = held_undetailed (e +ℤ q *ℤ octave)
 
-at_undetailed : (d octave : ℤ) (es : List Entry) → Undetailed (degree_at d octave es)
+at_undetailed : (d octave : ℤ) (es : List (Option ℤ)) → Undetailed (degree_at d octave es)
 unfolding degree_at
 at_undetailed d octave [] = Undetailed.value d
 at_undetailed d octave (e ∷ es) = search entry_undetailed
@@ -50,9 +47,9 @@ pub push_key_undetailed : (b : KbmBuilder) (map : List ℤ) → Undetailed (push
 unfolding pushed
 push_key_undetailed b map = search steps
 
-octave_undetailed : (b : KbmBuilder) (o : Octave) → Undetailed (kbm_of b o)
-octave_undetailed b (Given octave) = search steps
-octave_undetailed b Missing = search steps
+octave_undetailed : (b : KbmBuilder) (o : (Option ℤ)) → Undetailed (kbm_of b o)
+octave_undetailed b (Some octave) = search steps
+octave_undetailed b None = search steps
 
 pub build_kbm_undetailed : (b : KbmBuilder) (map : List ℤ) → Undetailed (built b map)
 unfolding built

@@ -1,4 +1,3 @@
-pub mod Stored
 pub mod Numbers
 pub mod Theorems
 pub mod Details

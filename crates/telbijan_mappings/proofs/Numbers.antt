@@ -1,5 +1,6 @@
 -- What the functions of this crate say is a value or one of document 01's numbers, and of a read and a build also 25, so a result is 0
 -- exactly where a value is stored (`zero_accepted` of telbijan_answers). Assumes nothing.
+use Rattle.std.specs.Prelude.{Some, None, Option}
 use mathlib.Core.Bool.{◌&&◌}
 use mathlib.Core.List.{List, [], ◌∷◌}
 use Prim.Native.Nat.{ℕ}
@@ -18,8 +19,6 @@ use Rattle.kbm.specs.Degree.{degree_of_entry, degree_at, in_range, scale_degree_
 use Rattle.kbm.specs.Middle.{at_middle, scale_degree_from_middle}
 use Rattle.kbm.specs.Root.{root_of}
 use Rattle.kbm.specs.Table.{is_table, table_of}
-use Rattle.kbm.specs.declared.Entry.{Entry}
-use Rattle.kbm.specs.declared.Entry.TheVariants.{Mapped, Unmapped}
 use Rattle.kbm.specs.declared.Kbm.{Kbm}
 use Rattle.writing.specs.Fitted.{fitted, text_length}
 use Rattle.kbm_write.specs.Export.{last_key_of, middle_key_of, export_text, export_of}
@@ -29,22 +28,20 @@ use Rattle.kbm_read.specs.Reader.{read_of}
 use Rattle.kbm_read.proofs.Numbers.{read_kbm_numbered}
 use Rattle.telbijan_answers.specs.Interface.{Coded}
 use Rattle.telbijan_answers.proofs.Interface.{coded_or}
-use Rattle.kbm_build.specs.declared.Octave.{Octave}
-use Rattle.kbm_build.specs.declared.Octave.TheVariants.{Given, Missing}
 
 held_numbered : (z : ℤ) → Numbered (held z)
 unfolding held
 held_numbered z = numbered_pick (in_i32 z) (Numbered.value z) (Numbered.number (omega arith) (omega arith))
 
 -- ---- degrees
-entry_numbered : (e : Entry) (q octave : ℤ) → Numbered (degree_of_entry e q octave)
-entry_numbered Unmapped q octave = Numbered.number {n = 17} (omega arith) (omega arith)
-entry_numbered (Mapped e) q octave = held_numbered (e +ℤ q *ℤ octave)
+entry_numbered : (e : (Option ℤ)) (q octave : ℤ) → Numbered (degree_of_entry e q octave)
+entry_numbered None q octave = Numbered.number {n = 17} (omega arith) (omega arith)
+entry_numbered (Some e) q octave = held_numbered (e +ℤ q *ℤ octave)
 
-at_numbered : (d octave : ℤ) (es : List Entry) → Numbered (degree_at d octave es)
+at_numbered : (d octave : ℤ) (es : List (Option ℤ)) → Numbered (degree_at d octave es)
 unfolding degree_at
 at_numbered d octave [] = Numbered.value d
-at_numbered d octave (e ∷ es) = entry_numbered (get_or (e ∷ es) (floor_mod d (length (e ∷ es))) Unmapped) (floor_div d (length (e ∷ es))) octave
+at_numbered d octave (e ∷ es) = entry_numbered (get_or (e ∷ es) (floor_mod d (length (e ∷ es))) None) (floor_div d (length (e ∷ es))) octave
 
 pub scale_degree_of_numbered : (kbm : Kbm) (map : List ℤ) (key : PianoKey) → Numbered (scale_degree_of kbm map key)
 unfolding scale_degree_of
@@ -82,9 +79,9 @@ with_numbered b octave =
     or_pick (is_backwards b.start b.end) NumberedOr.other
     (NumberedOr.known (numbered_pick (leb b.count 65535) (Numbered.value _) (Numbered.number (omega arith) (omega arith))))
 
-of_numbered : (b : KbmBuilder) (o : Octave) → NumberedOr backwards_range (kbm_of b o)
-of_numbered b (Given octave) = with_numbered b octave
-of_numbered b Missing = or_pick (ltb 0 b.count) (NumberedOr.known (Numbered.number (omega arith) (omega arith))) (with_numbered b (pos 0))
+of_numbered : (b : KbmBuilder) (o : (Option ℤ)) → NumberedOr backwards_range (kbm_of b o)
+of_numbered b (Some octave) = with_numbered b octave
+of_numbered b None = or_pick (ltb 0 b.count) (NumberedOr.known (Numbered.number (omega arith) (omega arith))) (with_numbered b (pos 0))
 
 pub build_kbm_numbered : (b : KbmBuilder) (map : List ℤ) → NumberedOr backwards_range (built b map)
 unfolding built

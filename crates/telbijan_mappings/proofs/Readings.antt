@@ -1,6 +1,7 @@
 -- THE CALL telbijan_read_kbm OVER THE LANGUAGE: accepted exactly for the texts of it that have room, with the one reading in what is
 -- stored and lent; refused exactly for the earliest fault, whose number and detail are in the result, with everything as it was.
 -- Assumes nothing.
+use Rattle.std.specs.Prelude.{Option}
 use mathlib.Core.Path.{◌≡◌, refl, sym, ◌∙◌, ap, subst}
 use mathlib.Core.Bool.{true}
 use mathlib.Core.List.{List}
@@ -10,7 +11,6 @@ use lib.ListN.{length}
 use Rattle.base.specs.Said.{Said, gives, refuses}
 use Rattle.base.specs.Tables.{over}
 use Rattle.kbm.specs.Table.{numbers_of, is_table, table_of}
-use Rattle.kbm.specs.declared.Entry.{Entry}
 use Rattle.kbm.specs.declared.Kbm.{Kbm}
 use Rattle.kbm_read.specs.Language.{MappingText, FaultText}
 use Rattle.kbm_read.specs.Reader.{read_of, entries_in}
@@ -50,14 +50,14 @@ module _ (text : List ℕ) (map : List ℤ) (old : Kbm) (r : ℕ) (left : List �
 
   -- a text of the language that has room: result 0, the mapping is stored, its entries are in the first places, and behind them stands
   -- what was there
-  pub language_call : {k : Kbm} {es : List Entry} → MappingText text k es → length es ≤ length map →
+  pub language_call : {k : Kbm} {es : List (Option ℤ)} → MappingText text k es → length es ≤ length map →
       (r ≡ 0) × (new ≡ k) × (left ≡ over map (numbers_of es))
   language_call {k} {es} t h =
       let e = ((accepts (length map) text k es).1 (t, h)).0 in
       (c.0 ∙ ap result e, c.2 ∙ ap (λ (s : Said Kbm). kept s old) e, c.1 ∙ read_over text map t h)
 
   -- ACCEPTED: the text is a mapping file that has room, and what is stored and lent is its one reading
-  pub accepted_call : r ≡ 0 → (es : List Entry) × MappingText text new es × (length es ≤ length map) × (left ≡ over map (numbers_of es))
+  pub accepted_call : r ≡ 0 → (es : List (Option ℤ)) × MappingText text new es × (length es ≤ length map) × (left ≡ over map (numbers_of es))
       × (is_table new.count left ≡ true) × (table_of new.count left ≡ es)
   accepted_call zero =
       let (k, e) = (zero_accepted said (read_kbm_coded (length map) text)).0 (sym c.0 ∙ zero) in

@@ -1,5 +1,6 @@
 -- For each input, refused ones too, a function of the interface has one possible result, and each value behind a pointer and each
 -- lent part of memory one possible state after it: document 01, "What the contracts settle". A line for each. Assumes nothing.
+use Rattle.std.specs.Prelude.{Some, None}
 use mathlib.Core.Bool.{Bool}
 use mathlib.Core.List.{List}
 use Prim.Native.Nat.{ℕ}
@@ -13,7 +14,6 @@ use Rattle.key.specs.Keys.{key}
 use Rattle.kbm.specs.Degree.{scale_degree_of}
 use Rattle.kbm.specs.Middle.{scale_degree_from_middle}
 use Rattle.kbm.specs.Root.{root_of}
-use Rattle.kbm.specs.declared.Entry.TheVariants.{Mapped, Unmapped}
 use Rattle.kbm.specs.declared.Kbm.{Kbm}
 use Rattle.kbm_build.specs.Builder.{pushed, after_push, built}
 use Rattle.kbm_read.specs.Reader.{read_of, after_read}
@@ -45,11 +45,11 @@ export_kbm_one map count start end reference hz offset octave out written = (one
 pub kbm_root_one : (reference : ℤ) (hz : Float) (offset : ℤ) → One (λ r. r) (result (root_of (key reference) (record { 0 = hz }) offset))
 kbm_root_one reference hz offset = one_result (result (root_of (key reference) (record { 0 = hz }) offset))
 
-pub push_mapped_key_one : (map : List ℤ) (room : ℕ) (count : ℕ) (degree : ℤ) (after : ℕ) → One (λ r. r) (result (pushed (pushing_with room count) map)) × (One (λ r. r) (after_push (pushing_with room count) map (Mapped degree)) × One (λ r. r) (kept (field_of (λ b. b.count) (pushed (pushing_with room count) map)) after))
-push_mapped_key_one map room count degree after = (one_result (result (pushed (pushing_with room count) map)), (one_result (after_push (pushing_with room count) map (Mapped degree)), one_result (kept (field_of (λ b. b.count) (pushed (pushing_with room count) map)) after)))
+pub push_mapped_key_one : (map : List ℤ) (room : ℕ) (count : ℕ) (degree : ℤ) (after : ℕ) → One (λ r. r) (result (pushed (pushing_with room count) map)) × (One (λ r. r) (after_push (pushing_with room count) map (Some degree)) × One (λ r. r) (kept (field_of (λ b. b.count) (pushed (pushing_with room count) map)) after))
+push_mapped_key_one map room count degree after = (one_result (result (pushed (pushing_with room count) map)), (one_result (after_push (pushing_with room count) map (Some degree)), one_result (kept (field_of (λ b. b.count) (pushed (pushing_with room count) map)) after)))
 
-pub push_unmapped_key_one : (map : List ℤ) (room : ℕ) (count : ℕ) (after : ℕ) → One (λ r. r) (result (pushed (pushing_with room count) map)) × (One (λ r. r) (after_push (pushing_with room count) map Unmapped) × One (λ r. r) (kept (field_of (λ b. b.count) (pushed (pushing_with room count) map)) after))
-push_unmapped_key_one map room count after = (one_result (result (pushed (pushing_with room count) map)), (one_result (after_push (pushing_with room count) map Unmapped), one_result (kept (field_of (λ b. b.count) (pushed (pushing_with room count) map)) after)))
+pub push_unmapped_key_one : (map : List ℤ) (room : ℕ) (count : ℕ) (after : ℕ) → One (λ r. r) (result (pushed (pushing_with room count) map)) × (One (λ r. r) (after_push (pushing_with room count) map None) × One (λ r. r) (kept (field_of (λ b. b.count) (pushed (pushing_with room count) map)) after))
+push_unmapped_key_one map room count after = (one_result (result (pushed (pushing_with room count) map)), (one_result (after_push (pushing_with room count) map None), one_result (kept (field_of (λ b. b.count) (pushed (pushing_with room count) map)) after)))
 
 pub build_kbm_one : (map : List ℤ) (room : ℕ) (count : ℕ) (start : ℤ) (end : ℤ) (reference : ℤ) (hz : Float) (offset : ℤ) (given : Bool) (octave : ℤ) (entries : ℕ) (formal : ℤ) → One (λ r. r) (result (built (builder_with room count start end reference hz offset (octave_with given octave)) map)) × (One (λ r. r) (kept (field_of (λ k. k.count) (built (builder_with room count start end reference hz offset (octave_with given octave)) map)) entries) × One (λ r. r) (kept (field_of (λ k. k.octave) (built (builder_with room count start end reference hz offset (octave_with given octave)) map)) formal))
 build_kbm_one map room count start end reference hz offset given octave entries formal = (one_result (result (built (builder_with room count start end reference hz offset (octave_with given octave)) map)), (one_result (kept (field_of (λ k. k.count) (built (builder_with room count start end reference hz offset (octave_with given octave)) map)) entries), one_result (kept (field_of (λ k. k.octave) (built (builder_with room count start end reference hz offset (octave_with given octave)) map)) formal)))

@@ -1,9 +1,8 @@
 -- The contracts of this crate's calls: what is lent, r the result, what is left. Assumes nothing.
-use Rattle.std.specs.Prelude.{◌≡◌, List, ℕ, ℤ, length}
+use Rattle.std.specs.Prelude.{◌≡◌, List, ℕ, ℤ, length, Option}
 use Rattle.key.specs.Keys.{key}
 use Rattle.kbm.specs.Degree.{scale_degree_of}
 use Rattle.kbm.specs.Middle.{scale_degree_from_middle}
-use Rattle.kbm.specs.declared.Entry.{Entry}
 use Rattle.kbm.specs.declared.Kbm.{Kbm}
 use Rattle.kbm_build.specs.Builder.{pushed, after_push, built}
 use Rattle.kbm_build.specs.declared.KbmBuilder.{KbmBuilder}
@@ -26,7 +25,7 @@ abbrev pub ExportKbm : List ℤ → Kbm → List ℕ → ℕ → ℕ → List �
 ExportKbm map kbm out size r bytes written = Written (export_of kbm map (length out)) out size r bytes written
 
 -- one entry more at place `count` of a table of `room` places; the new count is stored
-abbrev pub PushKey : Entry → List ℤ → ℕ → ℕ → ℕ → ℕ → List ℤ → ℕ → Type 0
+abbrev pub PushKey : (Option ℤ) → List ℤ → ℕ → ℕ → ℕ → ℕ → List ℤ → ℕ → Type 0
 PushKey entry map room count old r left next =
     (r ≡ result (pushed (pushing_with room count) map)) × (left ≡ after_push (pushing_with room count) map entry)
     × (next ≡ kept (field_of (λ b. b.count) (pushed (pushing_with room count) map)) old)

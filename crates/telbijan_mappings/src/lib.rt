@@ -1,16 +1,17 @@
 // Keyboard mappings for C: a lent table of entries, and beside it the mapping's numbers. An entry is a degree from -32768 to 32767, or -2147483648 for none.
 #![tactic(auto)]
 
-ghost use Rattle.std.specs.Prelude.{◌≡◌};
+ghost use Rattle.std.specs.Prelude.{◌≡◌, Some, None};
+ghost use Rattle.base.specs.Said.{outcome};
 ghost use Rattle.key.specs.Keys.{key};
 ghost use Rattle.kbm.specs.Root.{root_of};
-ghost use Rattle.kbm.specs.declared.Entry.TheVariants.{Mapped, Unmapped};
-ghost use Rattle.telbijan_answers.specs.Calls.{Answered};
+ghost use Rattle.telbijan_answers.specs.Calls.{Answered, StoredPart};
 ghost use Rattle.telbijan_mappings.specs.Calls.{ScaleDegreeOf, ScaleDegreeFromMiddle, ExportKbm, PushKey, BuildKbm, ReadKbm};
 ghost use Rattle.telbijan_mappings.specs.Mappings.{root_with, mapping_with, octave_with, builder_with, pushing_with};
 
-use kbm::{Kbm, KbmAnswer, KbmRoot, RootAnswer};
-use kbm_build::{BuilderAnswer, KbmBuilder, Octave};
+use base::Refusal;
+use kbm::{Kbm, KbmRoot};
+use kbm_build::KbmBuilder;
 use key::PianoKey;
 use pitch::Pitch;
 
@@ -38,11 +39,7 @@ pub fn mapping_with(
     ensures { result ≡ mapping_with count start end reference hz offset octave }
 {
     Kbm {
-        root: KbmRoot {
-            reference: PianoKey(reference),
-            pitch: Pitch(hz),
-            offset,
-        },
+        root: root_with(reference, hz, offset),
         start: PianoKey(start),
         end: PianoKey(end),
         octave,
@@ -116,17 +113,14 @@ pub fn telbijan_export_kbm(
         out.old written.old result out.new written.new }
 {
     let kbm = mapping_with(count, start, end, reference, hz, offset, octave);
-    telbijan_answers::store_size(kbm_write::export_kbm(kbm, map, out), written)
+    telbijan_answers::store(kbm_write::export_kbm(kbm, map, out), written)
 }
 
 // Whether a mapping's root can be used: 10 for a pitch outside 2^-10..2^20.
 pub fn telbijan_kbm_root(reference: i32, hz: f64, offset: i32) -> u64
     ensures { Answered (root_of (key reference) (record { 0 = hz }) offset) result }
 {
-    match KbmRoot::new(PianoKey(reference), Pitch(hz), offset) {
-        RootAnswer::Is(_) => 0,
-        RootAnswer::Refused(refusal) => telbijan_answers::code_of(refusal),
-    }
+    telbijan_answers::answered(KbmRoot::new(PianoKey(reference), Pitch(hz), offset))
 }
 
 // A builder that only pushes.
@@ -134,17 +128,20 @@ fn pushing(room: usize, count: usize) -> KbmBuilder
     ensures { result ≡ pushing_with room count }
 {
     KbmBuilder {
-        root: KbmRoot {
-            reference: PianoKey(0),
-            pitch: Pitch(1.0),
-            offset: 0,
-        },
+        root: root_with(0, 1.0, 0),
         start: PianoKey(0),
         end: PianoKey(128),
-        octave: Octave::Missing,
+        octave: None,
         room,
         count,
     }
+}
+
+// Stores the count of a builder.
+fn store_count(answer: Result<KbmBuilder, Refusal>, after: &mut usize) -> u64
+    ensures { StoredPart (λ b. b.count) (outcome answer) after.old result after.new }
+{
+    telbijan_answers::store(answer.map(|builder| builder.count), after)
 }
 
 // One mapped entry more, at place `count` of a table of `room` places; the new count is stored. 10 for a room or count that
@@ -156,16 +153,9 @@ pub fn telbijan_push_mapped_key(
     degree: i16,
     after: &mut usize,
 ) -> u64
-    ensures { PushKey (Mapped degree) map.old room count after.old result map.new after.new }
+    ensures { PushKey (Some degree) map.old room count after.old result map.new after.new }
 {
-    match pushing(room, count).push_mapped_key(map, degree) {
-        BuilderAnswer::Is(builder) => {
-            let next = builder.count;
-            *after = next;
-            0
-        }
-        BuilderAnswer::Refused(refusal) => telbijan_answers::code_of(refusal),
-    }
+    store_count(pushing(room, count).push_mapped_key(map, degree), after)
 }
 
 // One unmapped entry more, in the same way.
@@ -175,27 +165,9 @@ pub fn telbijan_push_unmapped_key(
     count: usize,
     after: &mut usize,
 ) -> u64
-    ensures { PushKey Unmapped map.old room count after.old result map.new after.new }
+    ensures { PushKey None map.old room count after.old result map.new after.new }
 {
-    match pushing(room, count).push_unmapped_key(map) {
-        BuilderAnswer::Is(builder) => {
-            let next = builder.count;
-            *after = next;
-            0
-        }
-        BuilderAnswer::Refused(refusal) => telbijan_answers::code_of(refusal),
-    }
-}
-
-// A formal octave that was given or not.
-fn octave_of(given: bool, octave: i16) -> Octave
-    ensures { result ≡ octave_with given octave }
-{
-    if given {
-        Octave::Given(octave)
-    } else {
-        Octave::Missing
-    }
+    store_count(pushing(room, count).push_unmapped_key(map), after)
 }
 
 // The mapping of the entries that were pushed: its count and its formal octave are stored. `given` says whether there is a formal
@@ -219,26 +191,20 @@ pub fn telbijan_build_kbm(
         entries.old formal.old result entries.new formal.new }
 {
     let builder = KbmBuilder {
-        root: KbmRoot {
-            reference: PianoKey(reference),
-            pitch: Pitch(hz),
-            offset,
-        },
+        root: root_with(reference, hz, offset),
         start: PianoKey(start),
         end: PianoKey(end),
-        octave: octave_of(given, octave),
+        octave: given.then_some(octave),
         room,
         count,
     };
     match builder.build(map) {
-        KbmAnswer::Is(kbm) => {
-            let size = kbm.count;
-            let degrees = kbm.octave;
-            *entries = size;
-            *formal = degrees;
+        Ok(kbm) => {
+            *entries = kbm.count;
+            *formal = kbm.octave;
             0
         }
-        KbmAnswer::Refused(refusal) => telbijan_answers::code_of(refusal),
+        Err(refusal) => telbijan_answers::code_of(refusal),
     }
 }
 
@@ -265,28 +231,16 @@ pub fn telbijan_read_kbm(
         offset.new octave.new) }
 {
     match kbm_read::read_kbm(text, map) {
-        KbmAnswer::Is(kbm) => {
-            let size = kbm.count;
-            let first = kbm.start;
-            let from = first.0;
-            let stop = kbm.end;
-            let to = stop.0;
-            let root = kbm.root;
-            let referred = root.reference;
-            let number = referred.0;
-            let sounding = root.pitch;
-            let frequency = sounding.0;
-            let apart = root.offset;
-            let degrees = kbm.octave;
-            *count = size;
-            *start = from;
-            *end = to;
-            *reference = number;
-            *hz = frequency;
-            *offset = apart;
-            *octave = degrees;
+        Ok(kbm) => {
+            *count = kbm.count;
+            *start = kbm.start.0;
+            *end = kbm.end.0;
+            *reference = kbm.root.reference.0;
+            *hz = kbm.root.pitch.0;
+            *offset = kbm.root.offset;
+            *octave = kbm.octave;
             0
         }
-        KbmAnswer::Refused(refusal) => telbijan_answers::code_of(refusal),
+        Err(refusal) => telbijan_answers::code_of(refusal),
     }
 }

@@ -1,9 +1,9 @@
 // Keyboard mappings for C: a lent table of entries, and beside it the mapping's numbers. An entry is a degree from -32768 to 32767, or -2147483648 for none.
 #![tactic(auto)]
 
+ghost use Rattle.std.specs.Prelude.{Some, None};
 ghost use Rattle.key.specs.Keys.{key};
 ghost use Rattle.kbm.specs.Root.{root_of};
-ghost use Rattle.kbm.specs.declared.Entry.TheVariants.{Mapped, Unmapped};
 ghost use Rattle.telbijan_answers.specs.Calls.{Answered};
 ghost use Rattle.telbijan_mappings.specs.Calls.{ScaleDegreeOf, ScaleDegreeFromMiddle, ExportKbm, PushKey, BuildKbm, ReadKbm};
 ghost use Rattle.telbijan_mappings.specs.Mappings.{mapping_with, octave_with, builder_with};
@@ -98,7 +98,7 @@ pub extern "C" fn telbijan_push_mapped_key(
     degree: i16,
     after: &mut usize,
 ) -> u64
-    ensures { PushKey (Mapped degree) map.old room count after.old result map.new after.new }
+    ensures { PushKey (Some degree) map.old room count after.old result map.new after.new }
 {
     telbijan_mappings::telbijan_push_mapped_key(map, room, count, degree, after)
 }
@@ -111,7 +111,7 @@ pub extern "C" fn telbijan_push_unmapped_key(
     count: usize,
     after: &mut usize,
 ) -> u64
-    ensures { PushKey Unmapped map.old room count after.old result map.new after.new }
+    ensures { PushKey None map.old room count after.old result map.new after.new }
 {
     telbijan_mappings::telbijan_push_unmapped_key(map, room, count, after)
 }

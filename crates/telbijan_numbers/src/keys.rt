@@ -8,14 +8,14 @@ use key::PianoKey;
 pub fn telbijan_checked_midi_number(number: i32, midi: &mut u8) -> u64
     ensures { Stored (midi_of (key number)) midi.old result midi.new }
 {
-    telbijan_answers::store_midi(PianoKey(number).checked_midi_number(), midi)
+    telbijan_answers::store(PianoKey(number).checked_midi_number(), midi)
 }
 
 // How many keys lie from one key up to another, stored; 11 outside 32 bits.
 pub fn telbijan_num_keys_before(number: i32, other: i32, steps: &mut i32) -> u64
     ensures { Stored (steps_between (key number) (key other)) steps.old result steps.new }
 {
-    telbijan_answers::store_i32(PianoKey(number).num_keys_before(PianoKey(other)), steps)
+    telbijan_answers::store(PianoKey(number).num_keys_before(PianoKey(other)), steps)
 }
 
 // The key that many steps after a key, stored; 11 outside 32 bits.

@@ -8,9 +8,8 @@ ghost use Rattle.telbijan_answers.specs.Calls.{Stored, StoredPart};
 ghost use Rattle.telbijan_numbers.specs.Calls.{RatioNearestFraction, RatioBestFraction};
 ghost use Rattle.telbijan_numbers.specs.Orders.{order_number};
 
-use best::BestAnswer;
-use fraction::NearestAnswer;
-use pitch::{Order, OrderAnswer, Pitch, Ratio};
+use pitch::{Pitch, Ratio};
+use std::cmp::Ordering;
 
 // The ratio of a number; 10 outside 2^-900..2^900.
 pub fn telbijan_ratio_from_float(value: f64, ratio: &mut f64) -> u64
@@ -79,28 +78,28 @@ pub fn telbijan_ratio_divided_into_equal_steps(value: f64, steps: f64, ratio: &m
 pub fn telbijan_ratio_num_equal_steps_of_size(value: f64, step: f64, count: &mut f64) -> u64
     ensures { Stored (steps_of_size value step) count.old result count.new }
 {
-    telbijan_answers::store_float(Ratio(value).num_equal_steps_of_size(Ratio(step)), count)
+    telbijan_answers::store(Ratio(value).num_equal_steps_of_size(Ratio(step)), count)
 }
 
 // The octaves of a ratio; 10.
 pub fn telbijan_ratio_as_octaves(value: f64, octaves: &mut f64) -> u64
     ensures { Stored (as_octaves value) octaves.old result octaves.new }
 {
-    telbijan_answers::store_float(Ratio(value).as_octaves(), octaves)
+    telbijan_answers::store(Ratio(value).as_octaves(), octaves)
 }
 
 // The semitones of a ratio; 10.
 pub fn telbijan_ratio_as_semitones(value: f64, semitones: &mut f64) -> u64
     ensures { Stored (as_semitones value) semitones.old result semitones.new }
 {
-    telbijan_answers::store_float(Ratio(value).as_semitones(), semitones)
+    telbijan_answers::store(Ratio(value).as_semitones(), semitones)
 }
 
 // The cents of a ratio; 10.
 pub fn telbijan_ratio_as_cents(value: f64, cents: &mut f64) -> u64
     ensures { Stored (as_cents value) cents.old result cents.new }
 {
-    telbijan_answers::store_float(Ratio(value).as_cents(), cents)
+    telbijan_answers::store(Ratio(value).as_cents(), cents)
 }
 
 // The interval turned over; 10.
@@ -142,17 +141,17 @@ pub fn telbijan_pitch_over_ratio(value: f64, ratio: f64, hz: &mut f64) -> u64
 pub fn telbijan_ratio_is_negligible(value: f64, negligible: &mut bool) -> u64
     ensures { Stored (is_negligible value) negligible.old result negligible.new }
 {
-    telbijan_answers::store_bool(Ratio(value).is_negligible(), negligible)
+    telbijan_answers::store(Ratio(value).is_negligible(), negligible)
 }
 
 // -1, 0 or 1: a lower ratio, the same, or a higher one.
-fn order_number(order: Order) -> i32
+fn order_number(order: Ordering) -> i32
     ensures { result ≡ order_number order }
 {
     match order {
-        Order::Lower => -1,
-        Order::Same => 0,
-        Order::Higher => 1,
+        Ordering::Less => -1,
+        Ordering::Equal => 0,
+        Ordering::Greater => 1,
     }
 }
 
@@ -160,13 +159,10 @@ fn order_number(order: Order) -> i32
 pub fn telbijan_ratio_total_cmp(value: f64, other: f64, order: &mut i32) -> u64
     ensures { StoredPart order_number (total_cmp value other) order.old result order.new }
 {
-    match Ratio(value).total_cmp(Ratio(other)) {
-        OrderAnswer::Is(answer) => {
-            *order = order_number(answer);
-            0
-        }
-        OrderAnswer::Refused(refusal) => telbijan_answers::code_of(refusal),
-    }
+    telbijan_answers::store(
+        Ratio(value).total_cmp(Ratio(other)).map(order_number),
+        order,
+    )
 }
 
 // The nearest fraction that the walk finds within the odd limit, octaves taken off: numer, denom, deviation and octaves are
@@ -184,19 +180,14 @@ pub fn telbijan_ratio_nearest_fraction(
         numer.new denom.new deviation.new octaves.new }
 {
     match fraction::nearest_fraction(Ratio(value), limit) {
-        NearestAnswer::Is(answer) => {
-            let n = answer.numer;
-            let d = answer.denom;
-            let ratio = answer.deviation;
-            let apart = ratio.0;
-            let whole = answer.num_octaves;
-            *numer = n;
-            *denom = d;
-            *deviation = apart;
-            *octaves = whole;
+        Ok(answer) => {
+            *numer = answer.numer;
+            *denom = answer.denom;
+            *deviation = answer.deviation.0;
+            *octaves = answer.num_octaves;
             0
         }
-        NearestAnswer::Refused(refusal) => telbijan_answers::code_of(refusal),
+        Err(refusal) => telbijan_answers::code_of(refusal),
     }
 }
 
@@ -216,16 +207,12 @@ pub fn telbijan_ratio_best_fraction(
         numer.new denom.new deviation.new }
 {
     match best::best_fraction(Ratio(value), limit) {
-        BestAnswer::Is(answer) => {
-            let over = answer.numer;
-            let under = answer.denom;
-            let ratio = answer.deviation;
-            let apart = ratio.0;
-            *numer = over;
-            *denom = under;
-            *deviation = apart;
+        Ok(found) => {
+            *numer = found.numer;
+            *denom = found.denom;
+            *deviation = found.deviation.0;
             0
         }
-        BestAnswer::Refused(refusal) => telbijan_answers::code_of(refusal),
+        Err(refusal) => telbijan_answers::code_of(refusal),
     }
 }

@@ -7,7 +7,7 @@ ghost use Rattle.telbijan_answers.specs.Calls.{Stored};
 pub fn telbijan_exp2(x: f64, power: &mut f64) -> u64
     ensures { Stored (E x) power.old result power.new }
 {
-    telbijan_answers::store_float(explog::exp2(x), power)
+    telbijan_answers::store(explog::exp2(x), power)
 }
 
 // L(x), the base 2 logarithm, stored; 18 outside 2^-900..2^900. It is above the true logarithm by |L(x)| * 2^-53 at most, and below
@@ -15,5 +15,5 @@ pub fn telbijan_exp2(x: f64, power: &mut f64) -> u64
 pub fn telbijan_log2(x: f64, logarithm: &mut f64) -> u64
     ensures { Stored (L x) logarithm.old result logarithm.new }
 {
-    telbijan_answers::store_float(explog::log2(x), logarithm)
+    telbijan_answers::store(explog::log2(x), logarithm)
 }

@@ -1,4 +1,5 @@
 -- The calls of this crate that read no text refuse with detail 0: a line for each. Assumes nothing.
+use Rattle.std.specs.Prelude.{None, Some, Option}
 use mathlib.Core.Bool.{Bool}
 use mathlib.Core.List.{List, [], ◌∷◌}
 use Prim.Native.Nat.{ℕ, zero, suc}
@@ -16,11 +17,7 @@ use Rattle.writing.specs.Fitted.{fitted, text_length}
 use Rattle.scl_write.specs.Export.{export_of}
 use Rattle.generate.specs.Generated.{made_of, counted_of, items_from}
 use Rattle.harmonics.specs.Segment.{steps_of}
-use Rattle.harmonics.specs.declared.segment.Divisions as divisions
-use Rattle.harmonics.specs.declared.segment.Divisions.TheVariants as divided
 use Rattle.harmonics.specs.declared.segment.SegmentType.{SegmentType}
-use Rattle.harmonics.specs.declared.segment.Steps as segment
-use Rattle.harmonics.specs.declared.segment.Steps.TheVariants.{Whole, Equal}
 use Rattle.harmonics.specs.Harmonics.{item_at, made_harmonics}
 use Rattle.rank2.specs.Notes.{ratios_from}
 use Rattle.rank2.specs.Rank2.{ascending_ratios, pushed_as, made_rank2}
@@ -77,15 +74,15 @@ unfolding items_from
 items_undetailed f h zero k = search steps
 items_undetailed f h (suc n) k = let rest = items_undetailed f h n (suc k) in search (steps, h, rest)
 
-item_undetailed : (type : SegmentType) (start size : ℕ) (s : segment.Steps) (j : ℕ) → Undetailed (item_at type start size s j)
-item_undetailed type start size Whole j = search steps
-item_undetailed type start size (Equal step) j = search floats depth 12
+item_undetailed : (type : SegmentType) (start size : ℕ) (s : Option Float) (j : ℕ) → Undetailed (item_at type start size s j)
+item_undetailed type start size None j = search steps
+item_undetailed type start size (Some step) j = search floats depth 12
 
-steps_undetailed : (start size : ℕ) (d : divisions.Divisions) → Undetailed (steps_of start size d)
-steps_undetailed start size divided.Lacking = search steps
-steps_undetailed start size (divided.Into number) = search floats depth 12
+steps_undetailed : (start size : ℕ) (d : Option ℕ) → Undetailed (steps_of start size d)
+steps_undetailed start size None = search steps
+steps_undetailed start size (Some number) = search floats depth 12
 
-harmonics_undetailed : (t : ItemTable) (l : ListTable) (type : SegmentType) (start size : ℕ) (d : divisions.Divisions) → Undetailed (counted_of (made_harmonics t l type start size d))
+harmonics_undetailed : (t : ItemTable) (l : ListTable) (type : SegmentType) (start size : ℕ) (d : Option ℕ) → Undetailed (counted_of (made_harmonics t l type start size d))
 unfolding made_harmonics
 harmonics_undetailed t l type start size d = search (steps, made_undetailed, steps_undetailed, items_undetailed, item_undetailed) depth 12
 

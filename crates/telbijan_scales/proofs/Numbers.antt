@@ -1,5 +1,6 @@
 -- What the functions of this crate say is a value or one of document 01's numbers, so a result is 0 exactly where a value is stored
 -- (`zero_accepted` of telbijan_answers). A line for each. Assumes nothing.
+use Rattle.std.specs.Prelude.{Some, None}
 use mathlib.Core.List.{List}
 use Prim.Native.Nat.{ℕ}
 use lib.ListN.{length}
@@ -10,7 +11,6 @@ use Rattle.base.proofs.Said.{numbered_then}
 use Rattle.sorted.specs.Lent.{ListTable}
 use Rattle.scl.specs.Items.{given_ratio}
 use Rattle.scl.specs.Table.{ItemTable, item_of}
-use Rattle.scl.specs.declared.Denom.TheVariants.{Given, Lacking}
 use Rattle.scl.specs.declared.Item.TheVariants.{Cents, Fraction}
 use Rattle.scl.proofs.Numbers.{given_ratio_numbered}
 use Rattle.scl_tables.specs.Room.{room_of}
@@ -44,11 +44,11 @@ push_cents_numbered items room count value = building.push_numbered (state room 
 pub push_ratio_numbered : (items : ItemTable) (room count : ℕ) (value : Float) → Numbered (pushed_ratio (state room count) items value)
 push_ratio_numbered items room count value = building.push_ratio_numbered (state room count) items value
 
-pub push_int_numbered : (items : ItemTable) (room count value : ℕ) → Numbered (pushed (state room count) items (Fraction value Lacking))
-push_int_numbered items room count value = building.push_numbered (state room count) items (Fraction value Lacking)
+pub push_int_numbered : (items : ItemTable) (room count value : ℕ) → Numbered (pushed (state room count) items (Fraction value None))
+push_int_numbered items room count value = building.push_numbered (state room count) items (Fraction value None)
 
-pub push_fraction_numbered : (items : ItemTable) (room count above below : ℕ) → Numbered (pushed (state room count) items (Fraction above (Given below)))
-push_fraction_numbered items room count above below = building.push_numbered (state room count) items (Fraction above (Given below))
+pub push_fraction_numbered : (items : ItemTable) (room count above below : ℕ) → Numbered (pushed (state room count) items (Fraction above (Some below)))
+push_fraction_numbered items room count above below = building.push_numbered (state room count) items (Fraction above (Some below))
 
 pub build_scl_numbered : (items : ItemTable) (list : ListTable) (room count : ℕ) → Numbered (counted (state room count) (built (state room count) items list))
 build_scl_numbered items list room count = building.build_numbered (state room count) items list

@@ -1,23 +1,23 @@
 -- For each input, refused ones too, a function of the interface has one possible result, and each value behind a pointer and each
 -- lent part of memory one possible state after it: document 01, "What the contracts settle". A line for each. Assumes nothing.
+use Rattle.std.specs.Prelude.{Result, Some, None}
+use Rattle.scl_build.specs.declared.SclBuilder.{SclBuilder}
+use Rattle.base.specs.declared.Refusal.{Refusal}
 use mathlib.Core.List.{List}
 use Prim.Native.Nat.{ℕ}
 use lib.Ieee.{Float}
 use lib.ListN.{length}
 use mathlib.Core.Bool.{Bool}
-use Rattle.base.specs.Said.{One}
+use Rattle.base.specs.Said.{One, outcome}
 use Rattle.base.proofs.Said.{one_result}
 use Rattle.base.specs.Tables.{after}
 use Rattle.scl.specs.Items.{given_ratio}
 use Rattle.scl.specs.Table.{ItemTable, item_of}
-use Rattle.scl.specs.declared.Denom.TheVariants.{Given, Lacking}
 use Rattle.scl.specs.declared.Item.TheVariants.{Cents, Fraction}
 use Rattle.sorted.specs.Lent.{ListTable}
 use Rattle.scl_tables.specs.Build.{after_list}
 use Rattle.scl_tables.specs.Room.{room_of}
-use Rattle.scl_build.specs.Answers.{says_builder}
 use Rattle.scl_build.specs.Builder.{state, builder_of, after_new, pushed, after_push, pushed_ratio, after_ratio, built, counted}
-use Rattle.scl_build.specs.declared.SclBuilderAnswer.{SclBuilderAnswer}
 use Rattle.scl_read.specs.Reader.{read_of, after_items, after_sorted}
 use Rattle.scl_read.specs.declared.SclRead.{SclRead}
 use Rattle.writing.specs.Fitted.{text_length}
@@ -45,17 +45,17 @@ read_scl_one text items list old = (
 pub new_scl_one : (items : ItemTable) (list : ListTable) (room : ℕ) → One (λ r. r) (result (builder_of items list)) × (One (λ r. r) (after_new items list) × One (λ r. r) (kept (field_of (λ b. b.room) (builder_of items list)) room))
 new_scl_one items list room = (one_result (result (builder_of items list)), (one_result (after_new items list), one_result (kept (field_of (λ b. b.room) (builder_of items list)) room)))
 
-pub store_count_one : (answer : SclBuilderAnswer) (after : ℕ) → One (λ r. r) (result (says_builder answer)) × One (λ r. r) (kept (field_of (λ b. b.count) (says_builder answer)) after)
-store_count_one answer after = (one_result (result (says_builder answer)), one_result (kept (field_of (λ b. b.count) (says_builder answer)) after))
+pub store_count_one : (answer : (Result SclBuilder Refusal)) (after : ℕ) → One (λ r. r) (result (outcome answer)) × One (λ r. r) (kept (field_of (λ b. b.count) (outcome answer)) after)
+store_count_one answer after = (one_result (result (outcome answer)), one_result (kept (field_of (λ b. b.count) (outcome answer)) after))
 
 pub push_cents_one : (items : ItemTable) (room count : ℕ) (value : Float) (after : ℕ) → One (λ r. r) (result (pushed (state room count) items (Cents value))) × (One (λ r. r) (after_push (state room count) items (Cents value)) × One (λ r. r) (kept (field_of (λ b. b.count) (pushed (state room count) items (Cents value))) after))
 push_cents_one items room count value after = (one_result (result (pushed (state room count) items (Cents value))), (one_result (after_push (state room count) items (Cents value)), one_result (kept (field_of (λ b. b.count) (pushed (state room count) items (Cents value))) after)))
 
-pub push_int_one : (items : ItemTable) (room count : ℕ) (value : ℕ) (after : ℕ) → One (λ r. r) (result (pushed (state room count) items (Fraction value Lacking))) × (One (λ r. r) (after_push (state room count) items (Fraction value Lacking)) × One (λ r. r) (kept (field_of (λ b. b.count) (pushed (state room count) items (Fraction value Lacking))) after))
-push_int_one items room count value after = (one_result (result (pushed (state room count) items (Fraction value Lacking))), (one_result (after_push (state room count) items (Fraction value Lacking)), one_result (kept (field_of (λ b. b.count) (pushed (state room count) items (Fraction value Lacking))) after)))
+pub push_int_one : (items : ItemTable) (room count : ℕ) (value : ℕ) (after : ℕ) → One (λ r. r) (result (pushed (state room count) items (Fraction value None))) × (One (λ r. r) (after_push (state room count) items (Fraction value None)) × One (λ r. r) (kept (field_of (λ b. b.count) (pushed (state room count) items (Fraction value None))) after))
+push_int_one items room count value after = (one_result (result (pushed (state room count) items (Fraction value None))), (one_result (after_push (state room count) items (Fraction value None)), one_result (kept (field_of (λ b. b.count) (pushed (state room count) items (Fraction value None))) after)))
 
-pub push_fraction_one : (items : ItemTable) (room count : ℕ) (above below : ℕ) (after : ℕ) → One (λ r. r) (result (pushed (state room count) items (Fraction above (Given below)))) × (One (λ r. r) (after_push (state room count) items (Fraction above (Given below))) × One (λ r. r) (kept (field_of (λ b. b.count) (pushed (state room count) items (Fraction above (Given below)))) after))
-push_fraction_one items room count above below after = (one_result (result (pushed (state room count) items (Fraction above (Given below)))), (one_result (after_push (state room count) items (Fraction above (Given below))), one_result (kept (field_of (λ b. b.count) (pushed (state room count) items (Fraction above (Given below)))) after)))
+pub push_fraction_one : (items : ItemTable) (room count : ℕ) (above below : ℕ) (after : ℕ) → One (λ r. r) (result (pushed (state room count) items (Fraction above (Some below)))) × (One (λ r. r) (after_push (state room count) items (Fraction above (Some below))) × One (λ r. r) (kept (field_of (λ b. b.count) (pushed (state room count) items (Fraction above (Some below)))) after))
+push_fraction_one items room count above below after = (one_result (result (pushed (state room count) items (Fraction above (Some below)))), (one_result (after_push (state room count) items (Fraction above (Some below))), one_result (kept (field_of (λ b. b.count) (pushed (state room count) items (Fraction above (Some below)))) after)))
 
 pub push_ratio_one : (items : ItemTable) (room count : ℕ) (value : Float) (after : ℕ) → One (λ r. r) (result (pushed_ratio (state room count) items value)) × (One (λ r. r) (after_ratio (state room count) items value) × One (λ r. r) (kept (field_of (λ b. b.count) (pushed_ratio (state room count) items value)) after))
 push_ratio_one items room count value after = (one_result (result (pushed_ratio (state room count) items value)), (one_result (after_ratio (state room count) items value), one_result (kept (field_of (λ b. b.count) (pushed_ratio (state room count) items value)) after)))

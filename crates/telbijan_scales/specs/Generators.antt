@@ -1,7 +1,5 @@
 -- What the interface for C says of a segment by numbers. Assumes nothing.
-use Rattle.std.specs.Prelude.{Bool, true, false, ℕ}
-use Rattle.harmonics.specs.declared.segment.Divisions.{Divisions}
-use Rattle.harmonics.specs.declared.segment.Divisions.TheVariants.{Into, Lacking}
+use Rattle.std.specs.Prelude.{Bool, true, false, ℕ, Some, None, Option}
 use Rattle.harmonics.specs.declared.segment.SegmentType.{SegmentType}
 use Rattle.harmonics.specs.declared.segment.SegmentType.TheVariants.{Otonal, Utonal}
 
@@ -10,6 +8,6 @@ segment_with true = Otonal
 segment_with false = Utonal
 
 -- divisions count where they were given
-abbrev pub divisions_with : Bool → ℕ → Divisions
-divisions_with true n = Into n
-divisions_with false n = Lacking
+abbrev pub divisions_with : Bool → ℕ → (Option ℕ)
+divisions_with true n = Some n
+divisions_with false n = None

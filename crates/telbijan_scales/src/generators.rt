@@ -6,7 +6,7 @@ ghost use Rattle.telbijan_answers.specs.Lent.{columns_old, columns_after, list_o
 ghost use Rattle.telbijan_scales.specs.Calls.{CreateScale};
 ghost use Rattle.telbijan_scales.specs.Generators.{segment_with, divisions_with};
 
-use harmonics::segment::{Divisions, SegmentType};
+use harmonics::segment::SegmentType;
 use pitch::Ratio;
 
 // Which segment.
@@ -17,17 +17,6 @@ fn segment_of(otonal: bool) -> SegmentType
         SegmentType::Otonal
     } else {
         SegmentType::Utonal
-    }
-}
-
-// Divisions that were given or not.
-fn divisions_of(divided: bool, divisions: u16) -> Divisions
-    ensures { result ≡ divisions_with divided divisions }
-{
-    if divided {
-        Divisions::Into(divisions)
-    } else {
-        Divisions::Lacking
     }
 }
 
@@ -57,7 +46,7 @@ pub fn telbijan_create_harmonics_scale(
         result (columns_after kind cents numer denom) (list_after place ratio wraps) count.new }
 {
     let segment = segment_of(otonal);
-    let into = divisions_of(divided, divisions);
+    let into = divided.then_some(divisions);
     let said = harmonics::create_harmonics_scale(
         segment, start, size, into, kind, cents, numer, denom, place, ratio, wraps,
     );

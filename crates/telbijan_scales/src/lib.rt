@@ -3,46 +3,24 @@
 
 pub mod generators;
 
+ghost use Rattle.std.specs.Prelude.{Some, None};
+ghost use Rattle.base.specs.Said.{outcome};
 ghost use Rattle.scl.specs.Table.{item_of};
-ghost use Rattle.scl.specs.declared.Denom.TheVariants.{Given, Lacking};
 ghost use Rattle.scl.specs.declared.Item.TheVariants.{Cents, Fraction};
-ghost use Rattle.scl_build.specs.Answers.{says_builder};
-ghost use Rattle.scl_read.specs.Reader.{says_read};
-ghost use Rattle.telbijan_answers.specs.Calls.{Stored, StoredPart};
+ghost use Rattle.telbijan_answers.specs.Calls.{StoredPart};
 ghost use Rattle.telbijan_answers.specs.Lent.{columns_before, columns_old, columns_after, list_before, list_old, list_after};
 ghost use Rattle.telbijan_scales.specs.Calls.{ItemAsRatio, read_with, ReadScl, NewScl, PushItem, PushRatio, BuildScl, ExportScl};
 
+use base::Refusal;
 use pitch::Ratio;
-use scl::Scl;
-use scl_build::{SclBuilder, SclBuilderAnswer};
-use scl_read::SclReadAnswer;
+use scl::{ItemColumns, Scl};
+use scl_build::SclBuilder;
 
 // The ratio of an item, stored: 10 for an item that cannot be used, one of an unknown kind too.
 pub fn telbijan_item_as_ratio(kind: u8, cents: f64, numer: u32, denom: u32, ratio: &mut f64) -> u64
     ensures { ItemAsRatio (item_of kind cents numer denom) ratio.old result ratio.new }
 {
     telbijan_answers::store_ratio(scl::item_of(kind, cents, numer, denom).as_ratio(), ratio)
-}
-
-// Stores the count of a scale that was read, and where its description starts and ends.
-fn store_read(answer: SclReadAnswer, count: &mut u16, start: &mut usize, end: &mut usize) -> u64
-    ensures { Stored (says_read answer) (read_with count.old start.old end.old)
-        result (read_with count.new start.new end.new) }
-{
-    match answer {
-        SclReadAnswer::Is(read) => {
-            let scl = read.scl;
-            let size = scl.count;
-            let description = read.description;
-            let from = description.start;
-            let to = description.end;
-            *count = size;
-            *start = from;
-            *end = to;
-            0
-        }
-        SclReadAnswer::Refused(refusal) => telbijan_answers::code_of(refusal),
-    }
 }
 
 // A scale file, read: its items go to the places after place 0, which gets the implicit 0.0 cents, and their sorted list to the
@@ -67,21 +45,14 @@ pub fn telbijan_read_scl(
         result (columns_after kind cents numer denom) (list_after place ratio wraps)
         (read_with count.new start.new end.new) }
 {
-    let said = scl_read::read_scl(text, kind, cents, numer, denom, place, ratio, wraps);
-    store_read(said, count, start, end)
-}
-
-// Stores the room of a builder.
-fn store_room(answer: SclBuilderAnswer, room: &mut usize) -> u64
-    ensures { StoredPart (λ b. b.room) (says_builder answer) room.old result room.new }
-{
-    match answer {
-        SclBuilderAnswer::Is(builder) => {
-            let places = builder.room;
-            *room = places;
+    match scl_read::read_scl(text, kind, cents, numer, denom, place, ratio, wraps) {
+        Ok(read) => {
+            *count = read.scl.count;
+            *start = read.description.start;
+            *end = read.description.end;
             0
         }
-        SclBuilderAnswer::Refused(refusal) => telbijan_answers::code_of(refusal),
+        Err(refusal) => telbijan_answers::code_of(refusal),
     }
 }
 
@@ -100,24 +71,15 @@ pub fn telbijan_new_scl(
     ensures { NewScl (columns_old kind cents numer denom) (list_before place ratio wraps) room.old
         result (columns_after kind cents numer denom) room.new }
 {
-    store_room(
-        SclBuilder::new(kind, cents, numer, denom, place, ratio, wraps),
-        room,
-    )
+    let said = SclBuilder::new(kind, cents, numer, denom, place, ratio, wraps);
+    telbijan_answers::store(said.map(|builder| builder.room), room)
 }
 
 // Stores the count of a builder.
-fn store_count(answer: SclBuilderAnswer, after: &mut usize) -> u64
-    ensures { StoredPart (λ b. b.count) (says_builder answer) after.old result after.new }
+fn store_count(answer: Result<SclBuilder, Refusal>, after: &mut usize) -> u64
+    ensures { StoredPart (λ b. b.count) (outcome answer) after.old result after.new }
 {
-    match answer {
-        SclBuilderAnswer::Is(builder) => {
-            let next = builder.count;
-            *after = next;
-            0
-        }
-        SclBuilderAnswer::Refused(refusal) => telbijan_answers::code_of(refusal),
-    }
+    telbijan_answers::store(answer.map(|builder| builder.count), after)
 }
 
 // One item in cents more, at place `count` + 1 of columns of `room` places; the new count is stored. 10 for a room or count that is
@@ -171,7 +133,7 @@ pub fn telbijan_push_int(
     value: u32,
     after: &mut usize,
 ) -> u64
-    ensures { PushItem (Fraction value Lacking) (columns_old kind cents numer denom) room count after.old
+    ensures { PushItem (Fraction value None) (columns_old kind cents numer denom) room count after.old
         result (columns_after kind cents numer denom) after.new }
 {
     let builder = SclBuilder { room, count };
@@ -190,7 +152,7 @@ pub fn telbijan_push_fraction(
     below: u32,
     after: &mut usize,
 ) -> u64
-    ensures { PushItem (Fraction above (Given below)) (columns_old kind cents numer denom) room count after.old
+    ensures { PushItem (Fraction above (Some below)) (columns_old kind cents numer denom) room count after.old
         result (columns_after kind cents numer denom) after.new }
 {
     let builder = SclBuilder { room, count };
@@ -239,7 +201,8 @@ pub fn telbijan_export_scl(
     ensures { ExportScl description.now (columns_before kind cents numer denom) (record { count = count })
         out.old written.old result out.new written.new }
 {
+    let items = ItemColumns::new(kind, cents, numer, denom);
     let scl = Scl { count };
-    let said = scl_write::export_scl(scl, description, kind, cents, numer, denom, out);
-    telbijan_answers::store_size(said, written)
+    let said = scl_write::export_scl(scl, description, &items, out);
+    telbijan_answers::store(said, written)
 }

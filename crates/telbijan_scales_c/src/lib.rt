@@ -3,8 +3,8 @@
 
 mod generators;
 
+ghost use Rattle.std.specs.Prelude.{Some, None};
 ghost use Rattle.scl.specs.Table.{item_of};
-ghost use Rattle.scl.specs.declared.Denom.TheVariants.{Given, Lacking};
 ghost use Rattle.scl.specs.declared.Item.TheVariants.{Cents, Fraction};
 ghost use Rattle.telbijan_answers.specs.Lent.{columns_before, columns_old, columns_after, list_before, list_old, list_after};
 ghost use Rattle.telbijan_scales.specs.Calls.{ItemAsRatio, read_with, ReadScl, NewScl, PushItem, PushRatio, BuildScl, ExportScl};
@@ -119,7 +119,7 @@ pub extern "C" fn telbijan_push_int(
     value: u32,
     after: &mut usize,
 ) -> u64
-    ensures { PushItem (Fraction value Lacking) (columns_old kind cents numer denom) room count after.old
+    ensures { PushItem (Fraction value None) (columns_old kind cents numer denom) room count after.old
         result (columns_after kind cents numer denom) after.new }
 {
     telbijan_scales::telbijan_push_int(kind, cents, numer, denom, room, count, value, after)
@@ -138,7 +138,7 @@ pub extern "C" fn telbijan_push_fraction(
     below: u32,
     after: &mut usize,
 ) -> u64
-    ensures { PushItem (Fraction above (Given below)) (columns_old kind cents numer denom) room count after.old
+    ensures { PushItem (Fraction above (Some below)) (columns_old kind cents numer denom) room count after.old
         result (columns_after kind cents numer denom) after.new }
 {
     telbijan_scales::telbijan_push_fraction(

@@ -15,7 +15,7 @@ use Rattle.kbm.specs.Degree.{degree_of}
 use Rattle.kbm.specs.Keys.{Has}
 use Rattle.kbm.specs.Middle.{reference_degree}
 use Rattle.kbm.specs.ReferenceKey.{ReferenceHas}
-use Rattle.kbm.specs.declared.Entry as mapped
+use Rattle.std.specs.Prelude.{Option}
 use Rattle.kbm.specs.declared.Kbm.{Kbm}
 use Rattle.kbm.specs.declared.KbmRoot.{KbmRoot}
 use Rattle.kbm.proofs.Language.{has}
@@ -60,7 +60,7 @@ sorted_pitch_undetailed : (items : List Item) (es : List Entry) (root : KbmRoot)
 unfolding sorted_pitch_of sorted_pitch_from
 sorted_pitch_undetailed items es root d = search (floats, sorted_relative_undetailed, root_pitch_undetailed) depth 12
 
-has_undetailed : {kbm : Kbm} {es : List mapped.Entry} {k : PianoKey} {s : Said ℤ} → Has kbm es k s → Undetailed s
+has_undetailed : {kbm : Kbm} {es : List (Option ℤ)} {k : PianoKey} {s : Said ℤ} → Has kbm es k s → Undetailed s
 has_undetailed (Has.outside a e) = subst Undetailed (sym e) Undetailed.number
 has_undetailed (Has.far a b e) = subst Undetailed (sym e) Undetailed.number
 has_undetailed (Has.plain a b c e) = subst Undetailed (sym e) (Undetailed.value _)
@@ -68,11 +68,11 @@ has_undetailed (Has.none a b q r e) = subst Undetailed (sym e) Undetailed.number
 has_undetailed (Has.passed a b q z r c e) = subst Undetailed (sym e) Undetailed.number
 has_undetailed (Has.degree a b q z r c e) = subst Undetailed (sym e) (Undetailed.value _)
 
-degree_undetailed : (kbm : Kbm) (es : List mapped.Entry) (k : PianoKey) → Undetailed (degree_of kbm es k)
+degree_undetailed : (kbm : Kbm) (es : List (Option ℤ)) (k : PianoKey) → Undetailed (degree_of kbm es k)
 degree_undetailed kbm es k = has_undetailed (has kbm es k)
 
 -- the reference key's, counted from the middle key
-reference_undetailed : (kbm : Kbm) (es : List mapped.Entry) → Undetailed (reference_degree kbm es)
+reference_undetailed : (kbm : Kbm) (es : List (Option ℤ)) → Undetailed (reference_degree kbm es)
 reference_undetailed kbm es = go ((reference_has kbm es (reference_degree kbm es)).0 refl)
   where
     go : {s : Said ℤ} → ReferenceHas kbm es s → Undetailed s

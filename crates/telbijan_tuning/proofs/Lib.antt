@@ -1,6 +1,5 @@
 pub mod Theorems
 pub mod Numbers
-pub mod Handed
 pub mod Details
 pub mod Samples
 pub mod MiddleSamples

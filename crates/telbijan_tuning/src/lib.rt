@@ -5,8 +5,7 @@ pub mod middle;
 pub mod searches;
 
 ghost use Rattle.key.specs.Keys.{key};
-ghost use Rattle.tuning.specs.Run.{says_run};
-ghost use Rattle.telbijan_answers.specs.Calls.{Answered, Stored};
+ghost use Rattle.telbijan_answers.specs.Calls.{Stored};
 ghost use Rattle.telbijan_answers.specs.Lent.{columns_before, list_before};
 ghost use Rattle.telbijan_mappings.specs.Mappings.{root_with, mapping_with};
 ghost use Rattle.telbijan_tuning.specs.Calls.{PitchesOf};
@@ -14,8 +13,8 @@ ghost use Rattle.telbijan_tuning.specs.Tunings.{period_said, relative_said, sort
 ghost use Rattle.telbijan_tuning.specs.Tunings.{sorted_pitch_said, maybe_pitch_said, maybe_degree_pitch_said};
 
 use key::{Degree, PianoKey};
-use scl::Scl;
-use tuning::key_pitches::RunAnswer;
+use scl::{ItemColumns, Scl};
+use sorted::ListColumns;
 
 // The period of a scale, the ratio of its last item, stored; of a scale without items that of place 0. 10 for items that cannot be used.
 pub fn telbijan_period(
@@ -28,8 +27,9 @@ pub fn telbijan_period(
 ) -> u64
     ensures { Stored (period_said count (columns_before kind cents numer denom)) period.old result period.new }
 {
+    let items = ItemColumns::new(kind, cents, numer, denom);
     let scl = Scl { count };
-    telbijan_answers::store_ratio(relative::period(scl, kind, cents, numer, denom), period)
+    telbijan_answers::store_ratio(relative::period(scl, &items), period)
 }
 
 // The ratio of a degree to degree 0, stored: 10 for items that cannot be used, 18 where the ratio lies outside 2^-900..2^900.
@@ -45,9 +45,10 @@ pub fn telbijan_relative_pitch_of(
     ensures { Stored (relative_said count (columns_before kind cents numer denom) degree)
         relative.old result relative.new }
 {
+    let items = ItemColumns::new(kind, cents, numer, denom);
     let scl = Scl { count };
     telbijan_answers::store_ratio(
-        relative::relative_pitch_of(scl, kind, cents, numer, denom, Degree(degree)),
+        relative::relative_pitch_of(scl, &items, Degree(degree)),
         relative,
     )
 }
@@ -68,19 +69,11 @@ pub fn telbijan_sorted_relative_pitch_of(
     ensures { Stored (sorted_relative_said count (columns_before kind cents numer denom) (list_before place ratio wraps) degree)
         relative.old result relative.new }
 {
+    let items = ItemColumns::new(kind, cents, numer, denom);
+    let list = ListColumns::new(place, ratio, wraps);
     let scl = Scl { count };
     telbijan_answers::store_ratio(
-        relative::sorted_relative_pitch_of(
-            scl,
-            kind,
-            cents,
-            numer,
-            denom,
-            place,
-            ratio,
-            wraps,
-            Degree(degree),
-        ),
+        relative::sorted_relative_pitch_of(scl, &items, &list, Degree(degree)),
         relative,
     )
 }
@@ -102,12 +95,10 @@ pub fn telbijan_pitch_of(
     ensures { Stored (pitch_said count (columns_before kind cents numer denom) (root_with reference hz offset) degree)
         pitch.old result pitch.new }
 {
+    let items = ItemColumns::new(kind, cents, numer, denom);
     let scl = Scl { count };
     let root = telbijan_mappings::root_with(reference, hz, offset);
-    telbijan_answers::store_pitch(
-        tuning::pitch_of(scl, kind, cents, numer, denom, root, Degree(degree)),
-        pitch,
-    )
+    telbijan_answers::store_pitch(tuning::pitch_of(scl, &items, root, Degree(degree)), pitch)
 }
 
 // The pitch of a key, whose degree is its distance from the reference key: 10, 11 where the distance passes 32 bits, 11 for the root
@@ -127,10 +118,11 @@ pub fn telbijan_pitch_of_key(
     ensures { Stored (key_pitch_said count (columns_before kind cents numer denom) (root_with reference hz offset) (key number))
         pitch.old result pitch.new }
 {
+    let items = ItemColumns::new(kind, cents, numer, denom);
     let scl = Scl { count };
     let root = telbijan_mappings::root_with(reference, hz, offset);
     telbijan_answers::store_pitch(
-        tuning::pitch_of_key(scl, kind, cents, numer, denom, root, PianoKey(number)),
+        tuning::pitch_of_key(scl, &items, root, PianoKey(number)),
         pitch,
     )
 }
@@ -154,21 +146,12 @@ pub fn telbijan_sorted_pitch_of(
     ensures { Stored (sorted_pitch_said count (columns_before kind cents numer denom) (list_before place ratio wraps)
         (root_with reference hz offset) degree) pitch.old result pitch.new }
 {
+    let items = ItemColumns::new(kind, cents, numer, denom);
+    let list = ListColumns::new(place, ratio, wraps);
     let scl = Scl { count };
     let root = telbijan_mappings::root_with(reference, hz, offset);
     telbijan_answers::store_pitch(
-        tuning::sorted_pitch_of(
-            scl,
-            kind,
-            cents,
-            numer,
-            denom,
-            place,
-            ratio,
-            wraps,
-            root,
-            Degree(degree),
-        ),
+        tuning::sorted_pitch_of(scl, &items, &list, root, Degree(degree)),
         pitch,
     )
 }
@@ -196,10 +179,11 @@ pub fn telbijan_maybe_pitch_of(
         (mapping_with size start end reference hz offset octave) map.now (key number))
         pitch.old result pitch.new }
 {
+    let items = ItemColumns::new(kind, cents, numer, denom);
     let scl = Scl { count };
     let kbm = telbijan_mappings::mapping_with(size, start, end, reference, hz, offset, octave);
     telbijan_answers::store_pitch(
-        tuning::maybe_pitch_of(scl, kind, cents, numer, denom, kbm, map, PianoKey(number)),
+        tuning::maybe_pitch_of(scl, &items, kbm, map, PianoKey(number)),
         pitch,
     )
 }
@@ -226,22 +210,13 @@ pub fn telbijan_maybe_pitch_of_degree(
         (mapping_with size start end reference hz offset octave) map.now degree)
         pitch.old result pitch.new }
 {
+    let items = ItemColumns::new(kind, cents, numer, denom);
     let scl = Scl { count };
     let kbm = telbijan_mappings::mapping_with(size, start, end, reference, hz, offset, octave);
     telbijan_answers::store_pitch(
-        tuning::maybe_pitch_of_degree(scl, kind, cents, numer, denom, kbm, map, Degree(degree)),
+        tuning::maybe_pitch_of_degree(scl, &items, kbm, map, Degree(degree)),
         pitch,
     )
-}
-
-// The result of a run of keys.
-fn code_of_run(said: RunAnswer) -> u64
-    ensures { Answered (says_run said) result }
-{
-    match said {
-        RunAnswer::Done => 0,
-        RunAnswer::Refused(refusal) => telbijan_answers::code_of(refusal),
-    }
 }
 
 // The pitches of `keys` keys of a mapping, from key `first` on, and beside each its refusal's number, 0 for a pitch: 10 for tables or a
@@ -269,14 +244,12 @@ pub fn telbijan_pitches_of(
     ensures { PitchesOf count (columns_before kind cents numer denom) (mapping_with size start end reference hz offset octave)
         map.now first keys pitches.old numbers.old result pitches.new numbers.new }
 {
+    let items = ItemColumns::new(kind, cents, numer, denom);
     let scl = Scl { count };
     let kbm = telbijan_mappings::mapping_with(size, start, end, reference, hz, offset, octave);
     let said = tuning::key_pitches::pitches_of(
         scl,
-        kind,
-        cents,
-        numer,
-        denom,
+        &items,
         kbm,
         map,
         PianoKey(first),
@@ -284,5 +257,5 @@ pub fn telbijan_pitches_of(
         pitches,
         numbers,
     );
-    code_of_run(said)
+    telbijan_answers::answered(said)
 }

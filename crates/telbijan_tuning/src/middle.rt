@@ -7,7 +7,7 @@ ghost use Rattle.telbijan_tuning.specs.Calls.{PitchesFromMiddle};
 ghost use Rattle.telbijan_tuning.specs.Tunings.{maybe_pitch_from_middle_said};
 
 use key::PianoKey;
-use scl::Scl;
+use scl::{ItemColumns, Scl};
 
 // The pitch of a key of a mapping counted from the middle key, stored: `hz` over the ratio of the reference key's own degree, times that of
 // the key's degree. 10 for tables or a root's pitch that cannot be used; of the key 16 outside start..end, 11 where its distance from the
@@ -34,10 +34,11 @@ pub fn telbijan_maybe_pitch_from_middle(
         (mapping_with size start end reference hz offset octave) map.now (key number))
         pitch.old result pitch.new }
 {
+    let items = ItemColumns::new(kind, cents, numer, denom);
     let scl = Scl { count };
     let kbm = telbijan_mappings::mapping_with(size, start, end, reference, hz, offset, octave);
     telbijan_answers::store_pitch(
-        tuning::maybe_pitch_from_middle(scl, kind, cents, numer, denom, kbm, map, PianoKey(number)),
+        tuning::maybe_pitch_from_middle(scl, &items, kbm, map, PianoKey(number)),
         pitch,
     )
 }
@@ -68,14 +69,12 @@ pub fn telbijan_pitches_from_middle(
     ensures { PitchesFromMiddle count (columns_before kind cents numer denom) (mapping_with size start end reference hz offset octave)
         map.now first keys pitches.old numbers.old result pitches.new numbers.new }
 {
+    let items = ItemColumns::new(kind, cents, numer, denom);
     let scl = Scl { count };
     let kbm = telbijan_mappings::mapping_with(size, start, end, reference, hz, offset, octave);
     let said = tuning::key_pitches::pitches_from_middle(
         scl,
-        kind,
-        cents,
-        numer,
-        denom,
+        &items,
         kbm,
         map,
         PianoKey(first),
@@ -83,5 +82,5 @@ pub fn telbijan_pitches_from_middle(
         pitches,
         numbers,
     );
-    crate::code_of_run(said)
+    telbijan_answers::answered(said)
 }

@@ -1,45 +1,28 @@
 // Searches for C: the degree or key that comes nearest to a ratio or a pitch, over a scale's lent columns.
-ghost use Rattle.searching.specs.DegreeAnswers.{says_degree_search, says_key_search};
+ghost use Rattle.base.specs.Said.{outcome};
 ghost use Rattle.telbijan_answers.specs.Lent.{columns_before, list_before};
 ghost use Rattle.telbijan_mappings.specs.Mappings.{root_with};
 ghost use Rattle.telbijan_tuning.specs.Calls.{SearchStored};
 ghost use Rattle.telbijan_tuning.specs.Searches.{find_said, find_sorted_said, find_pitch_said, find_pitch_sorted_said, find_key_said};
 
+use base::Refusal;
 use pitch::{Pitch, Ratio};
-use scl::Scl;
-use searching::approximation::{DegreeSearch, KeySearch};
+use scl::{ItemColumns, Scl};
+use searching::approximation::Approximation;
+use sorted::ListColumns;
 
-// Stores the degree that was found, and the deviation.
-fn store_degree(answer: DegreeSearch, number: &mut i32, deviation: &mut f64) -> u64
-    ensures { SearchStored (says_degree_search answer)
+// Stores the degree or key that was found, and the deviation.
+fn store_found(answer: Result<Approximation, Refusal>, number: &mut i32, deviation: &mut f64) -> u64
+    ensures { SearchStored (outcome answer)
         number.old deviation.old result number.new deviation.new }
 {
     match answer {
-        DegreeSearch::Degree(found) => {
-            let value = found.approx_value;
-            let apart = found.deviation;
-            *number = value;
-            *deviation = apart;
+        Ok(found) => {
+            *number = found.approx_value;
+            *deviation = found.deviation;
             0
         }
-        DegreeSearch::Refused(refusal) => telbijan_answers::code_of(refusal),
-    }
-}
-
-// Stores the key that was found, and the deviation.
-fn store_key(answer: KeySearch, number: &mut i32, deviation: &mut f64) -> u64
-    ensures { SearchStored (says_key_search answer)
-        number.old deviation.old result number.new deviation.new }
-{
-    match answer {
-        KeySearch::Key(found) => {
-            let value = found.approx_value;
-            let apart = found.deviation;
-            *number = value;
-            *deviation = apart;
-            0
-        }
-        KeySearch::Refused(refusal) => telbijan_answers::code_of(refusal),
+        Err(refusal) => telbijan_answers::code_of(refusal),
     }
 }
 
@@ -63,19 +46,11 @@ pub fn telbijan_find_by_relative_pitch(
     ensures { SearchStored (find_said count (columns_before kind cents numer denom) (list_before place ratio wraps) target)
         degree.old deviation.old result degree.new deviation.new }
 {
+    let items = ItemColumns::new(kind, cents, numer, denom);
+    let list = ListColumns::new(place, ratio, wraps);
     let scl = Scl { count };
-    store_degree(
-        finding::find_by_relative_pitch(
-            scl,
-            kind,
-            cents,
-            numer,
-            denom,
-            place,
-            ratio,
-            wraps,
-            Ratio(target),
-        ),
+    store_found(
+        finding::find_by_relative_pitch(scl, &items, &list, Ratio(target)),
         degree,
         deviation,
     )
@@ -98,19 +73,11 @@ pub fn telbijan_find_by_relative_pitch_sorted(
     ensures { SearchStored (find_sorted_said count (columns_before kind cents numer denom) (list_before place ratio wraps) target)
         degree.old deviation.old result degree.new deviation.new }
 {
+    let items = ItemColumns::new(kind, cents, numer, denom);
+    let list = ListColumns::new(place, ratio, wraps);
     let scl = Scl { count };
-    store_degree(
-        finding::find_by_relative_pitch_sorted(
-            scl,
-            kind,
-            cents,
-            numer,
-            denom,
-            place,
-            ratio,
-            wraps,
-            Ratio(target),
-        ),
+    store_found(
+        finding::find_by_relative_pitch_sorted(scl, &items, &list, Ratio(target)),
         degree,
         deviation,
     )
@@ -139,21 +106,12 @@ pub fn telbijan_find_by_pitch(
         (root_with reference hz offset) pitch)
         degree.old deviation.old result degree.new deviation.new }
 {
+    let items = ItemColumns::new(kind, cents, numer, denom);
+    let list = ListColumns::new(place, ratio, wraps);
     let scl = Scl { count };
     let root = telbijan_mappings::root_with(reference, hz, offset);
-    store_degree(
-        finding::find_by_pitch(
-            scl,
-            kind,
-            cents,
-            numer,
-            denom,
-            place,
-            ratio,
-            wraps,
-            root,
-            Pitch(pitch),
-        ),
+    store_found(
+        finding::find_by_pitch(scl, &items, &list, root, Pitch(pitch)),
         degree,
         deviation,
     )
@@ -180,21 +138,12 @@ pub fn telbijan_find_by_pitch_sorted(
         (root_with reference hz offset) pitch)
         degree.old deviation.old result degree.new deviation.new }
 {
+    let items = ItemColumns::new(kind, cents, numer, denom);
+    let list = ListColumns::new(place, ratio, wraps);
     let scl = Scl { count };
     let root = telbijan_mappings::root_with(reference, hz, offset);
-    store_degree(
-        finding::find_by_pitch_sorted(
-            scl,
-            kind,
-            cents,
-            numer,
-            denom,
-            place,
-            ratio,
-            wraps,
-            root,
-            Pitch(pitch),
-        ),
+    store_found(
+        finding::find_by_pitch_sorted(scl, &items, &list, root, Pitch(pitch)),
         degree,
         deviation,
     )
@@ -222,21 +171,12 @@ pub fn telbijan_find_key_by_pitch(
         (root_with reference hz offset) pitch)
         number.old deviation.old result number.new deviation.new }
 {
+    let items = ItemColumns::new(kind, cents, numer, denom);
+    let list = ListColumns::new(place, ratio, wraps);
     let scl = Scl { count };
     let root = telbijan_mappings::root_with(reference, hz, offset);
-    store_key(
-        finding::find_key_by_pitch(
-            scl,
-            kind,
-            cents,
-            numer,
-            denom,
-            place,
-            ratio,
-            wraps,
-            root,
-            Pitch(pitch),
-        ),
+    store_found(
+        finding::find_key_by_pitch(scl, &items, &list, root, Pitch(pitch)),
         number,
         deviation,
     )

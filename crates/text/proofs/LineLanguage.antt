@@ -13,7 +13,7 @@ use Rattle.base.specs.Said.{pick}
 use Rattle.base.proofs.Pick.{true_not_false}
 use Rattle.utf8.specs.Characters.{Row}
 use Rattle.text.specs.Cut.{lines}
-use Rattle.text.specs.Reading.{Reading, strict, Comment, Meaning, invalid, blank, comment, content, Line, EachLine, Says}
+use Rattle.text.specs.Reading.{Reading, strict, Comment, Meaning, invalid, comment, content, Line, EachLine, Says}
 use Rattle.white.specs.White.{Trimmed}
 use Rattle.text.specs.ReadLine.{token_length, Way, strictly, part_meaning, meaning_by, meanings}
 use Rattle.white.specs.Trim.{trim_by}

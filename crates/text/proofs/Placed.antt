@@ -1,8 +1,8 @@
 -- The law of a reader's turn with the places of each line, and that these lines say what the text says. Assumes nothing.
-use mathlib.Core.Path.{◌≡◌, refl, sym, ◌∙◌, ap}
+use mathlib.Core.Path.{◌≡◌, refl, ◌∙◌, ap}
 use mathlib.Core.List.{List, [], ◌∷◌}
 use mathlib.Core.Bool.{Bool, true, false}
-use Prim.Native.Nat.{ℕ, zero, suc, ◌+◌, ◌-◌, ◌≤◌, ◌<◌}
+use Prim.Native.Nat.{ℕ, zero, suc, ◌+◌, ◌≤◌, ◌<◌}
 use native.Mathlib.Omega.{arith}
 use lib.Dec.{eqb, ltb}
 use lib.ListN.{length, drop, length-drop, drop_of_length-le}
@@ -10,9 +10,9 @@ use lib.Seq.{drop-drop}
 use borrow.Author.Tests.{ltb-true, ltb-false}
 use Rattle.base.specs.Said.{pick}
 use Rattle.base.proofs.Pick.{pick_both, pick_never}
-use Rattle.text.specs.Cut.{lines, cut, is_cr, skip}
+use Rattle.text.specs.Cut.{cut, is_cr, skip}
 use Rattle.text.specs.Placed.{starts_from, placed_by, placed_from, placed_in}
-use Rattle.text.specs.ReadLine.{strictly, meanings, said_in, line_of, shown}
+use Rattle.text.specs.ReadLine.{strictly, said_in, line_of, shown}
 use Rattle.text.specs.Reading.{Meaning}
 use Rattle.text.specs.declared.line.LineSays.{LineSays}
 use Rattle.text.specs.declared.lines.Ends.{Ends}

@@ -3,7 +3,6 @@
 use Rattle.std.specs.Prelude.{List, [], ◌∷◌, Bool, true, false, ℕ, ◌+◌, eqb}
 use Rattle.text.specs.Cut.{lines}
 use Rattle.text.specs.ReadLine.{Way, strictly, line_by}
-use Rattle.text.specs.Reading.{Meaning}
 use Rattle.text.specs.declared.line.LineSays.{LineSays}
 
 -- where lines start in what stands from k on: at its first byte, if a line is to start there, and at each byte after an LF

@@ -24,33 +24,19 @@ pub enum LineSays {
 fn is_split(b: u8) -> bool
     ensures { result ≡ splits b }
 {
-    if b == 32 {
-        return true;
-    }
-    if b == 9 {
-        return true;
-    }
-    if b == 10 {
-        return true;
-    }
-    if b == 12 {
-        return true;
-    }
-    b == 13
+    matches!(b, b' ' | b'\t' | b'\n' | 12 | b'\r')
 }
 
 // How long the token is that `s` starts with.
 pub fn token_end(s: &[u8]) -> usize
     ensures { result ≡ token_length s.now }
 {
-    let mut i = 0;
-    while i < s.len() {
-        if is_split(s[i]) {
+    for (i, b) in s.iter().enumerate() {
+        if is_split(*b) {
             return i;
         }
-        i += 1;
     }
-    i
+    s.len()
 }
 
 // What the rest of a line says, which starts at `at` and has no white space there.
@@ -62,7 +48,7 @@ fn read_rest(s: &[u8], at: usize) -> LineSays
     if n == 0 {
         return LineSays::Blank;
     }
-    if s[0] == 33 {
+    if s[0] == b'!' {
         return LineSays::Comment;
     }
     let k = token_end(&s[..n]);
@@ -82,19 +68,16 @@ fn read_within(text: &[u8], start: usize, end: usize) -> LineSays
         return LineSays::Blank;
     }
     let line = &text[start..end];
-    if is_utf8(line) {
-        let n = trim_start(line);
-        return read_rest(&line[n..], start + n);
+    if !is_utf8(line) {
+        return LineSays::NotUtf8;
     }
-    LineSays::NotUtf8
+    let n = trim_start(line);
+    read_rest(&line[n..], start + n)
 }
 
 // What the line of `text` from `start` to `end` says; what lies past the end of the text is not there.
 pub fn read_line(text: &[u8], start: usize, end: usize) -> LineSays
     ensures { result ≡ line_of strictly text.now start end }
 {
-    if text.len() < end {
-        return read_within(text, start, text.len());
-    }
-    read_within(text, start, end)
+    read_within(text, start, end.min(text.len()))
 }

@@ -19,23 +19,20 @@ pub fn next_line(text: &[u8], at: usize) -> Ends
     ensures { result ≡ cut at (drop at text.now) }
 {
     let mut i = pass(text, at, AFTER_CR, 255);
+    // A `while`, since a line starts with a walk of many bytes a step, and its end takes one or two.
     while i < text.len() {
         let b = text[i];
-        if b == 10 {
+        if b == b'\n' {
             return Ends {
                 end: i,
                 next: i + 1,
             };
         }
-        if b == 13 {
-            if 1 < text.len() - i {
-                if text[i + 1] == 10 {
-                    return Ends {
-                        end: i,
-                        next: i + 2,
-                    };
-                }
-            }
+        if b == b'\r' && text.len() - i > 1 && text[i + 1] == b'\n' {
+            return Ends {
+                end: i,
+                next: i + 2,
+            };
         }
         i += 1;
     }

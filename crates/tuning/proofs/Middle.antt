@@ -1,4 +1,5 @@
 -- PITCHES COUNTED FROM THE MIDDLE KEY: what the calls say, case by case in document 02's order (W1), and nothing else. Assumes nothing.
+use Rattle.std.specs.Prelude.{Option}
 use mathlib.Core.Path.{◌≡◌, refl, sym, ◌∙◌, ap, subst}
 use mathlib.Core.Logic.{◌↔◌}
 use mathlib.Core.Bool.{Bool, true, false, ◌&&◌, true≢false}
@@ -19,7 +20,6 @@ use Rattle.kbm.specs.Middle.{at_middle, reference_degree, StartsAtZero}
 use Rattle.kbm.specs.ReferenceKey.{ReferenceHas}
 use Rattle.kbm.specs.Root.{is_root}
 use Rattle.kbm.specs.Table.{is_table, table_of}
-use Rattle.kbm.specs.declared.Entry.{Entry}
 use Rattle.kbm.specs.declared.Kbm.{Kbm}
 use Rattle.kbm.proofs.Language.{has, has_one}
 use Rattle.kbm.proofs.Middle.{reference_zero, reference_has}
@@ -33,7 +33,7 @@ use Rattle.tuning.specs.MiddleRefusals.{KeySoundsFromMiddle}
 use Rattle.tuning.specs.Run.{key_pitches_from_middle}
 
 module _ (items : List Item) (kbm : Kbm) (map : List ℤ) (k : PianoKey) where
-  abbrev es : List Entry
+  abbrev es : List (Option ℤ)
   es = table_of kbm.count map
 
   -- what is said of the key's degree, of the reference key's, and what each goes on to

@@ -1,4 +1,5 @@
 -- What the pitch calls that count from the middle key say: a value, one of document 01's numbers, or 19. Assumes nothing.
+use Rattle.std.specs.Prelude.{Option}
 use mathlib.Core.Path.{◌≡◌, refl, sym, subst}
 use mathlib.Core.Bool.{◌&&◌}
 use mathlib.Core.List.{List}
@@ -17,7 +18,6 @@ use Rattle.kbm.specs.Middle.{at_middle, reference_degree}
 use Rattle.kbm.specs.ReferenceKey.{ReferenceHas}
 use Rattle.kbm.specs.Root.{is_root}
 use Rattle.kbm.specs.Table.{is_table, table_of}
-use Rattle.kbm.specs.declared.Entry.{Entry}
 use Rattle.kbm.specs.declared.Kbm.{Kbm}
 use Rattle.kbm.proofs.Middle.{reference_has}
 use Rattle.relative.specs.Scales.{tested}
@@ -34,7 +34,7 @@ use Rattle.tuning.proofs.Numbers.{degree_numbered, along, reached_beside, key_be
 small : {A : Type 0} {n d : ℕ} → 1 ≤ n → n ≤ 18 → NumberedOr {A = A} reference_unmapped (refuses n d)
 small low high = NumberedOr.known (Numbered.number low high)
 
-reference_numbered : {kbm : Kbm} {es : List Entry} {s : Said ℤ} → ReferenceHas kbm es s → NumberedOr reference_unmapped s
+reference_numbered : {kbm : Kbm} {es : List (Option ℤ)} {s : Said ℤ} → ReferenceHas kbm es s → NumberedOr reference_unmapped s
 reference_numbered (ReferenceHas.far n e) = subst (NumberedOr reference_unmapped) (sym e) (small (omega arith) (omega arith))
 reference_numbered (ReferenceHas.plain n l e) = subst (NumberedOr reference_unmapped) (sym e) (NumberedOr.known (Numbered.value _))
 reference_numbered (ReferenceHas.none n q r e) = subst (NumberedOr reference_unmapped) (sym e) NumberedOr.other
@@ -58,7 +58,7 @@ maybe_pitch_from_middle_numbered count t kbm map k =
     (small (omega arith) (omega arith))
 
 -- ---- beside each key of a run
-sounds_beside : {items : List Item} {kbm : Kbm} {es : List Entry} {k : PianoKey} {s : Said Float} →
+sounds_beside : {items : List Item} {kbm : Kbm} {es : List (Option ℤ)} {k : PianoKey} {s : Said Float} →
     KeySoundsFromMiddle items kbm es k s → BesideFromMiddle s (number_beside s)
 sounds_beside (KeySoundsFromMiddle.outside h e) = along BesideFromMiddle e (BesideFromMiddle.known (Beside.outside refl))
 sounds_beside (KeySoundsFromMiddle.passed h e) = along BesideFromMiddle e (BesideFromMiddle.known (Beside.passed refl))

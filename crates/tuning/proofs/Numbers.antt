@@ -1,4 +1,5 @@
 -- What the pitch calls say is a value or one of document 01's numbers. Assumes nothing.
+use Rattle.std.specs.Prelude.{Option}
 use mathlib.Core.Path.{sym, subst, ◌≡◌, refl, ◌∙◌, ap}
 use mathlib.Core.Bool.{◌&&◌, Bool, true, false}
 use mathlib.Core.List.{List}
@@ -20,7 +21,6 @@ use Rattle.kbm.specs.Degree.{degree_of}
 use Rattle.kbm.specs.Keys.{Has}
 use Rattle.kbm.specs.Root.{is_root}
 use Rattle.kbm.specs.Table.{is_table, table_of}
-use Rattle.kbm.specs.declared.Entry.{Entry}
 use Rattle.kbm.specs.declared.Kbm.{Kbm}
 use Rattle.kbm.specs.declared.KbmRoot.{KbmRoot}
 use Rattle.kbm.proofs.Language.{has}
@@ -39,7 +39,7 @@ use Rattle.tuning.specs.Run.{key_at, key_pitches, number_beside, is_tuning, run_
 use Rattle.tuning.proofs.Theorems.{number_at}
 
 -- ---- the degree of a key
-has_numbered : {kbm : Kbm} {es : List Entry} {k : PianoKey} {s : Said ℤ} → Has kbm es k s → Numbered s
+has_numbered : {kbm : Kbm} {es : List (Option ℤ)} {k : PianoKey} {s : Said ℤ} → Has kbm es k s → Numbered s
 has_numbered (Has.outside a e) = subst Numbered (sym e) (Numbered.number (omega arith) (omega arith))
 has_numbered (Has.far a b e) = subst Numbered (sym e) (Numbered.number (omega arith) (omega arith))
 has_numbered (Has.plain a b c e) = subst Numbered (sym e) (Numbered.value _)
@@ -47,7 +47,7 @@ has_numbered (Has.none a b q r e) = subst Numbered (sym e) (Numbered.number (ome
 has_numbered (Has.passed a b q z r c e) = subst Numbered (sym e) (Numbered.number (omega arith) (omega arith))
 has_numbered (Has.degree a b q z r c e) = subst Numbered (sym e) (Numbered.value _)
 
-pub degree_numbered : (kbm : Kbm) (es : List Entry) (k : PianoKey) → Numbered (degree_of kbm es k)
+pub degree_numbered : (kbm : Kbm) (es : List (Option ℤ)) (k : PianoKey) → Numbered (degree_of kbm es k)
 degree_numbered kbm es k = has_numbered (has kbm es k)
 
 -- the pitch of a key of a mapping

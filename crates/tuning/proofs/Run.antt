@@ -40,9 +40,6 @@ module _ {z : ℤ} (f : SFits w32 z) (k : ℕ) (h : k < 4294967296) where
   pub wide_fits : SFits w64 (to_z w64 (of_z w64 (to_z w32 (of_z w32 z))) +ℤ to_z w64 k)
   wide_fits = rw (widened w64 tt f, pos_k) above_fits
 
-  pub wide_is : to_z w64 (of_z w64 (to_z w64 (of_z w64 (to_z w32 (of_z w32 z))) +ℤ to_z w64 k)) ≡ z +ℤ pos k
-  wide_is = rw (widened w64 tt f, pos_k) (to_z-of_z above_fits)
-
 -- ---- the root's pitch, computed before the keys
 steps_join : {A B C : Type 0} (s : Said A) (f : A → Said B) (g : B → Said C) → and_then (and_then s f) g ≡ and_then s (λ x. and_then (f x) g)
 steps_join (gives x) f g = refl

@@ -14,8 +14,8 @@ use lib.ListN.{length, get_or}
 use lib.Seq.{get_or-set_same, get_or-set_other}
 use Rattle.base.specs.Integers.{in_i32, held}
 use Rattle.base.specs.Numbers.{overflow}
-use Rattle.base.specs.Said.{Said, gives, refuses, pick, and_then, One}
-use Rattle.base.proofs.Said.{Split, one_result, one_plain}
+use Rattle.base.specs.Said.{Said, gives, refuses, pick, and_then, One, outcome}
+use Rattle.base.proofs.Said.{one_result, one_said}
 use Rattle.key.specs.Keys.{key, steps_between}
 use Rattle.key.specs.declared.PianoKey.{PianoKey}
 use Rattle.pitch.specs.Answers.{says_pitch}
@@ -37,8 +37,7 @@ use Rattle.relative.specs.RootedRefusals.{Pitched}
 use Rattle.tuning.specs.Keys.{key_pitch_of, maybe_pitch_of, maybe_degree_pitch_of}
 use Rattle.tuning.specs.Middle.{maybe_pitch_from_middle}
 use Rattle.tuning.specs.Refusals.{KeySounds}
-use Rattle.tuning.specs.Run.{says_run, sounded, sounded_to, number_beside, numbers_to, run_of, after_hz, after_numbers}
-use Rattle.tuning.specs.declared.key_pitches.RunAnswer.TheVariants as run
+use Rattle.tuning.specs.Run.{sounded, sounded_to, number_beside, numbers_to, run_of, after_hz, after_numbers}
 use Rattle.tuning.proofs.Run.{sounded_to_length, numbers_to_length}
 
 -- ---- by the degree that a key has
@@ -119,14 +118,9 @@ maybe_pitch_from_middle_one count t kbm map k =
     pitch_one (tested (is_items count t && is_root kbm.root)
     (tested (is_table kbm.count map) (maybe_pitch_from_middle (items_in count t) kbm map k)))
 
--- ---- and a run of keys: its answer, and what it leaves
-run_split : Split (λ (u : Unit {0}). run.Done) run.Refused
-run_split run.Done = inl (tt, refl)
-run_split (run.Refused r) = inr (r, refl)
-
 module _ (count : ℕ) (t : ItemTable) (kbm : Kbm) (map : List ℤ) (keys hz numbers : ℕ) where
-  pub pitches_of_one : One says_run (run_of count t kbm map keys hz numbers)
-  pitches_of_one = one_plain run_split says_run (λ u. refl) (λ r. refl) (run_of count t kbm map keys hz numbers)
+  pub pitches_of_one : One outcome (run_of count t kbm map keys hz numbers)
+  pitches_of_one = one_said (run_of count t kbm map keys hz numbers)
 
   pub pitches_of_hz : (f : ℕ → Said Float) (l : List Float) → One (λ r. r) (after_hz (run_of count t kbm map keys hz numbers) f keys l)
   pitches_of_hz f l = one_result (after_hz (run_of count t kbm map keys hz numbers) f keys l)
@@ -136,7 +130,7 @@ module _ (count : ℕ) (t : ItemTable) (kbm : Kbm) (map : List ℤ) (keys hz num
 
 -- counted from the middle key: the same lines, whatever the keys say
 module _ (count : ℕ) (t : ItemTable) (kbm : Kbm) (map : List ℤ) (keys hz numbers : ℕ) where
-  pub pitches_from_middle_one : One says_run (run_of count t kbm map keys hz numbers)
+  pub pitches_from_middle_one : One outcome (run_of count t kbm map keys hz numbers)
   pitches_from_middle_one = pitches_of_one count t kbm map keys hz numbers
 
   pub pitches_from_middle_hz : (f : ℕ → Said Float) (l : List Float) →

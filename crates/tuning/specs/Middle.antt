@@ -1,7 +1,7 @@
 -- PITCHES OF KEYS COUNTED FROM THE MIDDLE KEY: document 02, W1. "The pitch is reference pitch divided by the relative pitch of the
 -- reference key's own degree, times that of the key's degree"; "the asked key's refusals come first, then for the reference key 11 for d,
 -- 19, 11, then 18". Assumes nothing.
-use Rattle.std.specs.Prelude.{List, ℤ, Float}
+use Rattle.std.specs.Prelude.{List, ℤ, Float, Option}
 use Rattle.base.specs.Said.{Said, and_then}
 use Rattle.key.specs.declared.PianoKey.{PianoKey}
 use Rattle.kbm.specs.Degree.{degree_of}
@@ -9,7 +9,6 @@ use Rattle.kbm.specs.Middle.{at_middle, reference_degree, counted}
 use Rattle.kbm.specs.Table.{table_of}
 use Rattle.kbm.specs.declared.Counting.{Counting}
 use Rattle.kbm.specs.declared.Counting.TheVariants.{Reference, Middle}
-use Rattle.kbm.specs.declared.Entry.{Entry}
 use Rattle.kbm.specs.declared.Kbm.{Kbm}
 use Rattle.scl.specs.declared.Item.{Item}
 use Rattle.relative.specs.Pitches.{root_degree, pitch_from}
@@ -23,7 +22,7 @@ maybe_pitch_from_middle items kbm map key =
 
 -- ---- in either counting
 -- the degree that sounds the root's pitch: the offset turned over, or the reference key's own
-abbrev pub sounding_degree : Counting → Kbm → List Entry → Said ℤ
+abbrev pub sounding_degree : Counting → Kbm → List (Option ℤ) → Said ℤ
 sounding_degree Reference kbm es = root_degree kbm.root
 sounding_degree Middle kbm es = reference_degree kbm es
 

@@ -2,7 +2,7 @@
 -- call's `maybe_pitch_of`, key for key, and `key_pitches_from_middle` is `maybe_pitch_from_middle` (document 02, W1). Assumes nothing.
 use Rattle.std.specs.Prelude.{Bool, ◌&&◌, List, ℕ, zero, suc, leb, ℤ, pos, Float, set}
 use Rattle.base.specs.Numbers.{no_room, unusable}
-use Rattle.base.specs.Said.{Said, gives, refuses, refusal, pick, and_then}
+use Rattle.base.specs.Said.{Said, gives, refuses, pick, and_then}
 use Rattle.key.specs.Keys.{key_after}
 use Rattle.key.specs.declared.PianoKey.{PianoKey}
 use Rattle.kbm.specs.Degree.{degree_of}
@@ -16,13 +16,6 @@ use Rattle.relative.specs.Relative.{relative_pitch_of}
 use Rattle.relative.specs.Pitches.{root_pitch, above}
 use Rattle.tuning.specs.Keys.{maybe_pitch_of}
 use Rattle.tuning.specs.Middle.{maybe_pitch_from_middle, sounding_degree, counted_pitch}
-use Rattle.tuning.specs.declared.key_pitches.RunAnswer.{RunAnswer}
-use Rattle.tuning.specs.declared.key_pitches.RunAnswer.TheVariants as run
-
--- ---- what a run says
-abbrev pub says_run : RunAnswer → Said (Unit {0})
-says_run run.Done = gives tt
-says_run (run.Refused r) = refusal r
 
 -- the key so many steps above the first
 abbrev pub key_at : PianoKey → ℕ → Said PianoKey

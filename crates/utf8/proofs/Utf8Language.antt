@@ -1,5 +1,6 @@
 -- THE THEOREM OF UTF-8: the machine accepts exactly the rows of encoded scalar values (document 01, "Lines": "Each line, comment
 -- or not, must be UTF-8"). Assumes nothing.
+use Rattle.std.specs.Prelude.{Some, None, Option}
 use mathlib.Core.Path.{◌≡◌, refl, ◌∙◌, ap}
 use mathlib.Core.List.{List, [], ◌∷◌, ◌++◌}
 use mathlib.Core.Bool.{Bool, true, false}
@@ -12,8 +13,6 @@ use Rattle.base.specs.Said.{pick}
 use Rattle.utf8.specs.Characters.{Scalar, Each, encode, in_bytes, Utf8}
 use Rattle.utf8.specs.Utf8Machine.{asking, none_due, LeadRow, lookup, lead_rows, lead_of, utf8_step, onward, utf8_from}
 use Rattle.utf8.specs.declared.State.{State}
-use Rattle.utf8.specs.declared.Step.{Step}
-use Rattle.utf8.specs.declared.Step.TheVariants.{Go, Stop}
 use Rattle.utf8.proofs.Utf8Steps.{lead_at, step_in, step_lead}
 use Rattle.base.proofs.Integers.{split}
 use Rattle.utf8.proofs.Encodings.{enc1, enc2, enc3, enc4}
@@ -69,16 +68,16 @@ abbrev Rest : ℕ → ℕ → ℕ → List ℕ → Type 0
 Rest zero l h s = Utf8 s
 Rest (suc n) l h s = (b : ℕ) × (t : List ℕ) × (s ≡ b ∷ t) × (l ≤ b) × (b ≤ h) × Rest n 128 191 t
 
-abbrev Due : Step → List ℕ → Type 0
-Due (Go t) s = Rest t.need t.lo t.hi s
-Due Stop s = ⊥
+abbrev Due : (Option State) → List ℕ → Type 0
+Due (Some t) s = Rest t.need t.lo t.hi s
+Due None s = ⊥
 
 -- A LAW FOR EVERY ROW: what holds of each row's bytes holds of what is looked up
-abbrev AllEntries : (ℕ → Step → Type 0) → ℕ → List LeadRow → Type 0
-AllEntries P lo [] = (b : ℕ) → lo ≤ b → P b Stop
+abbrev AllEntries : (ℕ → (Option State) → Type 0) → ℕ → List LeadRow → Type 0
+AllEntries P lo [] = (b : ℕ) → lo ≤ b → P b None
 AllEntries P lo (r ∷ rs) = ((b : ℕ) → lo ≤ b → b < r.below → P b r.asks) × AllEntries P r.below rs
 
-entries_all : (P : ℕ → Step → Type 0) (lo : ℕ) (rs : List LeadRow) → AllEntries P lo rs → (b : ℕ) → lo ≤ b → P b (lookup rs b)
+entries_all : (P : ℕ → (Option State) → Type 0) (lo : ℕ) (rs : List LeadRow) → AllEntries P lo rs → (b : ℕ) → lo ≤ b → P b (lookup rs b)
 entries_all P lo [] a b h = a b h
 entries_all P lo (r ∷ rs) a b h = go (ltb b r.below) refl (entries_all P r.below rs a.1 b)
   where
@@ -86,29 +85,29 @@ entries_all P lo (r ∷ rs) a b h = go (ltb b r.below) refl (entries_all P r.bel
     go true e k = a.0 b h (ltb-true b r.below e)
     go false e k = k (ltb-false b r.below e)
 
-abbrev Starts : ℕ → Step → Type 0
+abbrev Starts : ℕ → (Option State) → Type 0
 Starts b r = (s : List ℕ) → Due r s → Utf8 (b ∷ s)
 
 one_byte : (b : ℕ) → b < 0x80 → {s : List ℕ} → Utf8 s → Utf8 (b ∷ s)
 one_byte b h u = rw (enc1 b h) at (more b (inl (omega arith)) u)
 
-two_bytes : (b : ℕ) → 0xC2 ≤ b → b < 0xE0 → Starts b (Go (asking 1 128 191))
+two_bytes : (b : ℕ) → 0xC2 ≤ b → b < 0xE0 → Starts b (Some (asking 1 128 191))
 two_bytes b l h s (c, t, e, x, y, u) = rw e (make2 b c t l h (x, y) u)
 
 module _ (b lo hi : ℕ) (l : 128 ≤ lo) (h : hi ≤ 191) where
   three_bytes : 0xE0 ≤ b → b < 0xF0 →
-      ((c d : ℕ) → lo ≤ c → c ≤ hi → Cont d → (0x800 ≤ code3 b c d) × Scalar (code3 b c d)) → Starts b (Go (asking 2 lo hi))
+      ((c d : ℕ) → lo ≤ c → c ≤ hi → Cont d → (0x800 ≤ code3 b c d) × Scalar (code3 b c d)) → Starts b (Some (asking 2 lo hi))
   three_bytes m n f s (c, t, e, x, y, (d, t', e', x', y', u)) =
       let g = f c d x y (x', y') in
       rw (e, e') (make3 b c d t' m n (omega arith) (x', y') g.0 g.1 u)
 
   four_bytes : 0xF0 ≤ b → b < 0xF5 →
-      ((c d e : ℕ) → lo ≤ c → c ≤ hi → Cont d → Cont e → (0x10000 ≤ code4 b c d e) × Scalar (code4 b c d e)) → Starts b (Go (asking 3 lo hi))
+      ((c d e : ℕ) → lo ≤ c → c ≤ hi → Cont d → Cont e → (0x10000 ≤ code4 b c d e) × Scalar (code4 b c d e)) → Starts b (Some (asking 3 lo hi))
   four_bytes m n f s (c, t, e, x, y, (d, t', e', x', y', (d₃, t₃, e₃, x₃, y₃, u))) =
       let g = f c d d₃ x y (x', y') (x₃, y₃) in
       rw (e, e', e₃) (make4 b c d d₃ t₃ m n (omega arith) (x', y') (x₃, y₃) g.0 g.1 u)
 
-none : (b : ℕ) → Starts b Stop
+none : (b : ℕ) → Starts b None
 none b s d = absurd d
 
 -- one entry more
@@ -141,9 +140,9 @@ nil : Utf8 []
 unfolding in_bytes
 nil = record { codes = []; each = tt; text = refl }
 
-due : (r : Step) (s : List ℕ) → ((n l h : ℕ) → utf8_from (asking n l h) s ≡ true → Rest n l h s) → onward r (λ t. utf8_from t s) ≡ true → Due r s
-due (Go t) s k e = k t.need t.lo t.hi e
-due Stop s k e = let z : ◌≡◌ {A = ℕ} 0 1 = cc in absurd (differ z)
+due : (r : (Option State)) (s : List ℕ) → ((n l h : ℕ) → utf8_from (asking n l h) s ≡ true → Rest n l h s) → onward r (λ t. utf8_from t s) ≡ true → Due r s
+due (Some t) s k e = k t.need t.lo t.hi e
+due None s k e = let z : ◌≡◌ {A = ℕ} 0 1 = cc in absurd (differ z)
 
 sound : (s : List ℕ) (n l h : ℕ) → utf8_from (asking n l h) s ≡ true → Rest n l h s
 unfolding utf8_from utf8_step
@@ -152,24 +151,24 @@ sound [] (suc n) l h e = let x = eqb-true (suc n) 0 e in absurd (omega arith)
 sound (b ∷ s) zero l h e = starts b s (due (lead_of b) s (sound s) e)
 sound (b ∷ s) (suc n) l h e = by_low (ltb b l) refl (rw (ne_eqb (suc n) 0 (omega arith)) at e) (sound s)
   where
-    by_high : (u : Bool) → ltb h b ≡ u → l ≤ b → onward (pick u Stop (Go (asking (suc n - 1) 128 191))) (λ t. utf8_from t s) ≡ true →
+    by_high : (u : Bool) → ltb h b ≡ u → l ≤ b → onward (pick u None (Some (asking (suc n - 1) 128 191))) (λ t. utf8_from t s) ≡ true →
         ((n l h : ℕ) → utf8_from (asking n l h) s ≡ true → Rest n l h s) → Rest (suc n) l h (b ∷ s)
     by_high true p x q k = let z : ◌≡◌ {A = ℕ} 0 1 = cc in absurd (differ z)
     by_high false p x q k =
         let m : suc n - 1 ≡ n = omega arith in
         (b, s, refl, x, ltb-false h b p, k n 128 191 (rw m at q))
 
-    by_low : (u : Bool) → ltb b l ≡ u → onward (pick u Stop (pick (ltb h b) Stop (Go (asking (suc n - 1) 128 191)))) (λ t. utf8_from t s) ≡ true →
+    by_low : (u : Bool) → ltb b l ≡ u → onward (pick u None (pick (ltb h b) None (Some (asking (suc n - 1) 128 191)))) (λ t. utf8_from t s) ≡ true →
         ((n l h : ℕ) → utf8_from (asking n l h) s ≡ true → Rest n l h s) → Rest (suc n) l h (b ∷ s)
     by_low true p q k = let z : ◌≡◌ {A = ℕ} 0 1 = cc in absurd (differ z)
     by_low false p q k = by_high (ltb h b) refl (ltb-false b l p) q k
 
 -- COMPLETE: the machine goes over each encoding and comes back to its start
-run : (st : State) (b : ℕ) (s : List ℕ) {t : State} → utf8_step st b ≡ Go t → utf8_from st (b ∷ s) ≡ utf8_from t s
+run : (st : State) (b : ℕ) (s : List ℕ) {t : State} → utf8_step st b ≡ Some t → utf8_from st (b ∷ s) ≡ utf8_from t s
 unfolding utf8_from
 run st b s e = rw e
 
-lead_run : (b : ℕ) (s : List ℕ) {t : State} → lead_of b ≡ Go t → utf8_from none_due (b ∷ s) ≡ utf8_from t s
+lead_run : (b : ℕ) (s : List ℕ) {t : State} → lead_of b ≡ Some t → utf8_from none_due (b ∷ s) ≡ utf8_from t s
 lead_run b s e = run none_due b s (step_lead none_due b refl ∙ e)
 
 -- the bytes after the first
@@ -193,12 +192,12 @@ over2 c s l h = rw (enc2 c l h) (lead_run (0xC0 + c / 64) _ (lead_at 2 (0xC0 + c
 
 module _ (c : ℕ) (s : List ℕ) where
   -- an encoding of three bytes, by what its first byte asks
-  three : (lo hi : ℕ) → 0x800 ≤ c → c < 0x10000 → lead_of (0xE0 + c / 4096) ≡ Go (asking 2 lo hi) → lo ≤ 0x80 + c / 64 % 64 → 0x80 + c / 64 % 64 ≤ hi → Over c s
+  three : (lo hi : ℕ) → 0x800 ≤ c → c < 0x10000 → lead_of (0xE0 + c / 4096) ≡ Some (asking 2 lo hi) → lo ≤ 0x80 + c / 64 % 64 → 0x80 + c / 64 % 64 ≤ hi → Over c s
   three lo hi l h e x y =
       rw (enc3 c l h)
       (lead_run (0xE0 + c / 4096) _ e ∙ run2 (0x80 + c / 64 % 64) (0x80 + c % 64) lo hi s x y (omega arith))
 
-  four : (lo hi : ℕ) → 0x10000 ≤ c → lead_of (0xF0 + c / 262144) ≡ Go (asking 3 lo hi) → lo ≤ 0x80 + c / 4096 % 64 → 0x80 + c / 4096 % 64 ≤ hi → Over c s
+  four : (lo hi : ℕ) → 0x10000 ≤ c → lead_of (0xF0 + c / 262144) ≡ Some (asking 3 lo hi) → lo ≤ 0x80 + c / 4096 % 64 → 0x80 + c / 4096 % 64 ≤ hi → Over c s
   four lo hi l e x y =
       rw (enc4 c l)
       (lead_run (0xF0 + c / 262144) _ e ∙ run3 (0x80 + c / 4096 % 64) (0x80 + c / 64 % 64) (0x80 + c % 64) lo hi s x y (omega arith) (omega arith))

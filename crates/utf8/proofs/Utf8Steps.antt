@@ -1,5 +1,6 @@
 -- The laws of the UTF-8 machine, as the code meets them: what a first byte asks, a step inside a character, a turn of the loop.
 -- Assumes nothing.
+use Rattle.std.specs.Prelude.{Some, None, Option}
 use mathlib.Core.Path.{◌≡◌, refl, sym, ap, ◌∙◌}
 use mathlib.Core.List.{List, [], ◌∷◌}
 use mathlib.Core.Bool.{Bool, true, false}
@@ -16,8 +17,6 @@ use Rattle.base.proofs.Pick.{pick_both}
 use Rattle.utf8.specs.Utf8Machine.{asking, none_due, LeadRow, lookup, lead_rows, lead_of, utf8_step, onward, utf8_from}
 use Rattle.utf8.specs.Eights.{Passed}
 use Rattle.utf8.specs.declared.State.{State}
-use Rattle.utf8.specs.declared.Step.{Step}
-use Rattle.utf8.specs.declared.Step.TheVariants.{Go, Stop}
 use Rattle.utf8.proofs.Passes.{pass_over}
 
 -- THE LAW OF AN ENTRY: where the numbers of a table rise, entry n answers from the number before its own on and below its own
@@ -40,8 +39,8 @@ Below (r ∷ rs) zero b = b < r.below
 Below (r ∷ rs) (suc n) b = Below rs n b
 
 -- what entry n asks
-abbrev asks_of : List LeadRow → ℕ → Step
-asks_of [] n = Stop
+abbrev asks_of : List LeadRow → ℕ → (Option State)
+asks_of [] n = None
 asks_of (r ∷ rs) zero = r.asks
 asks_of (r ∷ rs) (suc n) = asks_of rs n
 
@@ -65,15 +64,15 @@ lead_at n b l x = at_entry 0 lead_rows refl n b l x
 
 -- a step inside a character
 module _ (n l h b : ℕ) (some : n ≡ 0 → ⊥) where
-  pub step_low : b < l → utf8_step (asking n l h) b ≡ Stop
+  pub step_low : b < l → utf8_step (asking n l h) b ≡ None
   unfolding utf8_step
   step_low x = rw (ne_eqb n 0 some, lt-ltb b l x)
 
-  pub step_high : l ≤ b → h < b → utf8_step (asking n l h) b ≡ Stop
+  pub step_high : l ≤ b → h < b → utf8_step (asking n l h) b ≡ None
   unfolding utf8_step
   step_high x y = rw (ne_eqb n 0 some, le-ltb b l x, lt-ltb h b y)
 
-  pub step_in : l ≤ b → b ≤ h → utf8_step (asking n l h) b ≡ Go (asking (n - 1) 128 191)
+  pub step_in : l ≤ b → b ≤ h → utf8_step (asking n l h) b ≡ Some (asking (n - 1) 128 191)
   unfolding utf8_step
   step_in x y = rw (ne_eqb n 0 some, le-ltb b l x, le-ltb h b y)
 
@@ -82,7 +81,7 @@ unfolding utf8_step
 step_lead st b e = rw (eq-eqb st.need 0 e)
 
 -- a turn of the loop
-pub run_turn : (st : State) (s : List ℕ) (i : ℕ) → i < length s → {r r' : Step} → r ≡ utf8_step st (get_or s i 0) → r ≡ r' →
+pub run_turn : (st : State) (s : List ℕ) (i : ℕ) → i < length s → {r r' : (Option State)} → r ≡ utf8_step st (get_or s i 0) → r ≡ r' →
     utf8_from st (drop i s) ≡ onward r' (λ t. utf8_from t (drop (i + 1) s))
 unfolding utf8_from
 run_turn st s i h p q = rw (drop-cons s i 0 h, add-one i, ← p, q)
@@ -95,7 +94,7 @@ run_end st s i h = rw (drop_of_length-le s h)
 fresh_too : (st : State) (s : List ℕ) → st.need ≡ 0 → utf8_from st s ≡ utf8_from none_due s
 unfolding utf8_from
 fresh_too st [] e = rw e
-fresh_too st (b ∷ s) e = ap (λ (x : Step). onward x (λ t. utf8_from t s)) (step_lead st b e ∙ sym (step_lead none_due b refl))
+fresh_too st (b ∷ s) e = ap (λ (x : (Option State)). onward x (λ t. utf8_from t s)) (step_lead st b e ∙ sym (step_lead none_due b refl))
 
 -- bytes below 128 are characters by themselves
 pub run_pass : {s : List ℕ} {low from r : ℕ} (st : State) → st.need ≡ 0 → Passed low 127 s from r → utf8_from st (drop from s) ≡ utf8_from st (drop r s)

@@ -1,10 +1,8 @@
 -- Whether a text is UTF-8, as the code finds it byte by byte. `Characters` says what UTF-8 is, `proofs/Utf8Language` that the two
 -- agree. Assumes nothing.
-use Rattle.std.specs.Prelude.{List, [], ◌∷◌, Bool, false, ℕ, ◌-◌, ltb, eqb}
+use Rattle.std.specs.Prelude.{List, [], ◌∷◌, Bool, false, ℕ, ◌-◌, ltb, eqb, Some, None, Option}
 use Rattle.base.specs.Said.{pick}
 use Rattle.utf8.specs.declared.State.{State}
-use Rattle.utf8.specs.declared.Step.{Step}
-use Rattle.utf8.specs.declared.Step.TheVariants.{Go, Stop}
 
 -- so many bytes are due, the next of them from l to h
 abbrev pub asking : ℕ → ℕ → ℕ → State
@@ -17,37 +15,37 @@ none_due = asking 0 128 191
 -- what a first byte below a number asks, where no earlier entry holds it
 pub record LeadRow : Type 0 where
   pub below : ℕ
-  pub asks : Step
+  pub asks : (Option State)
 
-abbrev pub lead_row : ℕ → Step → LeadRow
+abbrev pub lead_row : ℕ → (Option State) → LeadRow
 lead_row n s = record { below = n; asks = s }
 
 -- what the first entry that b is below asks
-abbrev pub lookup : List LeadRow → ℕ → Step
-lookup [] b = Stop
+abbrev pub lookup : List LeadRow → ℕ → (Option State)
+lookup [] b = None
 lookup (r ∷ rs) b = pick (ltb b r.below) r.asks (lookup rs b)
 
 -- the well-formed byte sequences (The Unicode Standard, table 3-7), by the first byte
 abbrev pub lead_rows : List LeadRow
 lead_rows =
-    lead_row 128 (Go (asking 0 128 191)) ∷ lead_row 194 Stop ∷ lead_row 224 (Go (asking 1 128 191)) ∷ lead_row 225 (Go (asking 2 160 191)) ∷
-    lead_row 237 (Go (asking 2 128 191)) ∷ lead_row 238 (Go (asking 2 128 159)) ∷ lead_row 240 (Go (asking 2 128 191)) ∷
-    lead_row 241 (Go (asking 3 144 191)) ∷ lead_row 244 (Go (asking 3 128 191)) ∷ lead_row 245 (Go (asking 3 128 143)) ∷ []
+    lead_row 128 (Some (asking 0 128 191)) ∷ lead_row 194 None ∷ lead_row 224 (Some (asking 1 128 191)) ∷ lead_row 225 (Some (asking 2 160 191)) ∷
+    lead_row 237 (Some (asking 2 128 191)) ∷ lead_row 238 (Some (asking 2 128 159)) ∷ lead_row 240 (Some (asking 2 128 191)) ∷
+    lead_row 241 (Some (asking 3 144 191)) ∷ lead_row 244 (Some (asking 3 128 191)) ∷ lead_row 245 (Some (asking 3 128 143)) ∷ []
 
 -- what the first byte of a character asks
-unfoldable pub lead_of : ℕ → Step
+unfoldable pub lead_of : ℕ → (Option State)
 lead_of b = lookup lead_rows b
 
 -- the state after one more byte
-unfoldable pub utf8_step : State → ℕ → Step
+unfoldable pub utf8_step : State → ℕ → (Option State)
 utf8_step st b =
     pick (eqb st.need 0) (lead_of b)
-    (pick (ltb b st.lo) Stop (pick (ltb st.hi b) Stop (Go (asking (st.need - 1) 128 191))))
+    (pick (ltb b st.lo) None (pick (ltb st.hi b) None (Some (asking (st.need - 1) 128 191))))
 
 -- a state goes on; where there is none the text is no UTF-8
-abbrev pub onward : Step → (State → Bool) → Bool
-onward (Go t) f = f t
-onward Stop f = false
+abbrev pub onward : (Option State) → (State → Bool) → Bool
+onward (Some t) f = f t
+onward None f = false
 
 -- whether what is due and the rest are UTF-8
 unfoldable pub utf8_from : State → List ℕ → Bool

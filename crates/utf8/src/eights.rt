@@ -6,9 +6,7 @@ ghost use Rattle.utf8.specs.Eights.{between, eight_between, Passed};
 fn is_between(b: u8, low: u8, high: u8) -> bool
     ensures { result ≡ between low high b }
 {
-    let above = low <= b;
-    let below = b <= high;
-    above & below
+    (low <= b) & (b <= high) // no branch is taken
 }
 
 // Whether the eight bytes from `at` on do.
@@ -28,15 +26,9 @@ pub fn pass(s: &[u8], from: usize, low: u8, high: u8) -> usize
     ensures { Passed low high s.now from result }
 {
     let mut i = from;
-    while i < s.len() {
-        if s.len() - i < 8 {
-            return i;
-        }
-        if are_between(s, i, low, high) {
-            i += 8;
-        } else {
-            return i;
-        }
+    // A `while`, since it goes eight bytes a step from a place that can lie past the end.
+    while i < s.len() && s.len() - i >= 8 && are_between(s, i, low, high) {
+        i += 8;
     }
     i
 }

@@ -3,7 +3,7 @@
 
 pub mod eights;
 
-ghost use Rattle.std.specs.Prelude.{◌≡◌};
+ghost use Rattle.std.specs.Prelude.{◌≡◌, Some};
 ghost use Rattle.utf8.specs.Utf8Machine.{lead_of, utf8_step, utf8_from, none_due};
 
 use crate::eights::pass;
@@ -19,74 +19,42 @@ pub struct State {
     pub hi: u8,
 }
 
-// What a byte does to the state: it goes on, or the text is no UTF-8.
-#[derive(Clone, Copy)]
-pub enum Step {
-    Go(State),
-    Stop,
-}
-
 // To go on with this state.
-fn go(need: u8, lo: u8, hi: u8) -> Step
-    ensures { result ≡ Step.Go (record { need = need; lo = lo; hi = hi }) }
+fn go(need: u8, lo: u8, hi: u8) -> Option<State>
+    ensures { result ≡ Some (record { need = need; lo = lo; hi = hi }) }
 {
-    Step::Go(State { need, lo, hi })
+    Some(State { need, lo, hi })
 }
 
 // What the first byte of a character asks of those after it.
-fn lead(b: u8) -> Step
+#[tactic(auto, unfolding(crate::specs::Utf8Machine::lead_of))]
+fn lead(b: u8) -> Option<State>
     ensures { result ≡ lead_of b }
 {
-    if b < 128 {
-        return go(0, 128, 191);
+    match b {
+        0..=127 => go(0, 128, 191),
+        194..=223 => go(1, 128, 191),
+        224 => go(2, 160, 191),
+        225..=236 | 238 | 239 => go(2, 128, 191),
+        237 => go(2, 128, 159),
+        240 => go(3, 144, 191),
+        241..=243 => go(3, 128, 191),
+        244 => go(3, 128, 143),
+        _ => None,
     }
-    if b < 194 {
-        return Step::Stop;
-    }
-    if b < 224 {
-        return go(1, 128, 191);
-    }
-    if b < 225 {
-        return go(2, 160, 191);
-    }
-    if b < 237 {
-        return go(2, 128, 191);
-    }
-    if b < 238 {
-        return go(2, 128, 159);
-    }
-    if b < 240 {
-        return go(2, 128, 191);
-    }
-    if b < 241 {
-        return go(3, 144, 191);
-    }
-    if b < 244 {
-        return go(3, 128, 191);
-    }
-    if b < 245 {
-        return go(3, 128, 143);
-    }
-    Step::Stop
 }
 
 // The state after one more byte.
-fn advance(st: State, b: u8) -> Step
+fn advance(st: State, b: u8) -> Option<State>
     ensures { result ≡ utf8_step st b }
 {
-    let need = st.need;
-    if need == 0 {
+    if st.need == 0 {
         return lead(b);
     }
-    let lo = st.lo;
-    let hi = st.hi;
-    if b < lo {
-        return Step::Stop;
+    if b < st.lo || st.hi < b {
+        return None;
     }
-    if hi < b {
-        return Step::Stop;
-    }
-    go(need - 1, 128, 191)
+    go(st.need - 1, 128, 191)
 }
 
 // Whether `s` is UTF-8.
@@ -99,8 +67,9 @@ pub fn is_utf8(s: &[u8]) -> bool
         hi: 191,
     };
     let mut i = pass(s, 0, 0, ASCII_END);
+    // A `while`, since its steps vary: between two characters plain bytes are passed many at a time.
     while i < s.len() {
-        let Step::Go(t) = advance(st, s[i]) else {
+        let Some(t) = advance(st, s[i]) else {
             return false;
         };
         st = t;

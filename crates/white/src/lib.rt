@@ -8,73 +8,33 @@ ghost use Rattle.white.specs.Trim.{white1, white2, white3, general, white_width,
 fn is_white1(b: u8) -> bool
     ensures { result ≡ white1 b }
 {
-    if b < 9 {
-        return false;
-    }
-    if b < 14 {
-        return true;
-    }
-    b == 32
+    matches!(b, 9..=13 | 32)
 }
 
 // Whether two bytes are: U+0085, 00A0.
 fn is_white2(b: u8, c: u8) -> bool
     ensures { result ≡ white2 b c }
 {
-    if b == 194 {
-        if c == 133 {
-            return true;
-        }
-        return c == 160;
-    }
-    false
+    matches!((b, c), (194, 133 | 160))
 }
 
 // Whether E2 80 and this byte are: U+2000 to 200A, 2028, 2029, 202F.
 fn is_general(d: u8) -> bool
     ensures { result ≡ general d }
 {
-    if d < 128 {
-        return false;
-    }
-    if d < 139 {
-        return true;
-    }
-    if d == 168 {
-        return true;
-    }
-    if d == 169 {
-        return true;
-    }
-    d == 175
+    matches!(d, 128..=138 | 168 | 169 | 175)
 }
 
 // Whether three bytes are: U+1680, those, 205F, 3000.
 fn is_white3(b: u8, c: u8, d: u8) -> bool
     ensures { result ≡ white3 b c d }
 {
-    if b == 225 {
-        if c == 154 {
-            return d == 128;
-        }
-        return false;
+    match (b, c) {
+        (225, 154) | (227, 128) => d == 128,
+        (226, 128) => is_general(d),
+        (226, 129) => d == 159,
+        _ => false,
     }
-    if b == 226 {
-        if c == 128 {
-            return is_general(d);
-        }
-        if c == 129 {
-            return d == 159;
-        }
-        return false;
-    }
-    if b == 227 {
-        if c == 128 {
-            return d == 128;
-        }
-        return false;
-    }
-    false
 }
 
 // How many bytes a white character has, by whether one, two or three bytes are one; 0 if none are.
@@ -82,15 +42,14 @@ fn width(one: bool, two: bool, three: bool) -> usize
     ensures { result ≡ white_width one two three }
 {
     if one {
-        return 1;
+        1
+    } else if two {
+        2
+    } else if three {
+        3
+    } else {
+        0
     }
-    if two {
-        return 2;
-    }
-    if three {
-        return 3;
-    }
-    0
 }
 
 // The byte `k` places after `i`, or 0 past the end.
@@ -98,10 +57,7 @@ fn byte_after(s: &[u8], i: usize, k: usize) -> u8
     requires { i ≤ length s.now }
     ensures { result ≡ get_or (drop i s.now) k 0 }
 {
-    if k < s.len() - i {
-        return s[i + k];
-    }
-    0
+    if k < s.len() - i { s[i + k] } else { 0 }
 }
 
 // The byte `k` places before the last one before `e`, or 0 before the start.
@@ -109,10 +65,7 @@ fn byte_before(s: &[u8], e: usize, k: usize) -> u8
     requires { e ≤ length s.now }
     ensures { result ≡ get_or (reverse (take e s.now)) k 0 }
 {
-    if k < e {
-        return s[e - 1 - k];
-    }
-    0
+    if k < e { s[e - 1 - k] } else { 0 }
 }
 
 // How many bytes at `i` are a white character, or 0.
@@ -142,6 +95,7 @@ pub fn trim_start(s: &[u8]) -> usize
     ensures { result ≡ run front 0 s.now }
 {
     let mut i = 0;
+    // A `while`, since a white character is one, two or three bytes long.
     while i < s.len() {
         let n = white_at(s, i);
         if n == 0 {
@@ -157,6 +111,7 @@ pub fn trim_end(s: &[u8]) -> usize
     ensures { result ≡ length s.now - run back 0 (reverse s.now) }
 {
     let mut e = s.len();
+    // A `while`, since it goes backwards by one, two or three bytes.
     while 0 < e {
         let n = white_before(s, e);
         if n == 0 {

@@ -1,4 +1,5 @@
 -- Lines written one after another into lent bytes, and how long they are. Assumes nothing.
+use Rattle.std.specs.Prelude.{Some, Option}
 use mathlib.Core.Path.{◌≡◌, refl, sym, ap, ◌∙◌}
 use mathlib.Core.Bool.{true, false}
 use mathlib.Core.List.{List, [], ◌∷◌, ◌++◌, append_assoc, append-nil}
@@ -12,8 +13,6 @@ use lib.Ieee.{Float}
 use borrow.Author.Tests.{le-leb}
 use Rattle.floats.specs.Units.{negative}
 use Rattle.printing.specs.PrintText.{scaled_of, text_of, whole_text, integer_text, width_of, room, placed, written}
-use Rattle.printing.specs.declared.Placed.{Placed}
-use Rattle.printing.specs.declared.Placed.TheVariants.{At}
 use Rattle.printing.proofs.Texts.{sets_append, parts_length, width_le, sign_le, point_le}
 use Rattle.writing.specs.Lines.{line, lines_text, number_text, place_reached}
 
@@ -22,12 +21,12 @@ pub length_line : (t : List ℕ) → length (line t) ≡ length t + 1
 length_line t = length-append t (10 ∷ [])
 
 -- a text is written at a place with room for it and for the byte that ends it
-module _ (l : List ℕ) (at : ℕ) (t : List ℕ) (b : ℕ) {p : Placed} (told : p ≡ placed l at t) (h : at + length (t ++ (b ∷ [])) ≤ length l) where
+module _ (l : List ℕ) (at : ℕ) (t : List ℕ) (b : ℕ) {p : (Option ℕ)} (told : p ≡ placed l at t) (h : at + length (t ++ (b ∷ [])) ≤ length l) where
   roomy : room l at t ≡ true
   roomy = le-leb (at + length t) (length l) (omega (arith, length-append t (b ∷ []), h))
 
   -- so the place after the text is reached
-  reached : p ≡ At (at + length t)
+  reached : p ≡ Some (at + length t)
   reached = rw roomy at told
 
   place_is : place_reached p ≡ at + length t
@@ -41,8 +40,8 @@ module _ (l : List ℕ) (at : ℕ) (t : List ℕ) (b : ℕ) {p : Placed} (told :
     length_kept = rw text_written (length-sets l at t)
 
     -- the last byte has its place there
-    pub end_fits : (p ≡ At (place_reached p)) × (place_reached p < length m)
-    end_fits = (reached ∙ ap At (sym place_is), omega (arith, length_kept, place_is, length-append t (b ∷ []), h))
+    pub end_fits : (p ≡ Some (place_reached p)) × (place_reached p < length m)
+    end_fits = (reached ∙ ap Some (sym place_is), omega (arith, length_kept, place_is, length-append t (b ∷ []), h))
 
     -- and with it the text is ended
     pub ended : {r : ℕ} {o : List ℕ} → r ≡ place_reached p + 1 → o ≡ set m (place_reached p) b → (r ≡ at + length (t ++ (b ∷ []))) × (o ≡ sets l at (t ++ (b ∷ [])))

@@ -9,19 +9,13 @@ use lib.Ieee.{Float}
 use lib.IntN.{ℤ}
 use lib.ListN.{length}
 use lib.Seq.{sets}
-use Rattle.base.specs.Said.{Said, One}
-use Rattle.base.proofs.Said.{Split, one_plain, one_result}
+use Rattle.base.specs.Said.{Said, One, outcome}
+use Rattle.base.proofs.Said.{one_result, one_said}
 use Rattle.printing.specs.PrintText.{text_of, whole_text}
-use Rattle.writing.specs.Answers.{says_size}
 use Rattle.writing.specs.Lines.{line, number_text}
-use Rattle.writing.specs.declared.SizeAnswer.TheVariants as OfSize
 
-size_split : Split OfSize.Is OfSize.Refused
-size_split (OfSize.Is n) = inl (n, refl)
-size_split (OfSize.Refused r) = inr (r, refl)
-
-pub size_one : (s : Said ℕ) → One says_size s
-size_one = one_plain size_split says_size (λ n. refl) (λ r. refl)
+pub size_one : (s : Said ℕ) → One outcome s
+size_one = one_said
 
 -- a writer of the text t: of the place reached, and of the bytes left behind
 abbrev Writes : List ℕ → ℕ → List ℕ → Type 0

@@ -1,8 +1,6 @@
 -- Document 01, "Writing": "Every line ends in LF"; a number of a line, and the byte after it. Assumes nothing.
-use Rattle.std.specs.Prelude.{List, [], ◌∷◌, ◌++◌, ℕ, pos}
+use Rattle.std.specs.Prelude.{List, [], ◌∷◌, ◌++◌, ℕ, pos, Some, None, Option}
 use Rattle.printing.specs.PrintText.{whole_text}
-use Rattle.printing.specs.declared.Placed.{Placed}
-use Rattle.printing.specs.declared.Placed.TheVariants.{At, Full}
 
 -- a line: its text, and LF
 abbrev pub line : List ℕ → List ℕ
@@ -18,6 +16,6 @@ abbrev pub number_text : ℕ → ℕ → List ℕ
 number_text n end = whole_text (pos n) ++ (end ∷ [])
 
 -- the place that a writer reached
-abbrev pub place_reached : Placed → ℕ
-place_reached (At next) = next
-place_reached Full = 0
+abbrev pub place_reached : (Option ℕ) → ℕ
+place_reached (Some next) = next
+place_reached None = 0

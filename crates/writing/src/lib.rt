@@ -1,31 +1,22 @@
 // Texts out, line by line, into lent bytes: what the exports of mappings and of scales share. Document 01, "Writing".
 #![tactic(auto)]
 
-ghost use Rattle.std.specs.Prelude.{◌≡◌, false, ◌+◌, ◌≤◌, ◌<◌, T, length, set};
+ghost use Rattle.std.specs.Prelude.{◌≡◌, false, ◌+◌, ◌≤◌, ◌<◌, T, length, set, Some};
 ghost use Rattle.std.proofs.lemmas.List.Edits.{sets};
 ghost use Rattle.printing.specs.PrintText.{limited, text_of, whole_text};
-ghost use Rattle.printing.specs.declared.Placed.TheVariants.{At};
 ghost use Rattle.writing.specs.Lines.{line, number_text, place_reached};
 
-use base::Refusal;
-use printing::Placed;
-
-// How many bytes were written.
-#[derive(Clone, Copy)]
-pub enum SizeAnswer {
-    Is(usize),
-    Refused(Refusal),
-}
+use base::{Reason, Refusal};
 
 // 10: what is to be written is unusable.
 pub const NOT_USABLE: Refusal = Refusal {
-    number: base::UNUSABLE,
+    reason: Reason::Unusable,
     detail: 0,
 };
 
 // 12: the text is longer than the lent bytes.
 pub const NO_ROOM: Refusal = Refusal {
-    number: base::NO_ROOM,
+    reason: Reason::NoRoom,
     detail: 0,
 };
 
@@ -33,12 +24,12 @@ pub const NO_ROOM: Refusal = Refusal {
 pub const LINE: usize = 40;
 
 // The byte `end` at the place reached; the next place.
-fn end_text(reached: Placed, end: u8, out: &mut [u8]) -> usize
-    requires { (reached ≡ At (place_reached reached)) × (place_reached reached < length out.old) }
+fn end_text(reached: Option<usize>, end: u8, out: &mut [u8]) -> usize
+    requires { (reached ≡ Some (place_reached reached)) × (place_reached reached < length out.old) }
     ensures value { result ≡ place_reached reached + 1 }
     ensures out_after { out.new ≡ set out.old (place_reached reached) end }
 {
-    let Placed::At(next) = reached else {
+    let Some(next) = reached else {
         return 0;
     };
     out[next] = end;

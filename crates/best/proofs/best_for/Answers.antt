@@ -1,12 +1,8 @@
 -- The ratio's digits and exponent, and the best fraction for these; the f64 is that many units of 2 ^ -1074. No loop. Assumes nothing.
-use mathlib.Core.Path.{refl, sym, subst}
-use Prim.Native.Nat.{ℕ, ◌^◌}
 use native.Mathlib.Nat.{le_trans}
 use lib.Dec.{lit≤}
-use borrow.Author.Rules.{rules}
 use Rattle.floats.proofs.Ranges.{search_says, within_finite}
 use Rattle.floats.proofs.Units.{within_units, full_digits}
-use Rattle.best.specs.Best.{Best}
 use Rattle.best.proofs.best_for.Goals as goal
 
 pub unpack-parts-requires : goal.unpack-parts-requires
@@ -16,11 +12,3 @@ pub best_of-best-requires : goal.best_of-best-requires
 best_of-best-requires c =
     let least = within_units 64 (lit≤ tt) (search_says _ c.requires.0) in
     (c.requires.1, full_digits c.unpack-parts.ensures (le_trans (lit≤ tt) least), c.unpack-parts.ensures.small)
-
-pub returns : goal.returns
-returns c =
-    record {
-      best = subst (λ (u : ℕ). Best u (2 ^ 1074) c.args.limit c.best_of-best.result.numer c.best_of-best.result.denom) (sym c.unpack-parts.ensures.is)
-          c.best_of-best.ensures;
-      deviation = refl;
-    }

@@ -3,7 +3,6 @@ use Prim.Native.Nat.{◌*◌, ◌^◌, ◌<◌}
 use native.Mathlib.Nat.{le_trans, mul-pos}
 use lib.Dec.{lit<}
 use lib.Pow.{pow_pos}
-use borrow.Author.Rules.{rules}
 use Rattle.best.proofs.Picked.{two, low_answer, high_answer}
 use Rattle.best.proofs.best_of.Goals as goal
 use Rattle.best.proofs.best_of.Goals.{Start}

@@ -1,5 +1,4 @@
 -- A ratio beyond all fractions by its exponent, any other by n * 2 ^ (1042 - k) and m * d / 2 ^ 32. No loop. Assumes nothing.
-use borrow.Author.Rules.{rules}
 use Rattle.best.proofs.Below.{high_below, low_above, middle}
 use Rattle.best.proofs.is_below.Goals as goal
 

@@ -2,40 +2,22 @@
 -- the rest is nothing. No loop. Assumes nothing.
 use mathlib.Core.Path.{sym, ap}
 use mathlib.Core.Bool.{Bool, ◌&&◌, ◌||◌}
-use Prim.Native.Nat.{ℕ, ◌+◌, ◌*◌, ◌/◌, ◌%◌, ◌^◌, ◌<◌}
-use native.Mathlib.Nat.{lt_of_le_of_lt}
-use native.Mathlib.Omega.{arith}
-use lib.Dec.{lit<, eqb}
-use borrow.Author.Rules.{rules}
-use Rattle.best.proofs.Squares.{rest_small, top_small, carried_held, high_held, g_small, Parts, parts, test_below, test_last}
+use Prim.Native.Nat.{◌+◌, ◌*◌, ◌/◌, ◌%◌, ◌^◌, ◌<◌}
+use lib.Dec.{eqb}
+use Rattle.best.proofs.Squares.{carried_held, g_small, Parts, parts, test_below, test_last}
 use Rattle.best.proofs.is_less.Goals as goal
 use Rattle.best.proofs.is_less.Goals.{After-low_product-low}
-
-pub overflow_mul-part : goal.overflow_mul-part
-overflow_mul-part c = record { fits = lt_of_le_of_lt (rest_small c.high_product-high.result _ c.requires.1) (lit< tt) }
 
 carried : (c : After-low_product-low) → c.high_product-carried.result < 2 ^ 32
 carried c =
     carried_held _ _ _ _ _ c.high_product-high.ensures c.low_product-square.ensures c.high_product-carried.ensures
     c.requires.1
 
-pub overflow_add-part : goal.overflow_add-part
-overflow_add-part c = record { fits = omega (arith, rest_small c.high_product-high.result _ c.requires.1, carried c) }
-
-pub overflow_mul-g : goal.overflow_mul-g
-overflow_mul-g c =
-    let small = high_held _ _ _ _ _ c.high_product-high.ensures c.low_product-square.ensures
-    c.high_product-carried.ensures c.requires.1 c.requires.0 in
-    record { fits = lt_of_le_of_lt (top_small _ _ small c.requires.1) (lit< tt) }
-
 -- all above the last 74 bits
 g_held : (c : After-low_product-low) → (c.high_product-high.result / 1024 * c.args.a + (c.high_product-high.result % 1024 * c.args.a + c.high_product-carried.result) / 1024) < 2 ^ 64
 g_held c =
     g_small _ _ _ _ _ c.high_product-high.ensures c.low_product-square.ensures c.high_product-carried.ensures
     c.requires.1 c.requires.0
-
-pub overflow_add-g : goal.overflow_add-g
-overflow_add-g c = record { fits = g_held c }
 
 -- the product by its parts
 in_parts : (c : After-low_product-low) →

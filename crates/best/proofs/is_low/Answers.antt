@@ -1,9 +1,8 @@
 -- Which of the two is chosen: where one is none the other, else by the comparison. No loop. Assumes nothing.
-use native.Mathlib.Nat.{le_trans, mul-pos, lt_of_lt_of_le}
+use native.Mathlib.Nat.{le_trans, mul-pos}
 use native.Mathlib.Omega.{arith}
-use lib.Dec.{lit<, lit≤}
+use lib.Dec.{lit<}
 use lib.Pow.{pow_pos}
-use borrow.Author.Rules.{rules}
 use Rattle.best.proofs.Picked.{picks_low, picks_high, none_above, none_below, exponent_least, exponent_most, by_less, product_32}
 use Rattle.best.proofs.is_low.Goals as goal
 
@@ -12,12 +11,6 @@ returns-then-high-eq0 c = picks_low _ _ _ _ (none_above _ _ _ _ c.requires.0 (po
 
 pub returns-then-low-eq0 : goal.returns-then-low-eq0
 returns-then-low-eq0 c = picks_high _ _ _ _ (none_below _ _ _ _ c.requires.0 (mul-pos (le_trans (lit< tt) c.requires.1) (pow_pos c.args.k)) c.if-low-eq0.true)
-
-pub overflow_mul-low : goal.overflow_mul-low
-overflow_mul-low c = record { fits = lt_of_lt_of_le (product_32 _ _ c.requires.0.low_held.denom c.requires.0.high_held.denom) (lit≤ tt) }
-
-pub overflow_mul-low-2 : goal.overflow_mul-low-2
-overflow_mul-low-2 c = record { fits = lt_of_lt_of_le (product_32 _ _ c.requires.0.low_held.numer c.requires.0.high_held.numer) (lit≤ tt) }
 
 pub overflow_sub-k : goal.overflow_sub-k
 overflow_sub-k c = exponent_most _ _ _ _ c.requires.0 c.requires.1 c.if-high-eq0.false

@@ -1,8 +1,6 @@
 -- The least k of which n / 2 ^ k is below the limit, and the next multiple of 2 ^ k. The invariant: of no smaller one it is. The measure
 -- is how far k is from 16. Assumes nothing.
 use Prim.Native.Nat.{ℕ, ◌-◌, ◌/◌, ◌^◌, ◌≤◌, ◌<◌}
-use native.Mathlib.Omega.{arith}
-use Rattle.best.proofs.After.{fewer, more, next_found}
 use Rattle.best.proofs.next_within.Given as goal
 
 abbrev pub invariant-loop-k : goal.invariant-loop-k

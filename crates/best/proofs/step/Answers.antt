@@ -1,6 +1,5 @@
 -- Past the fraction at hand, up or on. No loop. Assumes nothing.
 use mathlib.Core.Path.{sym, ◌∙◌}
-use borrow.Author.Rules.{rules}
 use Rattle.best.proofs.Steps.{up, on}
 use Rattle.best.proofs.step.Goals as goal
 

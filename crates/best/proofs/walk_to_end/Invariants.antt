@@ -1,11 +1,7 @@
 -- The walk. The invariant: what was passed, and that the fraction at hand is ready; the measure is how far its numerator and denominator
 -- together are from 131,072. Assumes nothing.
-use mathlib.Core.Logic.{inl, inr}
 use Prim.Native.Nat.{◌+◌, ◌-◌, ◌*◌, ◌^◌}
-use native.Mathlib.Omega.{arith}
 use Rattle.best.specs.Walked.{PassedBy, Ready}
-use Rattle.best.proofs.Passing.{begin}
-use Rattle.best.proofs.Picked.{one_allowed}
 use Rattle.best.proofs.walk_to_end.Given as goal
 
 abbrev pub invariant-loop-here : goal.invariant-loop-here

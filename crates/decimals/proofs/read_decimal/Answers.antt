@@ -8,10 +8,10 @@ pub returns-in_default : goal.returns-in_default
 returns-in_default c = told_bad _ c.scan.ensures c.in_default.is
 
 pub signed_decimal-requires : goal.signed_decimal-requires
-signed_decimal-requires c = (told_small _ c.scan.ensures c.in-Is.is, (supported_says c.in-Is.x (sym c.is_supported.ensures ∙ c.if-is_supported.true)).near)
+signed_decimal-requires c = (told_small _ c.scan.ensures c.in-Some.is, (supported_says c.in-Some.x (sym c.is_supported.ensures ∙ c.if-not-is_supported.false)).near)
 
-pub returns-then-is_supported : goal.returns-then-is_supported
-returns-then-is_supported c = told_value _ c.scan.ensures c.in-Is.is (sym c.is_supported.ensures ∙ c.if-is_supported.true) c.signed_decimal.ensures
+pub returns : goal.returns
+returns c = told_value _ c.scan.ensures c.in-Some.is (sym c.is_supported.ensures ∙ c.if-not-is_supported.false) c.signed_decimal.ensures
 
-pub returns-else-is_supported : goal.returns-else-is_supported
-returns-else-is_supported c = told_left _ c.scan.ensures c.in-Is.is (sym c.is_supported.ensures ∙ c.if-is_supported.false)
+pub returns-then-not-is_supported : goal.returns-then-not-is_supported
+returns-then-not-is_supported c = told_left _ c.scan.ensures c.in-Some.is (sym c.is_supported.ensures ∙ c.if-not-is_supported.true)

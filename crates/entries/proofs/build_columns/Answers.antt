@@ -1,9 +1,8 @@
 -- `build_columns` meets its contract: the list's room is tested, then the columns are built.
 -- Assumes nothing.
-use borrow.Author.Rules.{rules}
 use native.Mathlib.Omega.{arith}
 use Rattle.sorted.specs.Lent.{list_table}
-use Rattle.scl.specs.Table.{ItemTable, Typed, item_table}
+use Rattle.scl.specs.Table.{Typed, item_table}
 use Rattle.entries.proofs.Builds.{short_holds, long_holds}
 use Rattle.entries.proofs.build_columns.Goals as goal
 use Rattle.entries.proofs.build_columns.Goals.{After-shared_slice_known-4-1}

@@ -1,11 +1,10 @@
 -- `read_columns` meets its contract: a list that is shorter than the column of wraparounds is so much of that column.
 -- Assumes nothing.
-use borrow.Author.Rules.{rules}
 use mathlib.Core.Path.{sym}
 use native.Mathlib.Omega.{arith}
 use lib.Seq.{length-take-le}
-use Rattle.sorted.specs.Lent.{ListTable, list_table}
-use Rattle.scl.specs.Table.{ItemTable, item_table}
+use Rattle.sorted.specs.Lent.{list_table}
+use Rattle.scl.specs.Table.{item_table}
 use Rattle.entries.proofs.Readings.{whole_read, part_read}
 use Rattle.entries.proofs.read_columns.Goals as goal
 

@@ -1,6 +1,5 @@
 -- `store_list` meets its contract: entries stored place by place are the columns' first.
-use Rattle.std.proofs.Common.{ℕ, ◌≡◌, List, ◌∙◌, ap, refl, arith, add-one}
-use Rattle.entries.specs.declared.SortedEntry.{SortedEntry}
+use Rattle.std.proofs.Common.{ℕ, ◌≡◌, ◌∙◌, ap, refl, arith, add-one}
 use Rattle.entries.specs.Entries.{as_entries, filled, sorted_entry_at}
 use Rattle.entries.proofs.Stored.{filled_is}
 use Rattle.entries.proofs.store_list.Goals as goal

@@ -1,25 +1,21 @@
--- `find_by_pitch` meets its contract: 10, then the search, then 11.
--- Assumes nothing.
-use mathlib.Core.Bool.{◌&&◌}
-use mathlib.Core.Path.{◌∙◌, ap, sym}
-use Rattle.base.specs.Said.{Said, and_then}
+-- `find_by_pitch` meets its contract: what refuses the search is the answer.
+use Rattle.std.specs.Prelude.{◌&&◌}
+use Rattle.std.proofs.Common.{arith}
+use Rattle.std.proofs.lemmas.Grind.{common_steps}
 use Rattle.floats.specs.Ranges.{in_pitch}
-use Rattle.sorted.specs.Lent.{is_list, list_table}
-use Rattle.scl.specs.Table.{is_items, item_table}
-use Rattle.scl.proofs.Table.{both}
 use Rattle.kbm.specs.Root.{is_root}
+use Rattle.finding.specs.Find.{pitch_search_of}
+use Rattle.sorted.specs.Lent.{list_table, list_in}
+use Rattle.scl.specs.Table.{item_table, items_in}
 use Rattle.relative.specs.Scales.{is_scale}
-use Rattle.searching.specs.declared.Found.{Found}
 use Rattle.searching.specs.Degrees.{declared_of}
+use Rattle.finding.proofs.Tested.{refused_on}
 use Rattle.finding.proofs.find_by_pitch.Goals as goal
 
-pub search_rooted-found-requires : goal.search_rooted-found-requires
-search_rooted-found-requires c =
-    let h = (both (is_scale c.args.scl.count (item_table c.args.kind.now c.args.cents.now c.args.numer.now c.args.denom.now) (list_table c.args.place.now c.args.ratio.now c.args.wraps.now)) (is_root c.args.root && in_pitch c.args.pitch.0) (sym c.is_searchable.ensures ∙ c.if-is_searchable.true)).0 in
-    both (is_items c.args.scl.count (item_table c.args.kind.now c.args.cents.now c.args.numer.now c.args.denom.now)) (is_list c.args.scl.count (list_table c.args.place.now c.args.ratio.now c.args.wraps.now)) h
-
-pub returns-then-is_searchable : goal.returns-then-is_searchable
-returns-then-is_searchable c = rw (sym c.is_searchable.ensures ∙ c.if-is_searchable.true) (c.declared.ensures ∙ ap (λ (t : Said Found). and_then t (declared_of c.args.scl.count)) c.search_rooted-found.ensures)
-
-pub returns : goal.returns
-returns c = rw (sym c.is_searchable.ensures ∙ c.if-is_searchable.false)
+pub returns-in_err-found : goal.returns-in_err-found
+returns-in_err-found c =
+    let count = c.args.scl.count in
+    let table = item_table c.args.items.now.kinds c.args.items.now.cents c.args.items.now.numers c.args.items.now.denoms in
+    let list = list_table c.args.list.now.places c.args.list.now.ratios c.args.list.now.wraps in
+    let on = refused_on (is_scale count table list && (is_root c.args.root && in_pitch c.args.pitch.0)) (pitch_search_of (items_in count table) (list_in count list) c.args.root c.args.pitch.0) (declared_of count) _ c.in_err-found.ensures in
+    grind (arith, common_steps, on)

@@ -1,12 +1,11 @@
 -- `push_all` meets its contract. The invariant: the pushes that are left make of the state what all pushes make of the first one.
 -- Assumes nothing.
-use Rattle.std.proofs.Common.{◌≡◌, ◌+◌, ◌-◌, ◌≤◌, length, sym, refl, ap, ◌∙◌, arith, rules}
+use Rattle.std.proofs.Common.{◌+◌, sym, ◌∙◌, arith}
 use Rattle.scl.specs.Table.{item_table}
-use Rattle.scl_build.specs.Builder.{beside, after_all}
+use Rattle.scl_build.specs.Builder.{beside}
 use Rattle.harmonics.specs.Harmonics.{item_at}
-use Rattle.harmonics.specs.Steps.{said_from}
-use Rattle.generate.proofs.Kept.{Kept, kept_all, kept_on}
-use Rattle.harmonics.proofs.Pushes.{said_kept, left_after, none_pushed, one_pushed, all_pushed}
+use Rattle.generate.proofs.Kept.{kept_all, kept_on}
+use Rattle.harmonics.proofs.Pushes.{said_kept, none_pushed, one_pushed, all_pushed}
 use Rattle.harmonics.proofs.push_all.Goals as goal
 
 pub loop-i-init : goal.loop-i-init

@@ -1,34 +1,18 @@
--- `is_table` meets its contract. The invariant: `all` says whether the places up to i hold entries, and what is left decides with it.
--- The measure is the number of places left. Assumes nothing.
-use Prim.Native.Nat.{◌-◌}
-use borrow.Author.Rules.{rules}
-use native.Mathlib.Omega.{arith}
-use lib.IntN.{pos}
-use lib.ListN.{get_or}
+-- `is_table` meets its contract: each place decides with those before it, and past the last nothing is left to decide.
+use Rattle.std.proofs.Common.{◌<◌, rules, arith, pos, get_or, take, FitsSigned, w32, ◌∙◌, ap}
+use lib.Seq.{get_or-take, length-take-le}
+use Rattle.kbm.specs.Table.{is_entry}
 use Rattle.kbm.proofs.Entries.{read_is}
-use Rattle.kbm.proofs.Table.{Gone, begin, short, turn, finish}
+use Rattle.kbm.proofs.Table.{turn, finish}
 use Rattle.kbm.proofs.is_table.Goals as goal
 
-pub returns-then-map-count : goal.returns-then-map-count
-returns-then-map-count c = short c.args.count c.args.map.now c.if-map-count.true
-
-pub loop-i-init : goal.loop-i-init
-loop-i-init c = begin c.if-map-count.false
-
-pub offset_bounds-map-i : goal.offset_bounds-map-i
-offset_bounds-map-i c = search rules
-
-pub bounds-map-i : goal.bounds-map-i
-bounds-map-i c = omega (arith, c.loop-i.invariant.room)
-
-pub overflow_add-i : goal.overflow_add-i
-overflow_add-i c = omega arith
-
-pub loop-i-smaller : goal.loop-i-smaller
-loop-i-smaller c = omega arith
-
-pub loop-i-preserved : goal.loop-i-preserved
-loop-i-preserved c = turn c.loop-i.invariant c.loop-i-test.true (read_is (get_or c.args.map.now c.loop-i.i (pos 0)) (record { sfits = c.is_entry-arg-1.given }) c.is_entry-all.ensures)
+pub loop-z-preserved : goal.loop-z-preserved
+loop-z-preserved c =
+    let all = length-take-le c.args.count c.args.map.now c.loop-z.invariant.room in
+    let h : c.loop-z.z-index < c.args.count = omega (arith, all) in
+    let fits : FitsSigned w32 (get_or (take c.args.count c.args.map.now) c.loop-z.z-index (pos 0)) = search rules in
+    turn c.loop-z.invariant h
+    (read_is _ fits c.is_entry-all.ensures ∙ ap is_entry (get_or-take c.args.count c.args.map.now c.loop-z.z-index (pos 0) h))
 
 pub returns : goal.returns
-returns c = finish c.loop-i.invariant c.loop-i-test.false
+returns c = finish c.loop-z.invariant (omega (arith, length-take-le c.args.count c.args.map.now c.loop-z.invariant.room))

@@ -1,6 +1,5 @@
 -- `scale_degree_of` meets its contract: the mapping itself, counted from its reference key.
 -- Assumes nothing.
-use borrow.Author.Rules.{rules}
 use Rattle.kbm.specs.Degree.{scale_degree_of}
 use Rattle.kbm.proofs.scale_degree_of.Goals as goal
 

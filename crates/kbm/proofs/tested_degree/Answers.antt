@@ -2,11 +2,7 @@
 -- Assumes nothing.
 use mathlib.Core.Path.{◌∙◌, sym}
 use Rattle.kbm.specs.Degree.{scale_degree_of}
-use borrow.Author.Rules.{rules}
 use Rattle.kbm.proofs.tested_degree.Goals as goal
-
-pub degree_in-requires : goal.degree_in-requires
-degree_in-requires c = sym c.is_table.ensures ∙ c.if-is_table.true
 
 pub returns-then-is_table : goal.returns-then-is_table
 unfolding scale_degree_of

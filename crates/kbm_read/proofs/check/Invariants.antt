@@ -1,14 +1,10 @@
 -- `check` answers what the walk over the lines gives. The invariant: what is left to walk, after what was said so far,
 -- gives the answer of the whole; a line has at least one byte, so its number stays in range.
-use borrow.Author.Rules.{rules}
-use mathlib.Core.Path.{◌≡◌, sym, ◌∙◌}
+use mathlib.Core.Path.{◌≡◌}
 use Prim.Native.Nat.{◌≤◌, ◌+◌, ◌-◌}
-use native.Mathlib.Omega.{arith}
 use lib.ListN.{length, drop}
-use Rattle.listing.proofs.Given.{walk_end, walk_turn}
-use Rattle.text.proofs.Shown.{LineTurn, line_turn, said_end}
-use Rattle.text.specs.ReadLine.{strictly, said_in}
-use Rattle.kbm_read.specs.Reader.{says_step, take_meaning, finished, read_of, walk}
+use Rattle.text.specs.ReadLine.{said_in}
+use Rattle.kbm_read.specs.Reader.{read_of, walk}
 use Rattle.kbm_read.proofs.check.Given as goal
 
 abbrev pub invariant-loop-at : goal.invariant-loop-at

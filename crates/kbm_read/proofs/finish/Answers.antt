@@ -1,6 +1,5 @@
 -- `finish` meets its contract: the tests after the last line, in document 01's order.
 -- No loop: one law for each end.
-use borrow.Author.Rules.{rules}
 use mathlib.Core.Path.{◌∙◌, ap}
 use Rattle.base.specs.Said.{gives}
 use Rattle.kbm_read.proofs.Finishes.{finish_missing, finish_room, finish_large, finish_count, finish_is}

@@ -1,15 +1,10 @@
 -- `pad` meets its contract: unmapped entries from one place up to another.
 -- The invariant: padding what the table is now, from here on, gives what padding the whole gives.
-use mathlib.Core.Path.{◌≡◌, refl, sym, ◌∙◌}
+use mathlib.Core.Path.{◌≡◌}
 use Prim.Native.Nat.{◌-◌}
-use native.Mathlib.Omega.{arith}
-use lib.ListN.{length, length-set}
+use lib.ListN.{length}
 use Rattle.kbm_read.specs.Reader.{padded}
-use Rattle.kbm_read.proofs.Fills.{pad_end, pad_step}
 use Rattle.kbm_read.proofs.pad.Given as goal
 
 abbrev pub invariant-loop-i : goal.invariant-loop-i
 invariant-loop-i l = (length l.map ≡ length l.initial.map) × (padded (l.to - l.from) l.from l.initial.map ≡ padded (l.to - l.i) l.i l.map)
-
-abbrev pub decreases-loop-i : goal.decreases-loop-i
-decreases-loop-i l = l.to - l.i

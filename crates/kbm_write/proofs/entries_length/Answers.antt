@@ -1,5 +1,5 @@
 -- `entries_length` meets its contract. The invariant: what was counted and the length of the lines that are left make the
--- length of all, and no line is longer than 32. The measure is the number of entries that are left.
+-- length of all, and no line is longer than 32.
 use mathlib.Core.Path.{◌≡◌}
 use Prim.Native.Nat.{◌+◌, ◌-◌, ◌*◌, ◌≤◌}
 use native.Mathlib.Omega.{arith}
@@ -14,33 +14,18 @@ use Rattle.kbm_write.proofs.entries_length.Goals as goal
 use Rattle.kbm_write.proofs.entries_length.Goals.{After-entry_length-total}
 
 -- what was counted is the line of the entry at `i`
-counted : (c : After-entry_length-total) → c.entry_length-total.result ≡ length (line_at c.args.map.now c.loop-i.i)
+counted : (c : After-entry_length-total) → c.entry_length-total.result ≡ length (line_at c.args.map.now c.loop-number.number-index)
 counted c =
-    rw (to_z-of_z {w = w32} {z = get_or c.args.map.now c.loop-i.i (pos 0)} (search rules)) at c.entry_length-total.ensures.0
+    rw (to_z-of_z {w = w32} {z = get_or c.args.map.now c.loop-number.number-index (pos 0)} (search rules)) at c.entry_length-total.ensures.0
 
-pub loop-i-init : goal.loop-i-init
-loop-i-init c = (omega arith, omega arith, omega arith)
-
-pub offset_bounds-map-i : goal.offset_bounds-map-i
-offset_bounds-map-i c = omega arith
-
-pub bounds-map-i : goal.bounds-map-i
-bounds-map-i c = omega arith
-
-pub entry_length-total-requires : goal.entry_length-total-requires
-entry_length-total-requires c = tt
+pub loop-number-init : goal.loop-number-init
+loop-number-init c = (omega arith, omega arith, omega arith)
 
 pub overflow_add-total : goal.overflow_add-total
 overflow_add-total c = omega (arith, c.entry_length-total.ensures.1)
 
-pub overflow_add-i : goal.overflow_add-i
-overflow_add-i c = omega arith
-
-pub loop-i-smaller : goal.loop-i-smaller
-loop-i-smaller c = omega arith
-
-pub loop-i-preserved : goal.loop-i-preserved
-loop-i-preserved c = (omega arith, omega (arith, counted c, table_length c.args.map.now c.loop-i.i (omega arith)), omega (arith, c.entry_length-total.ensures.1))
+pub loop-number-preserved : goal.loop-number-preserved
+loop-number-preserved c = (omega arith, omega (arith, counted c, table_length c.args.map.now c.loop-number.number-index (omega arith)), omega (arith, c.entry_length-total.ensures.1))
 
 pub returns : goal.returns
-returns c = (omega (arith, table_ends c.args.map.now c.loop-i.i (omega arith)), omega arith)
+returns c = (omega (arith, table_ends c.args.map.now c.loop-number.number-index (omega arith)), omega arith)

@@ -1,5 +1,5 @@
 -- `entries_length` meets its contract. The invariant: what was counted and the length of the lines that are left make the
--- length of all, and no line is longer than 32. The measure is the number of entries that are left.
+-- length of all, and no line is longer than 32.
 use mathlib.Core.Path.{◌≡◌}
 use Prim.Native.Nat.{◌+◌, ◌-◌, ◌*◌, ◌≤◌}
 use native.Mathlib.Omega.{arith}
@@ -12,8 +12,5 @@ use Rattle.kbm_write.specs.Export.{table_text}
 use Rattle.kbm_write.proofs.Entries.{line_at, table_length, table_ends}
 use Rattle.kbm_write.proofs.entries_length.Given as goal
 
-abbrev pub invariant-loop-i : goal.invariant-loop-i
-invariant-loop-i l = (l.i ≤ length l.map) × (l.total + length (table_text (drop l.i l.map)) ≡ length (table_text l.map)) × (l.total ≤ 32 * l.i)
-
-abbrev pub decreases-loop-i : goal.decreases-loop-i
-decreases-loop-i l = length l.map - l.i
+abbrev pub invariant-loop-number : goal.invariant-loop-number
+invariant-loop-number l = (l.number-index ≤ length l.map) × (l.total + length (table_text (drop l.number-index l.map)) ≡ length (table_text l.map)) × (l.total ≤ 32 * l.number-index)

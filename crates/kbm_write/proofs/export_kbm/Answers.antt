@@ -11,7 +11,7 @@ use borrow.Author.Rules.{rules}
 use Rattle.base.proofs.Clauses.{as_pair}
 use Rattle.base.proofs.Clauses.{value_and_out}
 use Rattle.kbm_write.proofs.export_kbm.Goals as goal
-use Rattle.kbm_write.proofs.export_kbm.Goals.{Then-is_table}
+use Rattle.kbm_write.proofs.export_kbm.Goals.{Then-is_table, else-is_table-via-then-is_table+else-is_in_pitch, else-is_table-via-else-is_table}
 
 -- the table can be used, so its entries are as many as its count
 table : (c : Then-is_table) → is_table c.args.kbm.count c.args.map.now ≡ true
@@ -35,18 +35,16 @@ returns-then-is_in_pitch c =
     value_and_out
     (rw (table (goal.at.returns-then-is_in_pitch c).Then-is_table, sym c.is_in_pitch.ensures ∙ c.if-is_in_pitch.true) (as_pair c.write_held.ensures))
 
-pub returns-else-is_in_pitch : goal.returns-else-is_in_pitch
+pub returns : goal.returns
 unfolding export_of
-returns-else-is_in_pitch c =
-    record {
-      value = rw (table (goal.at.returns-else-is_in_pitch c).Then-is_table, sym c.is_in_pitch.ensures ∙ c.if-is_in_pitch.false) refl;
-      out_after = rw (table (goal.at.returns-else-is_in_pitch c).Then-is_table, sym c.is_in_pitch.ensures ∙ c.if-is_in_pitch.false) refl;
-    }
-
-pub returns-else-is_table : goal.returns-else-is_table
-unfolding export_of
-returns-else-is_table c =
-    record {
-      value = rw (sym c.is_table.ensures ∙ c.if-is_table.false) refl;
-      out_after = rw (sym c.is_table.ensures ∙ c.if-is_table.false) refl;
-    }
+returns c =
+    elim c.else-is_table.branch [
+      | else-is_table-via-then-is_table+else-is_in_pitch w ↦ record {
+        value = rw (sym c.is_table.ensures ∙ w.if-is_table.true, sym w.is_in_pitch.ensures ∙ w.if-is_in_pitch.false) refl;
+        out_after = rw (sym c.is_table.ensures ∙ w.if-is_table.true, sym w.is_in_pitch.ensures ∙ w.if-is_in_pitch.false) refl;
+      }
+      | else-is_table-via-else-is_table w ↦ record {
+        value = rw (sym c.is_table.ensures ∙ w.if-is_table.false) refl;
+        out_after = rw (sym c.is_table.ensures ∙ w.if-is_table.false) refl;
+      }
+    ]

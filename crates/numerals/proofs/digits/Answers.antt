@@ -1,43 +1,31 @@
 -- `digits` meets its contract. The loop's invariant: the run from `from` on is the run from `at` on, after what was read.
--- The measure is what is left of the text.
-use mathlib.Core.Path.{refl, sym, ◌∙◌}
+use mathlib.Core.Path.{◌≡◌, sym, ◌∙◌}
 use native.Mathlib.Omega.{arith}
+use mathlib.Core.Bool.{true}
+use Prim.Native.Nat.{◌≤◌}
+use lib.ListN.{get_or, length}
+use Rattle.integers.specs.Digits.{is_digit}
 use Rattle.numerals.proofs.Runs.{run_step, run_stop, run_end, grown_small, counted_le}
-use Rattle.integers.proofs.Digits.{digit_yes, digit_low, digit_high}
+use Rattle.integers.proofs.Digits.{ascii_digit, digit_is}
 use Rattle.numerals.proofs.digits.Goals as goal
 
-pub loop-at-init : goal.loop-at-init
-loop-at-init c = (c.requires.2, c.requires.1, c.requires.0, refl)
-
-pub bounds-s-at : goal.bounds-s-at
-bounds-s-at c = omega arith
-
-pub returns-then-b-lt48 : goal.returns-then-b-lt48
-returns-then-b-lt48 c = sym (c.loop-at.invariant.3 ∙ run_stop _ _ _ _ c.loop-at-test.true (digit_low _ c.if-b-lt48.true))
-
-pub returns-then-b-gt57 : goal.returns-then-b-gt57
-returns-then-b-gt57 c = sym (c.loop-at.invariant.3 ∙ run_stop _ _ _ _ c.loop-at-test.true (digit_high _ c.if-b-gt57.true))
-
-pub counted-significant-requires : goal.counted-significant-requires
-counted-significant-requires c = omega (arith, c.wide-d.ensures)
-
-pub grown-number-requires : goal.grown-number-requires
-grown-number-requires c = omega (arith, c.wide-d.ensures)
-
-pub overflow_add-at : goal.overflow_add-at
-overflow_add-at c = omega arith
-
-pub loop-at-smaller : goal.loop-at-smaller
-loop-at-smaller c = omega arith
+pub returns-then-not-is_ascii_digit : goal.returns-then-not-is_ascii_digit
+returns-then-not-is_ascii_digit c =
+    let b = get_or c.args.s.now c.loop-at.at 0 in
+    sym (c.loop-at.invariant.3 ∙ run_stop _ _ _ _ c.loop-at-test.true (ascii_digit b ∙ sym c.is_ascii_digit.ensures.value ∙ c.if-not-is_ascii_digit.true))
 
 pub loop-at-preserved : goal.loop-at-preserved
-loop-at-preserved c = (
-  omega arith,
-  omega (arith, c.counted-significant.ensures, counted_le c.loop-at.number c.wide-d.result c.loop-at.significant),
-  rw c.grown-number.ensures (grown_small c.loop-at.number c.wide-d.result c.loop-at.invariant.2 (omega arith)),
-  rw (c.grown-number.ensures, c.counted-significant.ensures, c.wide-d.ensures)
-      (c.loop-at.invariant.3 ∙ run_step _ _ _ _ c.loop-at-test.true (digit_yes _ c.if-b-lt48.false c.if-b-gt57.false)),
-)
+loop-at-preserved c =
+    let b = get_or c.args.s.now c.loop-at.at 0 in
+    let d : is_digit b ≡ true = ascii_digit b ∙ sym c.is_ascii_digit.ensures.value ∙ c.if-not-is_ascii_digit.false in
+    let small : c.from-d.result ≤ 9 = omega (arith, c.from-d.ensures, (digit_is b d).1) in (
+      omega arith,
+      omega (arith, c.counted-significant.ensures, counted_le c.loop-at.number c.from-d.result c.loop-at.significant),
+      rw c.grown-number.ensures (grown_small c.loop-at.number c.from-d.result c.loop-at.invariant.2 small),
+      rw (c.grown-number.ensures, c.counted-significant.ensures, c.from-d.ensures) (c.loop-at.invariant.3 ∙ run_step _ _ _ _ c.loop-at-test.true d),
+    )
 
 pub returns : goal.returns
-returns c = sym (c.loop-at.invariant.3 ∙ run_end _ _ _ _ c.loop-at-test.false)
+returns c =
+    let e : c.loop-at.at ≡ length c.args.s.now = omega arith in
+    rw (← e) (sym (c.loop-at.invariant.3 ∙ run_end _ _ _ _ c.loop-at-test.false))

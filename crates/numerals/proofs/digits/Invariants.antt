@@ -1,13 +1,9 @@
 -- `digits` meets its contract. The loop's invariant: the run from `from` on is the run from `at` on, after what was read.
--- The measure is what is left of the text.
 use mathlib.Core.Path.{◌≡◌}
-use Prim.Native.Nat.{◌-◌, ◌^◌, ◌≤◌, ◌<◌}
+use Prim.Native.Nat.{◌^◌, ◌≤◌, ◌<◌}
 use lib.ListN.{length}
 use Rattle.numerals.specs.Scan.{run_at}
 use Rattle.numerals.proofs.digits.Given as goal
 
 abbrev pub invariant-loop-at : goal.invariant-loop-at
 invariant-loop-at l = (l.at ≤ length l.s) × (l.significant ≤ l.at) × (l.number < 10 ^ 18) × (run_at l.s l.n l.count l.from ≡ run_at l.s l.number l.significant l.at)
-
-abbrev pub decreases-loop-at : goal.decreases-loop-at
-decreases-loop-at l = length l.s - l.at

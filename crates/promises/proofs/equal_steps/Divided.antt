@@ -1,5 +1,6 @@
 -- NO STEP OF A DIVIDED SEGMENT LEAVES E's DOMAIN: its interval is in 1..2^16, so one of n equal steps has few octaves, and n times them
 -- are at most 900. Assumes nothing.
+use Rattle.std.specs.Prelude.{Some}
 use mathlib.Core.Path.{◌≡◌, refl, sym, ◌∙◌, ap, subst}
 use mathlib.Core.Bool.{true, false, true≢false}
 use Prim.Native.Nat.{ℕ, suc, ◌+◌, ◌*◌, ◌^◌, ◌≤◌, ◌<◌}
@@ -32,8 +33,6 @@ use Rattle.pitch.specs.Ratios.{from_float, as_octaves, from_octaves, divided_int
 use Rattle.scl.proofs.Items.{octaves_ratio}
 use Rattle.scl_tables.proofs.Reaches.{log_gives}
 use Rattle.harmonics.specs.Segment.{interval_of, steps_of}
-use Rattle.harmonics.specs.declared.segment.Divisions.TheVariants.{Into}
-use Rattle.harmonics.specs.declared.segment.Steps.TheVariants.{Equal}
 use Rattle.harmonics.proofs.Sizes.{times}
 use Rattle.harmonics.proofs.Theorems.{sum_of}
 use Rattle.promises.proofs.equal_steps.Octaves.{Up, up_to, log_up, log_small}
@@ -173,13 +172,13 @@ module _ (start size n : ℕ) (some : 0 < start) (s-small : start < 2 ^ 16) (z-s
       subst (λ (x : Float). fits binary64 x ≡ true) (same_value t.value step (sym t.is ∙ step_said)) t.held
 
   -- THE STEPS are said
-  pub steps_said : steps_of start size (Into n) ≡ gives (Equal step)
+  pub steps_said : steps_of start size (Some n) ≡ gives (Some step)
   steps_said =
       let first : from_float interval ≡ gives interval = rw reach in
       let second : as_octaves interval ≡ gives (log_of interval) = rw reach (log_gives interval reach) in
-      ap (λ (s : Said Float). and_then (and_then s (λ ratio. divided_into ratio (float n))) (λ x. gives (Equal x))) first
-      ∙ ap (λ (s : Said Float). and_then (and_then s (λ octaves. from_octaves (div binary64 octaves (float n)))) (λ x. gives (Equal x))) second
-      ∙ ap (λ (s : Said Float). and_then s (λ x. gives (Equal x))) step_said
+      ap (λ (s : Said Float). and_then (and_then s (λ ratio. divided_into ratio (float n))) (λ x. gives (Some x))) first
+      ∙ ap (λ (s : Said Float). and_then (and_then s (λ octaves. from_octaves (div binary64 octaves (float n)))) (λ x. gives (Some x))) second
+      ∙ ap (λ (s : Said Float). and_then s (λ x. gives (Some x))) step_said
 
   -- ---- n of them
   coarse : (a : ℕ) → a ≤ 900 → 16 ≤ a * n → a * n ≤ 900 → Sized 900 (mul binary64 (log_of step) (float n))

@@ -1,5 +1,6 @@
 -- A SEGMENT OF SIZE 0 in two or more divisions is beyond reach: each of its items is start / start, so its period is 1.0. Assumes
 -- nothing.
+use Rattle.std.specs.Prelude.{Some}
 use mathlib.Core.Path.{◌≡◌, refl, sym, ◌∙◌, ap}
 use mathlib.Core.Logic.{inr}
 use mathlib.Core.Bool.{Bool, true, false, true≢false}
@@ -32,11 +33,9 @@ use Rattle.scl.specs.declared.Item.{Item}
 use Rattle.scl_tables.specs.Build.{last_of}
 use Rattle.scl_tables.specs.Room.{room_of}
 use Rattle.harmonics.specs.Segment.{harmonic_of, item_fraction, near_at, interval_of}
-use Rattle.harmonics.specs.declared.segment.Divisions.TheVariants.{Into}
 use Rattle.harmonics.specs.declared.segment.Fraction.{Fraction}
 use Rattle.harmonics.specs.declared.segment.SegmentType.{SegmentType}
 use Rattle.harmonics.specs.declared.segment.SegmentType.TheVariants.{Otonal, Utonal}
-use Rattle.harmonics.specs.declared.segment.Steps.TheVariants.{Equal}
 use Rattle.harmonics.specs.Harmonics.{as_item, item_at, made_harmonics}
 use Rattle.harmonics.proofs.Sizes.{times}
 use Rattle.harmonics.proofs.Theorems.{sum_of}
@@ -153,9 +152,9 @@ module _ (start n : ℕ) (some : 0 < start) (s-small : start < 2 ^ 16) (pos_n : 
       ap (λ (k : ℕ). item_fraction k (harmonic_of (div binary64 (round binary64 false k 1) One))) z ∙ ap (λ (x : Float). item_fraction start (harmonic_of x)) h
       ∙ ap (λ (k : ℕ). item_fraction start k) (harmonic_whole start (omega (arith, s-small)) (round binary64 false start 1) whole)
 
-  item_one : (type : SegmentType) → item_at type start 0 (Equal (step start 0 n some s-small (lit< tt) pos_n few)) n ≡ gives (as_item (item_fraction start start))
+  item_one : (type : SegmentType) → item_at type start 0 (Some (step start 0 n some s-small (lit< tt) pos_n few)) n ≡ gives (as_item (item_fraction start start))
   item_one type =
-      ap (λ (x : Float). item_at type start 0 (Equal x) n) step_one
+      ap (λ (x : Float). item_at type start 0 (Some x) n) step_one
       ∙ ap (λ (s : Said Float). and_then (and_then s (λ ratio. gives (near_at type start 0 ratio))) (λ f. gives (as_item f))) repeated_one
       ∙ ap (λ (f : Fraction). gives (as_item f)) (near_one type)
 
@@ -163,13 +162,13 @@ module _ (start n : ℕ) (some : 0 < start) (s-small : start < 2 ^ 16) (pos_n : 
   unfolding of_int of_bits le lt eq
   ratio_one = ap computed (self_over start some s-small (round binary64 false start 1) (round binary64 false start 1) whole whole)
 
-  period_one : (type : SegmentType) → 2 ≤ n → PeriodOne type start 0 (Into n)
+  period_one : (type : SegmentType) → 2 ≤ n → PeriodOne type start 0 (Some n)
   period_one type two =
-      let m = items_of type start 0 some s-small (lit< tt) (Into n) few (λ e. let z : n ≡ 0 = cc in omega (arith, z, two)) in
-      let is = m.last (Equal (step start 0 n some s-small (lit< tt) pos_n few)) (steps_said start 0 n some s-small (lit< tt) pos_n few) pos_n (as_item (item_fraction start start)) (item_one type) in
+      let m = items_of type start 0 some s-small (lit< tt) (Some n) few (λ e. let z : n ≡ 0 = cc in omega (arith, z, two)) in
+      let is = m.last (Some (step start 0 n some s-small (lit< tt) pos_n few)) (steps_said start 0 n some s-small (lit< tt) pos_n few) pos_n (as_item (item_fraction start start)) (item_one type) in
       (two, ap (λ (s : Said (List Item)). and_then s (λ is. ratio_of (last_of (implicit ∷ is)))) m.are ∙ ap ratio_of is ∙ ratio_one)
 
 -- SIZE 0 IN TWO OR MORE DIVISIONS: 18, where there is room
-pub empty_beyond : (type : SegmentType) (start n : ℕ) (t : ItemTable) (l : ListTable) → 0 < start → start < 2 ^ 16 → 2 ≤ n → n < 2 ^ 16 → n < room_of t l → made_harmonics t l type start 0 (Into n) ≡ refuses beyond_reach 0
+pub empty_beyond : (type : SegmentType) (start n : ℕ) (t : ItemTable) (l : ListTable) → 0 < start → start < 2 ^ 16 → 2 ≤ n → n < 2 ^ 16 → n < room_of t l → made_harmonics t l type start 0 (Some n) ≡ refuses beyond_reach 0
 empty_beyond type start n t l some s-small two few room =
-    (beyond_reach_when type start 0 (Into n) s-small (lit< tt) few t l).1 (record { some = some; room = room }, inr (period_one start n some s-small (omega (arith, two)) few type two))
+    (beyond_reach_when type start 0 (Some n) s-small (lit< tt) few t l).1 (record { some = some; room = room }, inr (period_one start n some s-small (omega (arith, two)) few type two))

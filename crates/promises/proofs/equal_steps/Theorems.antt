@@ -1,5 +1,6 @@
 -- WHEN `create_harmonics_scale` REFUSES: each number exactly for its cause, and accepted exactly else. Document 01, "Scales and
 -- searches". Assumes nothing.
+use Rattle.std.specs.Prelude.{Some, None, Option}
 use mathlib.Core.Path.{◌≡◌, refl, sym, ◌∙◌, ap}
 use mathlib.Core.Logic.{◌↔◌, ◌⊎◌, inl, inr}
 use mathlib.Core.Bool.{Bool, true, false}
@@ -27,11 +28,7 @@ use Rattle.scl_tables.proofs.Reaches.{log_gives}
 use Rattle.scl_tables.specs.Build.{last_of}
 use Rattle.scl_tables.specs.Room.{room_of}
 use Rattle.harmonics.specs.Segment.{near_at, steps_of, segment_count}
-use Rattle.harmonics.specs.declared.segment.Divisions.{Divisions}
-use Rattle.harmonics.specs.declared.segment.Divisions.TheVariants.{Into, Lacking}
 use Rattle.harmonics.specs.declared.segment.SegmentType.{SegmentType}
-use Rattle.harmonics.specs.declared.segment.Steps.{Steps}
-use Rattle.harmonics.specs.declared.segment.Steps.TheVariants.{Whole, Equal}
 use Rattle.generate.specs.Generated.{made_of, items_from, Leaves}
 use Rattle.generate.proofs.Items.{All, all_items, last_of_law}
 use Rattle.generate.proofs.Theorems.{beyond_when, accepted_or, made_leaves}
@@ -46,13 +43,13 @@ use Rattle.promises.proofs.equal_steps.Divided.{step, step_reach, steps_said, st
 apart : {A X : Type 0} {a b c d : ℕ} → ◌≡◌ {A = Said A} (refuses a b) (refuses c d) → (a ≡ c → ⊥) → X
 apart e h = absurd (h (same_refuses e).0)
 
-none_or : (divisions : Divisions) → NoDivisions divisions ⊎ (NoDivisions divisions → ⊥)
-none_or Lacking = inr (λ e. let z : ◌≡◌ {A = ℕ} 0 1 = cc in omega (arith, z))
-none_or (Into zero) = inl refl
-none_or (Into (suc n)) = inr (λ e. let z : suc n ≡ 0 = cc in omega (arith, z))
+none_or : (divisions : (Option ℕ)) → NoDivisions divisions ⊎ (NoDivisions divisions → ⊥)
+none_or None = inr (λ e. let z : ◌≡◌ {A = ℕ} 0 1 = cc in omega (arith, z))
+none_or (Some zero) = inl refl
+none_or (Some (suc n)) = inr (λ e. let z : suc n ≡ 0 = cc in omega (arith, z))
 
 module _ (type : SegmentType) (start size : ℕ) (some : 0 < start) (s-small : start < 2 ^ 16) (z-small : size < 2 ^ 16) where
-  of_steps : (divisions : Divisions) (steps : Steps) → segment_count size divisions < 2 ^ 16 → steps_of start size divisions ≡ gives steps → (item_at type start size steps (segment_count size divisions) ≡ refuses beyond_reach 0 → ⊥) → SegmentItems type start size divisions
+  of_steps : (divisions : (Option ℕ)) (steps : (Option Float)) → segment_count size divisions < 2 ^ 16 → steps_of start size divisions ≡ gives steps → (item_at type start size steps (segment_count size divisions) ≡ refuses beyond_reach 0 → ⊥) → SegmentItems type start size divisions
   of_steps divisions steps small e last = go (ways start size some s-small z-small type n small steps (steps_reach start size divisions steps e))
     where
       n : ℕ
@@ -61,7 +58,7 @@ module _ (type : SegmentType) (start size : ℕ) (some : 0 < start) (s-small : s
       by : All (item_at type start size steps) 1 n → SegmentItems type start size divisions
       by m = record {
         items = m.items;
-        are = ap (λ (s : Said Steps). and_then s (λ x. items_from (item_at type start size x) 1 n)) e ∙ m.are;
+        are = ap (λ (s : Said (Option Float)). and_then s (λ x. items_from (item_at type start size x) 1 n)) e ∙ m.are;
         size_is = m.size;
         usable = m.usable;
         held = m.held;
@@ -69,7 +66,7 @@ module _ (type : SegmentType) (start size : ℕ) (some : 0 < start) (s-small : s
             let z : 1 + n - 1 ≡ n = omega arith in
             let same : x ≡ steps = same_value x steps (sym q ∙ e) in
             last_of_law m.items (omega (arith, m.size, p)) ∙ ap (λ (k : ℕ). get_or m.items (k - 1) no_item) m.size
-            ∙ m.last i p (ap (item_at type start size steps) z ∙ ap (λ (y : Steps). item_at type start size y n) (sym same) ∙ is);
+            ∙ m.last i p (ap (item_at type start size steps) z ∙ ap (λ (y : (Option Float)). item_at type start size y n) (sym same) ∙ is);
       }
 
       go : Ways start size some s-small z-small (item_at type start size steps) n → SegmentItems type start size divisions
@@ -77,7 +74,7 @@ module _ (type : SegmentType) (start size : ℕ) (some : 0 < start) (s-small : s
       go (Ways.beyond q h) = absurd (last q)
 
   -- the last of n equal steps
-  last_said : (n : ℕ) (pos : 0 < n) (few : n < 2 ^ 16) → item_at type start size (Equal (step start size n some s-small z-small pos few)) n ≡ refuses beyond_reach 0 → ⊥
+  last_said : (n : ℕ) (pos : 0 < n) (few : n < 2 ^ 16) → item_at type start size (Some (step start size n some s-small z-small pos few)) n ≡ refuses beyond_reach 0 → ⊥
   last_said n pos few q =
       let x = step start size n some s-small z-small pos few in
       let r = step_reach start size n some s-small z-small pos few in
@@ -88,14 +85,14 @@ module _ (type : SegmentType) (start size : ℕ) (some : 0 < start) (s-small : s
       no_refusal (sym (ap (λ (s : Said Float). and_then (and_then s (λ ratio. gives (near_at type start size ratio))) (λ f. gives (as_item f))) said) ∙ q)
 
   -- NO ITEM IS REFUSED, but by 0 divisions
-  pub items_of : (divisions : Divisions) → segment_count size divisions < 2 ^ 16 → (NoDivisions divisions → ⊥) → SegmentItems type start size divisions
-  items_of Lacking small h = of_steps Lacking Whole small refl (λ q. no_refusal q)
-  items_of (Into zero) small h = absurd (h refl)
-  items_of (Into (suc n)) small h =
+  pub items_of : (divisions : (Option ℕ)) → segment_count size divisions < 2 ^ 16 → (NoDivisions divisions → ⊥) → SegmentItems type start size divisions
+  items_of None small h = of_steps None None small refl (λ q. no_refusal q)
+  items_of (Some zero) small h = absurd (h refl)
+  items_of (Some (suc n)) small h =
       let pos : 0 < suc n = omega arith in
-      of_steps (Into (suc n)) (Equal (step start size (suc n) some s-small z-small pos small)) small (steps_said start size (suc n) some s-small z-small pos small) (last_said (suc n) pos small)
+      of_steps (Some (suc n)) (Some (step start size (suc n) some s-small z-small pos small)) small (steps_said start size (suc n) some s-small z-small pos small) (last_said (suc n) pos small)
 
-module _ (type : SegmentType) (start size : ℕ) (divisions : Divisions) (s-small : start < 2 ^ 16) (z-small : size < 2 ^ 16) (small : segment_count size divisions < 2 ^ 16) (t : ItemTable) (l : ListTable) where
+module _ (type : SegmentType) (start size : ℕ) (divisions : (Option ℕ)) (s-small : start < 2 ^ 16) (z-small : size < 2 ^ 16) (small : segment_count size divisions < 2 ^ 16) (t : ItemTable) (l : ListTable) where
   abbrev n : ℕ
   n = segment_count size divisions
 

@@ -1,5 +1,6 @@
 -- A SEGMENT THAT IS NOT DIVIDED is never refused by 18: its period is (start + size) / start, which is above 1.0 for two or more items.
 -- Assumes nothing.
+use Rattle.std.specs.Prelude.{None}
 use mathlib.Core.Path.{◌≡◌, refl, sym, ◌∙◌, ap, subst}
 use mathlib.Core.Logic.{inl, inr}
 use mathlib.Core.Bool.{true, false, true≢false}
@@ -26,10 +27,8 @@ use Rattle.scl.specs.Table.{ItemTable, implicit}
 use Rattle.scl.specs.declared.Item.{Item}
 use Rattle.scl_tables.specs.Build.{last_of}
 use Rattle.harmonics.specs.Segment.{whole_at}
-use Rattle.harmonics.specs.declared.segment.Divisions.TheVariants.{Lacking}
 use Rattle.harmonics.specs.declared.segment.SegmentType.{SegmentType}
 use Rattle.harmonics.specs.declared.segment.SegmentType.TheVariants.{Otonal, Utonal}
-use Rattle.harmonics.specs.declared.segment.Steps.TheVariants.{Whole}
 use Rattle.harmonics.specs.Harmonics.{as_item, made_harmonics}
 use Rattle.promises.specs.equal_steps.Causes.{Beyond, PeriodOne}
 use Rattle.promises.proofs.equal_steps.Divided.{over}
@@ -65,16 +64,16 @@ module _ (start size' : ℕ) (some : 0 < start) (s-small : start < 2 ^ 16) (z-sm
   last_far Otonal q = fraction_far (start + size') start refl refl q
   last_far Utonal q = fraction_far (start + size') (start + size' - size') refl (omega arith) q
 
-  period_far : (type : SegmentType) → PeriodOne type start size' Lacking → ⊥
+  period_far : (type : SegmentType) → PeriodOne type start size' None → ⊥
   period_far type x =
-      let m = items_of type start size' some s-small z-small Lacking z-small (λ e. let z : ◌≡◌ {A = ℕ} 0 1 = cc in omega (arith, z)) in
-      let is = m.last Whole refl (omega (arith, two)) (as_item (whole_at type start size' size')) refl in
+      let m = items_of type start size' some s-small z-small None z-small (λ e. let z : ◌≡◌ {A = ℕ} 0 1 = cc in omega (arith, z)) in
+      let is = m.last None refl (omega (arith, two)) (as_item (whole_at type start size' size')) refl in
       last_far type (ap ratio_of (sym is) ∙ ap (λ (s : Said (List Item)). and_then s (λ is. ratio_of (last_of (implicit ∷ is)))) (sym m.are) ∙ x.1)
 
 -- WITHOUT DIVISIONS NEVER 18
-pub whole_never : (type : SegmentType) (start size' : ℕ) → start < 2 ^ 16 → size' < 2 ^ 16 → (t : ItemTable) (l : ListTable) → made_harmonics t l type start size' Lacking ≡ refuses beyond_reach 0 → ⊥
-whole_never type start size' s-small z-small t l e = let w = (beyond_reach_when type start size' Lacking s-small z-small z-small t l).0 e in go w.0.some w.1
+pub whole_never : (type : SegmentType) (start size' : ℕ) → start < 2 ^ 16 → size' < 2 ^ 16 → (t : ItemTable) (l : ListTable) → made_harmonics t l type start size' None ≡ refuses beyond_reach 0 → ⊥
+whole_never type start size' s-small z-small t l e = let w = (beyond_reach_when type start size' None s-small z-small z-small t l).0 e in go w.0.some w.1
   where
-    go : 0 < start → Beyond type start size' Lacking → ⊥
+    go : 0 < start → Beyond type start size' None → ⊥
     go some (inl x) = let z : ◌≡◌ {A = ℕ} 0 1 = cc in omega (arith, z)
     go some (inr x) = period_far start size' some s-small z-small x.0 type x

@@ -1,5 +1,6 @@
 -- A TEXT OF THE PUBLISHED FORMAT IS IN DOCUMENT 01'S LANGUAGE exactly within its limits, with the same numbers (01 has the f64 nearest the
 -- frequency) and entries; it is read where the table has a place for each entry. Which degrees its keys have: Sounding. Assumes nothing.
+use Rattle.std.specs.Prelude.{Option}
 use mathlib.Core.Path.{◌≡◌, refl, sym, ◌∙◌, subst}
 use mathlib.Core.Bool.{true, false, ◌&&◌}
 use mathlib.Core.List.{List, [], ◌∷◌, ◌++◌}
@@ -17,7 +18,6 @@ use Rattle.decimals.specs.DecimalText.{OptionalSign, Form, FloatText, Unsupporte
 use Rattle.floats.proofs.Ranges.{and_true}
 use Rattle.integers.specs.IntegerText.{IntText}
 use Rattle.kbm.specs.Table.{AreI16, is_table, table_of}
-use Rattle.kbm.specs.declared.Entry.{Entry}
 use Rattle.kbm.specs.declared.Kbm.{Kbm}
 use Rattle.kbm_read.specs.Language.{required, unseen, Values, GiveAll, EntryText, Entries, Tokens, mapping_from, added, MappingText}
 use Rattle.kbm_read.specs.Reader.{read_of, after_read}
@@ -109,11 +109,11 @@ hertz_decimal {t} {n} {k} x a b =
     taken (Unsupported.long h) = omega arith
     taken (Unsupported.deep h) = omega (arith, x.places)
 
-degree_entry : {t : List ℕ} {e : Entry} → AreI16 (e ∷ []) → P.Degree t e → EntryText t e
+degree_entry : {t : List ℕ} {e : (Option ℤ)} → AreI16 (e ∷ []) → P.Degree t e → EntryText t e
 degree_entry i (P.Degree.cross q) = EntryText.small q
 degree_entry i (P.Degree.degree z w) = EntryText.degree z (whole_integer (2 ^ 15) 32767 refl i.0 w)
 
-are_entries : (ts : List (List ℕ)) (es : List Entry) → AreI16 es → Are ts es → Entries ts es
+are_entries : (ts : List (List ℕ)) (es : List (Option ℤ)) → AreI16 es → Are ts es → Entries ts es
 are_entries [] [] i a = tt
 are_entries [] (e ∷ es) i a = absurd a
 are_entries (t ∷ ts) [] i a = absurd a
@@ -167,11 +167,11 @@ module _ {s : List ℕ} {m : P.Mapping} (p : P.PublishedText s m) where
       }
 
   -- A PUBLISHED TEXT WITHIN THE LIMITS is a mapping file of document 01, with the numbers and entries that it has as published
-  pub published_accepted : WithinLimits p → (k : Kbm) × (es : List Entry) × MappingText s k es × Agree m k es
+  pub published_accepted : WithinLimits p → (k : Kbm) × (es : List (Option ℤ)) × MappingText s k es × Agree m k es
   published_accepted w = let t = within_taken w in (mapping_from said, added m.size m.given, t, agree p (mapping_from said) (added m.size m.given) t)
 
   -- AND NO OTHER IS: the limits are exact
-  pub published_exactly : ((k : Kbm) × (es : List Entry) × MappingText s k es) ↔ WithinLimits p
+  pub published_exactly : ((k : Kbm) × (es : List (Option ℤ)) × MappingText s k es) ↔ WithinLimits p
   published_exactly = (λ t. taken_within p t.0 t.1 t.2, λ w. (mapping_from said, added m.size m.given, within_taken w))
 
   -- it is read where the table has a place for each entry, and leaves a table that later calls take, with its numbers and entries

@@ -1,6 +1,7 @@
 -- TWO READINGS OF ONE TEXT: where a text is a mapping file of document 01's language and also a text of the published format, both
 -- say the same numbers (01 the f64 nearest the frequency) and the same entries. Which degrees the keys have is not said here: 01 counts from
 -- the reference key, the pages from the middle key (see Sounding). Assumes nothing.
+use Rattle.std.specs.Prelude.{Option}
 use mathlib.Core.Path.{◌≡◌, refl, sym, ap, ◌∙◌, subst}
 use mathlib.Core.Bool.{Bool, true}
 use mathlib.Core.List.{List, [], ◌∷◌, ◌++◌, append-nil}
@@ -10,7 +11,6 @@ use lib.IntN.{ℤ, pos, ◌+ℤ◌}
 use lib.ListN.{length}
 use Rattle.base.specs.Said.{gives}
 use Rattle.kbm.specs.Table.{is_table, table_of}
-use Rattle.kbm.specs.declared.Entry.{Entry}
 use Rattle.kbm.specs.declared.Kbm.{Kbm}
 use Rattle.kbm_read.specs.Language.{required, unseen, mapping, Values, GiveAll, Entries, size_of, mapping_from, blanks, added, MappingText}
 use Rattle.kbm_read.specs.Reader.{read_of, entries_in, after_read}
@@ -76,7 +76,7 @@ module _ {s : List ℕ} {m : P.Mapping} (p : P.PublishedText s m) where
   )
 
   -- what document 01 reads there: the seven values give the required lines theirs, and those after them the entries
-  pub read_values : {k : Kbm} {es : List Entry} (a : MappingText s k es) → GiveAll unseen required seven a.values × Entries written_degrees.tokens a.given
+  pub read_values : {k : Kbm} {es : List (Option ℤ)} (a : MappingText s k es) → GiveAll unseen required seven a.values × Entries written_degrees.tokens a.given
   read_values a =
       let parts : a.text.parts ≡ p.parts = sym (one_lines a.text.lines) ∙ one_lines p.lines in
       let each = subst (λ (ls : List (List ℕ)). EachLine strict ls a.says) parts a.text.each in
@@ -84,7 +84,7 @@ module _ {s : List ℕ} {m : P.Mapping} (p : P.PublishedText s m) where
       let same = same_parts a.lines.first seven a.lines.rest written_degrees.tokens (values_length mapping unseen required a.lines.first a.values a.lines.values) tokens in
       (subst (λ (l : List (List ℕ)). GiveAll unseen required l a.values) same.0 a.lines.values, subst (λ (l : List (List ℕ)). Entries l a.given) same.1 a.lines.entries)
 
-  by_values : (vs : Values required) (es : List Entry) → GiveAll unseen required seven vs → Entries written_degrees.tokens es → Agree m (mapping_from vs) (added (size_of vs) es)
+  by_values : (vs : Values required) (es : List (Option ℤ)) → GiveAll unseen required seven vs → Entries written_degrees.tokens es → Agree m (mapping_from vs) (added (size_of vs) es)
   by_values (n, (lowest, (highest, (mid, (ref, (hz, (formal, o))))))) es g i =
       let size : pos m.size ≡ pos n = same_number p.size g.0 in
       let count : m.size ≡ n = cc in
@@ -102,12 +102,12 @@ module _ {s : List ℕ} {m : P.Mapping} (p : P.PublishedText s m) where
       }
 
   -- THE THEOREM: the two readings of one text agree in numbers and entries
-  pub agree : (k : Kbm) (es : List Entry) → MappingText s k es → Agree m k es
+  pub agree : (k : Kbm) (es : List (Option ℤ)) → MappingText s k es → Agree m k es
   agree k es a = let r = read_values a in rw (a.mapping, a.entries) (by_values a.values a.given r.0 r.1)
 
 -- ---- THE EXPORT
 -- an export that is read, as whatever mapping, leaves a table that later calls take, with the entries that were written
-pub entries_back : (kbm : Kbm) (es : List Entry) → TypedKbm kbm es → (old : List ℤ) (k : Kbm) → read_of (length old) (export_text kbm es) ≡ gives k
+pub entries_back : (kbm : Kbm) (es : List (Option ℤ)) → TypedKbm kbm es → (old : List ℤ) (k : Kbm) → read_of (length old) (export_text kbm es) ≡ gives k
     → (is_table k.count (after_read (export_text kbm es) old) ≡ true) × (table_of k.count (after_read (export_text kbm es) old) ≡ es)
 unfolding blanks
 entries_back kbm es y old k e =
@@ -118,7 +118,7 @@ entries_back kbm es y old k e =
     (l.0, l.1 ∙ a.entries ∙ rw z (append-nil es))
 
 -- and one that comes back leaves mapping and entries, where the table has a place for each
-pub mapping_back : (kbm : Kbm) (es : List Entry) → TypedKbm kbm es → ComesBack kbm → (old : List ℤ) → kbm.count ≤ length old → (read_of (length old) (export_text kbm es) ≡ gives kbm)
+pub mapping_back : (kbm : Kbm) (es : List (Option ℤ)) → TypedKbm kbm es → ComesBack kbm → (old : List ℤ) → kbm.count ≤ length old → (read_of (length old) (export_text kbm es) ≡ gives kbm)
     × (is_table kbm.count (after_read (export_text kbm es) old) ≡ true) × (table_of kbm.count (after_read (export_text kbm es) old) ≡ es)
 mapping_back kbm es y c old r =
     let e = (round_trip kbm es y (length old) r).1 c in
@@ -126,5 +126,5 @@ mapping_back kbm es y c old r =
     (e, l.0, l.1)
 
 -- some text is in both: the export of any mapping that comes back
-pub in_both : (kbm : Kbm) (es : List Entry) → TypedKbm kbm es → ComesBack kbm → P.PublishedText (export_text kbm es) (P.published_of kbm es) × MappingText (export_text kbm es) kbm es
+pub in_both : (kbm : Kbm) (es : List (Option ℤ)) → TypedKbm kbm es → ComesBack kbm → P.PublishedText (export_text kbm es) (P.published_of kbm es) × MappingText (export_text kbm es) kbm es
 in_both kbm es y c = (export_published kbm es y, (export_in_language kbm es y).1 c)

@@ -1,6 +1,7 @@
 -- THE DEGREE OF A KEY IN AN ACCEPTED TEXT: what `scale_degree_of` and `scale_degree_from_middle` answer on the table that the read leaves
 -- is what the text's own lines say, counted from the line of the reference key and from that of the middle key. Document 01, "Keys",
 -- document 02, W1, and demand 3. One proof, over the line that is counted from. Assumes nothing.
+use Rattle.std.specs.Prelude.{Some, None, Option}
 use mathlib.Core.Path.{◌≡◌, refl, sym, ◌∙◌, ap, subst}
 use mathlib.Core.Bool.{true, false}
 use mathlib.Core.List.{List}
@@ -17,8 +18,6 @@ use Rattle.kbm.specs.Degree.{degree_of, scale_degree_of}
 use Rattle.kbm.specs.Middle.{middle_of, counted_from, at_middle, scale_degree_from_middle}
 use Rattle.kbm.specs.Keys.{in_keys, distance, Reaches, Has, Lacks}
 use Rattle.kbm.specs.Table.{is_table, table_of}
-use Rattle.kbm.specs.declared.Entry.{Entry}
-use Rattle.kbm.specs.declared.Entry.TheVariants.{Mapped, Unmapped}
 use Rattle.kbm.specs.declared.Kbm.{Kbm}
 use Rattle.kbm.proofs.Language.{has, has_one}
 use Rattle.kbm.proofs.Theorems.{table_used}
@@ -59,18 +58,18 @@ module _ (vs : Values required) (key : PianoKey) where
   ]
 
 -- ---- what a key has is what the lines say: counted from the key of one of them
-module _ (origin : Values required → ℤ) (vs : Values required) (ts : List (List ℕ)) (given : List Entry) (x : Entries ts given)
+module _ (origin : Values required → ℤ) (vs : Values required) (ts : List (List ℕ)) (given : List (Option ℤ)) (x : Entries ts given)
     (c : length given ≤ size_of vs) (k : PianoKey) where
   abbrev kbm : Kbm
   kbm = counted_from (key (origin vs)) (mapping_from vs)
 
-  abbrev es : List Entry
+  abbrev es : List (Option ℤ)
   es = added (size_of vs) given
 
   all : length es ≡ size_of vs
   all = omega (arith, length_added (size_of vs) given)
 
-  found : (r : ℕ) → get_or es r Unmapped ≡ get_or given r Unmapped
+  found : (r : ℕ) → get_or es r None ≡ get_or given r None
   found r = added_at given (size_of vs - length given) r
 
   counts : {q : ℤ} {r : ℕ} → Divides (distance kbm k) (length es) q r → Counts origin vs k.0 q r
@@ -79,10 +78,10 @@ module _ (origin : Values required → ℤ) (vs : Values required) (ts : List (L
   counts_back : {q : ℤ} {r : ℕ} → Counts origin vs k.0 q r → Divides (distance kbm k) (length es) q r
   counts_back d = rw all d
 
-  none_at : {q : ℤ} (at : Reaches es (distance kbm k) q Unmapped) → NotMapped ts at.place
+  none_at : {q : ℤ} (at : Reaches es (distance kbm k) q None) → NotMapped ts at.place
   none_at at = no_entry ts given x at.place (sym (found at.place) ∙ at.found)
 
-  one_at : {q e : ℤ} (at : Reaches es (distance kbm k) q (Mapped e)) → MappedTo ts at.place e
+  one_at : {q e : ℤ} (at : Reaches es (distance kbm k) q (Some e)) → MappedTo ts at.place e
   one_at {e = e} at = an_entry ts given x at.place e (sym (found at.place) ∙ at.found)
 
   has_said : {s : Said ℤ} → Has kbm es k s → SaidOf origin vs ts k.0 s
@@ -93,10 +92,10 @@ module _ (origin : Values required → ℤ) (vs : Values required) (ts : List (L
   has_said (Has.passed w n q e at h p) = SaidOf.steep (is_inside vs k w) n q at.place e (counts at.counted) (one_at at) h p
   has_said (Has.degree w n q e at h p) = SaidOf.degree (is_inside vs k w) n q at.place e (counts at.counted) (one_at at) h p
 
-  reaches_none : {q : ℤ} {r : ℕ} → Counts origin vs k.0 q r → NotMapped ts r → Reaches es (distance kbm k) q Unmapped
+  reaches_none : {q : ℤ} {r : ℕ} → Counts origin vs k.0 q r → NotMapped ts r → Reaches es (distance kbm k) q None
   reaches_none {q} {r} d m = record { place = r; counted = counts_back d; found = found r ∙ entry_no ts given x r m }
 
-  reaches_one : {q : ℤ} {r : ℕ} (e : ℤ) → Counts origin vs k.0 q r → MappedTo ts r e → Reaches es (distance kbm k) q (Mapped e)
+  reaches_one : {q : ℤ} {r : ℕ} (e : ℤ) → Counts origin vs k.0 q r → MappedTo ts r e → Reaches es (distance kbm k) q (Some e)
   reaches_one {q} {r} e d m = record { place = r; counted = counts_back d; found = found r ∙ entry_an ts given x r e m }
 
   said_has : {s : Said ℤ} → SaidOf origin vs ts k.0 s → Has kbm es k s
@@ -187,7 +186,7 @@ middle_line : (vs : Values required) → key (middle_of (mapping_from vs).root) 
 middle_line vs = ap key (middle_back (middle_key vs) (reference_key vs))
 
 -- ---- THE THEOREMS: a text of the language, read into a table with a place for each entry
-module _ {s : List ℕ} {kbm : Kbm} {es : List Entry} (t : MappingText s kbm es) (old : List ℤ) (room : length es ≤ length old)
+module _ {s : List ℕ} {kbm : Kbm} {es : List (Option ℤ)} (t : MappingText s kbm es) (old : List ℤ) (room : length es ≤ length old)
     (k : PianoKey) where
   abbrev vs : Values required
   vs = t.values
@@ -201,7 +200,7 @@ module _ {s : List ℕ} {kbm : Kbm} {es : List Entry} (t : MappingText s kbm es)
   -- counted from any key: the answer, by the entries that the text says
   answers_from : (o : PianoKey) → scale_degree_of (counted_from o kbm) (after_read s old) k ≡ degree_of (counted_from o kbm) es k
   answers_from o =
-      table_used (counted_from o kbm) (after_read s old) k read.0 ∙ ap (λ (l : List Entry). degree_of (counted_from o kbm) l k) read.1
+      table_used (counted_from o kbm) (after_read s old) k read.0 ∙ ap (λ (l : List (Option ℤ)). degree_of (counted_from o kbm) l k) read.1
 
   -- counted from the key of a line: the answer is what the lines say of the key, and nothing else is
   says_from : (origin : Values required → ℤ) (o : PianoKey) → o ≡ key (origin vs) → (x : Said ℤ) →
@@ -211,7 +210,7 @@ module _ {s : List ℕ} {kbm : Kbm} {es : List Entry} (t : MappingText s kbm es)
       counted : Kbm
       counted = counted_from (key (origin vs)) (mapping_from vs)
 
-      entries : List Entry
+      entries : List (Option ℤ)
       entries = added (size_of vs) t.given
 
       by_lines : scale_degree_of (counted_from o kbm) (after_read s old) k ≡ degree_of counted entries k

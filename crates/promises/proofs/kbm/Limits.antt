@@ -1,4 +1,5 @@
 -- THE LIMITS ARE NEEDED: a published text in document 01's language is within them. Assumes nothing.
+use Rattle.std.specs.Prelude.{Option}
 use mathlib.Core.Path.{◌≡◌, sym, ◌∙◌, subst}
 use mathlib.Core.Bool.{false}
 use mathlib.Core.List.{List, [], ◌∷◌, ◌++◌}
@@ -11,7 +12,6 @@ use lib.ListN.{length}
 use Rattle.decimals.specs.DecimalText.{Unsupported, DecimalText, from_nonzero}
 use Rattle.integers.specs.IntegerText.{IntText}
 use Rattle.kbm.specs.Table.{AreI16}
-use Rattle.kbm.specs.declared.Entry.{Entry}
 use Rattle.kbm.specs.declared.Kbm.{Kbm}
 use Rattle.kbm_read.specs.Language.{required, unseen, Values, GiveAll, Tokens, MappingText}
 use Rattle.integers.proofs.AtLine.{typed_int}
@@ -83,7 +83,7 @@ module _ {s : List ℕ} {m : P.Mapping} (p : P.PublishedText s m) where
         degrees = d;
       }
 
-  pub taken_within : (k : Kbm) (es : List Entry) → MappingText s k es → WithinLimits p
+  pub taken_within : (k : Kbm) (es : List (Option ℤ)) → MappingText s k es → WithinLimits p
   taken_within k es a =
       let r = read_values p a in
       let parts : a.text.parts ≡ p.parts = sym (one_lines a.text.lines) ∙ one_lines p.lines in

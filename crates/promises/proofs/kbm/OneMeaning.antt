@@ -1,4 +1,5 @@
 -- A TEXT OF THE PUBLISHED FORMAT HAS ONE MEANING: its seven numbers, the frequency digit for digit, and its degrees. Assumes nothing.
+use Rattle.std.specs.Prelude.{Some, Option}
 use mathlib.Core.Path.{◌≡◌, refl, sym, ap, ◌∙◌, subst}
 use mathlib.Core.List.{List, [], ◌∷◌, ◌++◌}
 use mathlib.Core.Logic.{◌⊎◌, inl, inr}
@@ -8,8 +9,6 @@ use lib.IntN.{ℤ, pos}
 use Rattle.decimals.specs.DecimalText.{DottedDigits}
 use Rattle.integers.specs.Digits.{AllDigits}
 use Rattle.integers.specs.IntegerText.{Digits}
-use Rattle.kbm.specs.declared.Entry.{Entry}
-use Rattle.kbm.specs.declared.Entry.TheVariants.{Mapped}
 use Rattle.kbm_write.specs.Published as P
 use Rattle.writing.proofs.Plain.{Plain, Word}
 use Rattle.utf8.specs.Characters.{Each}
@@ -70,11 +69,11 @@ one_whole (P.Whole.minus u m p c e) (P.Whole.minus v n q d f) =
     let y : m ≡ n = one_number c (subst (λ (l : List ℕ). Digits l n) (sym x) d) in
     cc
 
-one_degree : {t : List ℕ} {e f : Entry} → P.Degree t e → P.Degree t f → e ≡ f
+one_degree : {t : List ℕ} {e f : (Option ℤ)} → P.Degree t e → P.Degree t f → e ≡ f
 one_degree (P.Degree.cross p) (P.Degree.cross q) = refl
 one_degree (P.Degree.cross p) (P.Degree.degree z w) = absurd (letter_whole (omega arith) p w)
 one_degree (P.Degree.degree z w) (P.Degree.cross q) = absurd (letter_whole (omega arith) q w)
-one_degree (P.Degree.degree z w) (P.Degree.degree y v) = ap Mapped (one_whole w v)
+one_degree (P.Degree.degree z w) (P.Degree.degree y v) = ap Some (one_whole w v)
 
 -- digits before a dot, and those after it
 one_dot : (a b c d : List ℕ) → AllDigits a → AllDigits b → a ++ (46 ∷ c) ≡ b ++ (46 ∷ d) → (a ≡ b) × (c ≡ d)
@@ -127,7 +126,7 @@ same_frequency {m = m} {n = n} {i = i} {j = j} x y e =
     let t = one_stands (hertz_word x.token x.value) (hertz_word w.token w.value) x.stands w.stands in
     one_hertz (subst (λ (h : List ℕ). P.Hertz h m i) t x.value) w.value
 
-same_degrees : (ls : List (List ℕ)) (es fs : List Entry) → P.Degrees ls es → P.Degrees ls fs → es ≡ fs
+same_degrees : (ls : List (List ℕ)) (es fs : List (Option ℤ)) → P.Degrees ls es → P.Degrees ls fs → es ≡ fs
 same_degrees [] [] [] a b = refl
 same_degrees [] [] (f ∷ fs) a b = absurd b
 same_degrees [] (e ∷ es) fs a b = absurd a

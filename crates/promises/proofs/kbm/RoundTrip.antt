@@ -1,6 +1,7 @@
 -- THE ROUND TRIP: the export of a mapping, read again into a table with a place for each entry, is the same mapping exactly when its range
 -- has a key, reference and middle key fit i16 and the pitch is the f64 nearest its own three decimals. That a read leaves the entries is
 -- `entries_back` of Agree, also where the pitch comes back as another. Assumes nothing.
+use Rattle.std.specs.Prelude.{Option, Ok}
 use mathlib.Core.Path.{◌≡◌, refl, sym, ap, ◌∙◌}
 use mathlib.Core.Bool.{Bool, true, false}
 use mathlib.Core.List.{List, ◌∷◌, append-nil}
@@ -23,11 +24,10 @@ use Rattle.floats.specs.Ranges.{in_pitch}
 use Rattle.decimals.specs.DecimalScan.{read_decimal}
 use Rattle.integers.specs.Integer.{Int, value, none, read_int}
 use Rattle.printing.specs.PrintText.{text_of, whole_text}
-use Rattle.decimals.specs.declared.DecimalAnswer.TheVariants as decimal
+use Rattle.decimals.specs.declared.DecimalError.TheVariants as decimal
 use Rattle.decimals.proofs.Language.{gives_complete}
 use Rattle.integers.proofs.Language.{sound, complete}
 use Rattle.kbm.specs.Table.{in_i16}
-use Rattle.kbm.specs.declared.Entry.{Entry}
 use Rattle.kbm.specs.declared.Kbm.{Kbm}
 use Rattle.kbm.proofs.Entries.{mag_i16}
 use Rattle.kbm_read.specs.Reader.{take_token, walk, unread, mapping_of, read_of, given_from, entries_in}
@@ -70,7 +70,7 @@ module _ (room : ℕ) (t1 t2 t3 t4 t5 t6 : List ℕ) (ts : List (List ℕ)) {siz
   unfolding walk_lines selves take_token
   reference_not u3 e4 e5 = rw (e1, e2, e3, n3, u3, e4, e5)
 
-  pitch_not : {middle reference : ℤ} {hz : Float} → le_z first last ≡ true → read_int true (2 ^ 15) t4 ≡ value middle → read_int true (2 ^ 15) t5 ≡ value reference → read_decimal t6 ≡ decimal.Is hz → in_pitch hz ≡ false
+  pitch_not : {middle reference : ℤ} {hz : Float} → le_z first last ≡ true → read_int true (2 ^ 15) t4 ≡ value middle → read_int true (2 ^ 15) t5 ≡ value reference → read_decimal t6 ≡ Ok hz → in_pitch hz ≡ false
       → walk room 1 unread (selves (t1 ∷ t2 ∷ t3 ∷ t4 ∷ t5 ∷ t6 ∷ ts)) ≡ refuses 10 6
   unfolding walk_lines selves take_token
   pitch_not u3 e4 e5 e6 n6 = rw (e1, e2, e3, n3, u3, e4, e5, e6, n6)
@@ -84,7 +84,7 @@ mapping_is kbm =
     let end : kbm.end.0 -ℤ pos 1 +ℤ pos 1 ≡ kbm.end.0 = -ℤ-+ℤ_cancel kbm.end.0 (pos 1) in
     λ i. record { root = record { reference = kbm.root.reference; pitch = kbm.root.pitch; offset = offset i }; start = kbm.start; end = record { 0 = end i }; octave = kbm.octave; count = kbm.count }
 
-module _ (kbm : Kbm) (es : List Entry) (y : TypedKbm kbm es) where
+module _ (kbm : Kbm) (es : List (Option ℤ)) (y : TypedKbm kbm es) where
   abbrev hz : Float
   hz = kbm.root.pitch.0
 
@@ -100,7 +100,7 @@ module _ (kbm : Kbm) (es : List Entry) (y : TypedKbm kbm es) where
   last_low : le_z (pos 2147483647) (last_key_of kbm) ≡ false
   last_low = last_below kbm.end.0 y.end
 
-  pitch_back : read_decimal (text_of 3 false hz) ≡ decimal.Is (nearest_three hz)
+  pitch_back : read_decimal (text_of 3 false hz) ≡ Ok (nearest_three hz)
   pitch_back = gives_complete (text_of 3 false hz) (nearest_three hz) (pitch_reads hz y.pitch)
 
   octave_back : read_int true (2 ^ 15) (whole_text kbm.octave) ≡ value kbm.octave
@@ -112,7 +112,7 @@ module _ (kbm : Kbm) (es : List Entry) (y : TypedKbm kbm es) where
 
   -- what is read where the range has a key, the two keys are read, and the pitch's three decimals are usable
   read_back : (room : ℕ) → kbm.count ≤ room → Up → read_int true (2 ^ 15) (whole_text (middle_key_of kbm)) ≡ value (middle_key_of kbm) → read_int true (2 ^ 15) (whole_text kbm.root.reference.0) ≡ value kbm.root.reference.0
-      → {x : Float} → read_decimal (text_of 3 false hz) ≡ decimal.Is x → in_pitch x ≡ true
+      → {x : Float} → read_decimal (text_of 3 false hz) ≡ Ok x → in_pitch x ≡ true
       → read_of room (export_text kbm es) ≡ gives (mapping_of (head_is kbm.count kbm.start.0 (last_key_of kbm) (middle_key_of kbm) kbm.root.reference.0 x kbm.octave))
   read_back room r u e4 e5 {x} e6 n6 =
       let h = head_is kbm.count kbm.start.0 (last_key_of kbm) (middle_key_of kbm) kbm.root.reference.0 x kbm.octave in
@@ -127,7 +127,7 @@ module _ (kbm : Kbm) (es : List Entry) (y : TypedKbm kbm es) where
     comes_back c =
         read_back room r (passed (before_end c.forward)) (whole_value (2 ^ 15) (middle_key_of kbm) (lit< tt) (mag_i16 (middle_key_of kbm) c.middle) (lit< tt))
         (whole_value (2 ^ 15) kbm.root.reference.0 (lit< tt) (mag_i16 kbm.root.reference.0 c.reference) (lit< tt))
-        (pitch_back ∙ ap decimal.Is c.pitch) y.pitch
+        (pitch_back ∙ ap Ok c.pitch) y.pitch
         ∙ ap gives (mapping_is kbm)
 
     abbrev ts : List (List ℕ)

@@ -1,5 +1,6 @@
 -- A MAPPING AND A PUBLISHED MEANING WITH THE SAME KEYS: what document 01 answers for a key of the one is what Scala's pages say of it by
 -- the other, within 32 bits. Assumes nothing.
+use Rattle.std.specs.Prelude.{Some, None, Option}
 use mathlib.Core.Path.{◌≡◌, refl, sym, ap, ◌∙◌}
 use mathlib.Core.Bool.{Bool, true, false}
 use mathlib.Core.List.{List}
@@ -17,8 +18,6 @@ use Rattle.base.proofs.Said.{same_value}
 use Rattle.kbm.specs.Degree.{scale_degree_of}
 use Rattle.kbm.specs.Keys.{in_keys, distance, Reaches, Has}
 use Rattle.kbm.specs.Table.{is_table, table_of}
-use Rattle.kbm.specs.declared.Entry.{Entry}
-use Rattle.kbm.specs.declared.Entry.TheVariants.{Mapped, Unmapped}
 use Rattle.kbm.specs.declared.Kbm.{Kbm}
 use Rattle.kbm.proofs.Theorems.{key_has}
 use Rattle.kbm_write.specs.Export.{last_key_of}
@@ -29,25 +28,25 @@ use Rattle.promises.proofs.kbm.KeysOfText.{other, no_degree}
 use Rattle.promises.proofs.kbm.Range.{inside, inside_back}
 
 -- a place that is unmapped has no degree
-pub not_mapped : (m : P.Mapping) {r i : ℕ} {z : ℤ} → r ≡ i → get_or m.given i Unmapped ≡ Unmapped → get_or m.given r Unmapped ≡ Mapped z → ⊥
+pub not_mapped : (m : P.Mapping) {r i : ℕ} {z : ℤ} → r ≡ i → get_or m.given i None ≡ None → get_or m.given r None ≡ Some z → ⊥
 not_mapped m {r} {i} {z} p u f =
-    let x : ◌≡◌ {A = Entry} Unmapped (Mapped z) = sym u ∙ sym (ap (λ (j : ℕ). get_or m.given j Unmapped) p) ∙ f in
+    let x : ◌≡◌ {A = (Option ℤ)} None (Some z) = sym u ∙ sym (ap (λ (j : ℕ). get_or m.given j None) p) ∙ f in
     let y : ◌≡◌ {A = ℕ} 0 1 = cc in
     omega arith
 
 -- m says of the keys what the mapping with the entries es does, and its middle key is the mapping's reference key
-pub record SameKeys (m : P.Mapping) (kbm : Kbm) (es : List Entry) : Type 0 where
+pub record SameKeys (m : P.Mapping) (kbm : Kbm) (es : List (Option ℤ)) : Type 0 where
   pub first : m.first ≡ kbm.start.0
   pub last : m.last ≡ last_key_of kbm
   pub middle : m.middle ≡ kbm.root.reference.0
   pub octave : m.octave ≡ kbm.octave
   pub size : length es ≡ m.size
-  pub given : (r : ℕ) → get_or es r Unmapped ≡ get_or m.given r Unmapped
+  pub given : (r : ℕ) → get_or es r None ≡ get_or m.given r None
 
 pub not_both : {A : Type 0} {t : Bool} → t ≡ true → t ≡ false → A
 not_both p q = let n : ◌≡◌ {A = ℕ} 0 1 = cc in absurd (omega arith)
 
-module _ {m : P.Mapping} {kbm : Kbm} {es : List Entry} (a : SameKeys m kbm es) (key : PianoKey) where
+module _ {m : P.Mapping} {kbm : Kbm} {es : List (Option ℤ)} (a : SameKeys m kbm es) (key : PianoKey) where
   pub from_middle : key.0 -ℤ m.middle ≡ distance kbm key
   from_middle = ap (λ (z : ℤ). key.0 -ℤ z) a.middle
 
@@ -67,7 +66,7 @@ module _ {m : P.Mapping} {kbm : Kbm} {es : List Entry} (a : SameKeys m kbm es) (
   pub linear : length es ≡ 0 → P.Sounds m key.0 (distance kbm key)
   linear l = P.Sounds.linear (sym a.size ∙ l) (sym from_middle)
 
-  pub mapped : {q : ℤ} (z : ℤ) → Reaches es (distance kbm key) q (Mapped z) → P.Sounds m key.0 (z +ℤ q *ℤ kbm.octave)
+  pub mapped : {q : ℤ} (z : ℤ) → Reaches es (distance kbm key) q (Some z) → P.Sounds m key.0 (z +ℤ q *ℤ kbm.octave)
   mapped {q} z at =
       let c : Divides (distance kbm key) m.size q at.place = rw a.size at at.counted in
       P.Sounds.pattern q at.place z (rw from_middle c) (sym (a.given at.place) ∙ at.found) (rw a.octave)
@@ -76,13 +75,13 @@ module _ {m : P.Mapping} {kbm : Kbm} {es : List Entry} (a : SameKeys m kbm es) (
   counted c = rw a.size (rw from_middle at c)
 
   -- an unmapped place sounds none
-  pub unmapped : {q : ℤ} → Reaches es (distance kbm key) q Unmapped → (d : ℤ) → P.Sounds m key.0 d → ⊥
+  pub unmapped : {q : ℤ} → Reaches es (distance kbm key) q None → (d : ℤ) → P.Sounds m key.0 d → ⊥
   unmapped at d (P.Sounds.linear l g) = omega (arith, at.counted.rest, a.size)
   unmapped at d (P.Sounds.pattern y r z c f g) =
       let i : r ≡ at.place = (divides_one (counted c)).1 ∙ sym (divides_one at.counted).1 in
       not_mapped m i (sym (a.given at.place) ∙ at.found) f
 
-  reached : {q z : ℤ} {r : ℕ} → Divides (key.0 -ℤ m.middle) m.size q r → get_or m.given r Unmapped ≡ Mapped z → Reaches es (distance kbm key) q (Mapped z)
+  reached : {q z : ℤ} {r : ℕ} → Divides (key.0 -ℤ m.middle) m.size q r → get_or m.given r None ≡ Some z → Reaches es (distance kbm key) q (Some z)
   reached {r = r} c f = record { place = r; counted = counted c; found = a.given r ∙ f }
 
   in_octaves : {d : ℤ} (q z : ℤ) → d ≡ z +ℤ q *ℤ m.octave → d ≡ z +ℤ q *ℤ kbm.octave

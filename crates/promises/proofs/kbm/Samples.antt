@@ -1,5 +1,6 @@
 -- Samples by document 01: its own input for `kbmcopy`, and the text at the ends of 32 bits, are read, and their keys answered; so is a text
 -- whose countings differ (document 02, W1); a mapping that comes back, and one that does not. Assumes nothing.
+use Rattle.std.specs.Prelude.{Some, None, Option}
 use mathlib.Core.Path.{◌≡◌, refl, ap}
 use mathlib.Core.Bool.{true, false}
 use mathlib.Core.List.{List, [], ◌∷◌, ◌++◌}
@@ -23,8 +24,6 @@ use Rattle.kbm.specs.Degree.{degree_at, scale_degree_of}
 use Rattle.kbm.specs.Keys.{Lacks}
 use Rattle.kbm.specs.Middle.{scale_degree_from_middle}
 use Rattle.kbm.specs.Table.{entries_of}
-use Rattle.kbm.specs.declared.Entry.{Entry}
-use Rattle.kbm.specs.declared.Entry.TheVariants.{Mapped, Unmapped}
 use Rattle.kbm_read.specs.Language.{Required, Seen, required, unseen, see, Values, GiveAll, EntryText, Entries, Tokens, size_of, mapping_from, blanks, added, MappingText}
 use Rattle.kbm_read.specs.Reader.{after_read}
 use Rattle.kbm_read.proofs.Fields.{read_as, read_gives}
@@ -57,7 +56,7 @@ all_read key [] (t ∷ ts) vs r = absurd r
 all_read key (f ∷ fs) [] vs r = absurd r
 all_read key (f ∷ fs) (t ∷ ts) vs r = (read_gives f key 0 t vs.0 r.0, all_read (see f key vs.0) fs ts vs.1 r.1)
 
-by_lines : (s : List ℕ) (first rest : List (List ℕ)) (vs : Values required) (es : List Entry) → Tokens (said_in s) (first ++ rest) → ReadAll unseen required first vs → Entries rest es
+by_lines : (s : List ℕ) (first rest : List (List ℕ)) (vs : Values required) (es : List (Option ℤ)) → Tokens (said_in s) (first ++ rest) → ReadAll unseen required first vs → Entries rest es
     → length (added (size_of vs) es) ≤ 65535 → length es ≤ size_of vs → MappingText s (mapping_from vs) (added (size_of vs) es)
 by_lines s first rest vs es t r e l c =
     record {
@@ -78,7 +77,7 @@ unfolding lines_text lines meaning_by meanings token_length width_by run lead_of
 copy_text =
     by_lines input_text
     ((51 ∷ []) ∷ (48 ∷ []) ∷ (49 ∷ 50 ∷ 55 ∷ []) ∷ (54 ∷ 50 ∷ []) ∷ (54 ∷ 48 ∷ []) ∷ (50 ∷ 54 ∷ 49 ∷ 46 ∷ 54 ∷ 50 ∷ 53 ∷ 54 ∷ []) ∷ (53 ∷ []) ∷ []) ((48 ∷ []) ∷ (88 ∷ []) ∷ [])
-    (3, (pos 0, (pos 127, (pos 62, (pos 60, ((example_kbm (pos 62)).root.pitch.0, (pos 5, tt))))))) (Mapped (pos 0) ∷ Unmapped ∷ [])
+    (3, (pos 0, (pos 127, (pos 62, (pos 60, ((example_kbm (pos 62)).root.pitch.0, (pos 5, tt))))))) (Some (pos 0) ∷ None ∷ [])
     (refl, (refl, (refl, (refl, (refl, (refl, (refl, (refl, (refl, tt))))))))) (refl, (refl, (refl, (refl, (refl, (refl, (refl, tt)))))))
     (EntryText.degree (pos 0) (sound true (2 ^ 15) (lit< tt) (pos 0) (48 ∷ []) refl), (EntryText.large refl, tt)) (lit≤ tt) (lit≤ tt)
 
@@ -158,13 +157,13 @@ both_countings old room =
     not_lacking p (inr e) = no_degree p e
 
 -- ---- THE ENDS OF 32 BITS
-far_text_law : MappingText far_text far_kbm (Unmapped ∷ [])
+far_text_law : MappingText far_text far_kbm (None ∷ [])
 unfolding lines_text lines meaning_by meanings token_length width_by run lead_of utf8_step utf8.utf8_from scan magnitude_of read_signed numerals.digit_run_of spelled scan_of read_decimal blanks round of_bits le
 far_text_law =
     by_lines far_text
     ((49 ∷ []) ∷ (45 ∷ 50 ∷ 49 ∷ 52 ∷ 55 ∷ 52 ∷ 56 ∷ 51 ∷ 54 ∷ 52 ∷ 56 ∷ []) ∷ (50 ∷ 49 ∷ 52 ∷ 55 ∷ 52 ∷ 56 ∷ 51 ∷ 54 ∷ 52 ∷ 54 ∷ []) ∷ (45 ∷ 50 ∷ []) ∷ (45 ∷ 50 ∷ []) ∷
     (52 ∷ 52 ∷ 48 ∷ 46 ∷ 48 ∷ []) ∷ (48 ∷ []) ∷ []) ((120 ∷ []) ∷ [])
-    (1, (negsuc 2147483647, (pos 2147483646, (negsuc 1, (negsuc 1, (far_kbm.root.pitch.0, (pos 0, tt))))))) (Unmapped ∷ [])
+    (1, (negsuc 2147483647, (pos 2147483646, (negsuc 1, (negsuc 1, (far_kbm.root.pitch.0, (pos 0, tt))))))) (None ∷ [])
     (refl, (refl, (refl, (refl, (refl, (refl, (refl, (refl, tt)))))))) (refl, (refl, (refl, (refl, (refl, (refl, (refl, tt)))))))
     (EntryText.small refl, tt) (lit≤ tt) (lit≤ tt)
 

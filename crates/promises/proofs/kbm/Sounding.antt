@@ -1,5 +1,6 @@
 -- THE DEGREES OF A MAPPING, HERE AND AS PUBLISHED: counted from the middle key (document 02, W1) a key has what Scala's pages give it,
 -- within 32 bits, for every middle key; by document 01 where middle and reference key are one, and else the two may part. Assumes nothing.
+use Rattle.std.specs.Prelude.{None, Option}
 use mathlib.Core.Path.{◌≡◌, refl, sym, ap, ◌∙◌, subst}
 use mathlib.Core.Bool.{true}
 use mathlib.Core.List.{List}
@@ -14,8 +15,6 @@ use Rattle.base.proofs.Division.{divides_one}
 use Rattle.kbm.specs.Degree.{degree_at, scale_degree_of}
 use Rattle.kbm.specs.Middle.{middle_of, counted_from, scale_degree_from_middle}
 use Rattle.kbm.specs.Table.{are_entries, entries_of, is_table, table_of}
-use Rattle.kbm.specs.declared.Entry.{Entry}
-use Rattle.kbm.specs.declared.Entry.TheVariants.{Unmapped}
 use Rattle.kbm.specs.declared.Kbm.{Kbm}
 use Rattle.kbm.proofs.Table.{table_length}
 use Rattle.kbm_read.specs.Reader.{read_of, after_read}
@@ -51,7 +50,7 @@ one_sound m key d e (P.Sounds.pattern q r z c f g) (P.Sounds.pattern x y w k i j
 
 -- ---- A MAPPING THAT IS WRITTEN: `published_of` is what its export says as published
 module _ (kbm : Kbm) (map : List ℤ) (t : is_table kbm.count map ≡ true) where
-  abbrev es : List Entry
+  abbrev es : List (Option ℤ)
   es = table_of kbm.count map
 
   abbrev m : P.Mapping
@@ -99,7 +98,7 @@ module _ {s : List ℕ} {m : P.Mapping} (p : P.PublishedText s m) where
     all : length (table_of k.count map) ≡ m.size
     all = omega (arith, ap length a.entries, length_added m.size m.given, p.most)
 
-    given_is : (r : ℕ) → get_or (table_of k.count map) r Unmapped ≡ get_or m.given r Unmapped
+    given_is : (r : ℕ) → get_or (table_of k.count map) r None ≡ get_or m.given r None
     given_is r = rw a.entries (added_at m.given (m.size - length m.given) r)
 
     -- counted from a key that is its middle key

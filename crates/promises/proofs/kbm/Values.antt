@@ -1,5 +1,6 @@
 -- VALUES AS PUBLISHED, read by document 01: where 01 reads them, a whole number and a degree are the same there and a frequency is its
 -- nearest f64; and each is a word. Assumes nothing.
+use Rattle.std.specs.Prelude.{Some, Option}
 use mathlib.Core.Path.{◌≡◌, refl, sym, ap, ◌∙◌, subst}
 use mathlib.Core.Bool.{Bool, true, false}
 use mathlib.Core.List.{List, [], ◌∷◌, ◌++◌}
@@ -9,8 +10,6 @@ use native.Mathlib.Omega.{arith}
 use lib.Ieee.{Float, round, binary64}
 use lib.IntN.{ℤ, pos}
 use lib.ListN.{length, length-append}
-use Rattle.kbm.specs.declared.Entry.{Entry}
-use Rattle.kbm.specs.declared.Entry.TheVariants.{Mapped}
 use Rattle.kbm_read.specs.Language.{EntryText, Entries}
 use Rattle.kbm_write.specs.Published as P
 use Rattle.decimals.specs.DecimalText.{OptionalSign, Form, FloatText, Unsupported, DecimalText}
@@ -71,13 +70,13 @@ letter_integer {b = b} h e (IntText.plus u n q d l f) = let x : b ≡ 43 = cc in
 letter_integer {b = b} h e (IntText.minus u n s q d l f) = let x : b ≡ 45 = cc in omega arith
 
 -- a degree as published is the same entry
-pub degree_agrees : (t : List ℕ) (e f : Entry) → P.Degree t e → EntryText t f → e ≡ f
+pub degree_agrees : (t : List ℕ) (e f : (Option ℤ)) → P.Degree t e → EntryText t f → e ≡ f
 degree_agrees t e f (P.Degree.cross p) (EntryText.small q) = refl
 degree_agrees t e f (P.Degree.cross p) (EntryText.large q) = refl
 degree_agrees t e f (P.Degree.cross p) (EntryText.degree z i) = absurd (letter_integer (omega arith) p i)
 degree_agrees t e f (P.Degree.degree z w) (EntryText.small q) = absurd (letter_whole (omega arith) q w)
 degree_agrees t e f (P.Degree.degree z w) (EntryText.large q) = absurd (letter_whole (omega arith) q w)
-degree_agrees t e f (P.Degree.degree z w) (EntryText.degree y i) = ap Mapped (whole_agrees true (2 ^ 15) t z y w i)
+degree_agrees t e f (P.Degree.degree z w) (EntryText.degree y i) = ap Some (whole_agrees true (2 ^ 15) t z y w i)
 
 -- VALUES ARE WORDS
 pub digits_plain : (s : List ℕ) → AllDigits s → Each Plain s
@@ -103,23 +102,23 @@ hertz_word t h = go h.digits.writes
         })
     go (inr e) = subst Word (sym e.0) (record { some = omega (arith, h.digits.some, ap length e.1); each = a })
 
-pub degree_word : (t : List ℕ) {e : Entry} → P.Degree t e → Word t
+pub degree_word : (t : List ℕ) {e : (Option ℤ)} → P.Degree t e → Word t
 degree_word t (P.Degree.cross q) = subst Word (sym q) (record { some = omega arith; each = ((omega arith, omega arith), tt) })
 degree_word t (P.Degree.degree z w) = whole_word t w
 
 -- the values of the lines of degrees
-abbrev pub Are : List (List ℕ) → List Entry → Type 0
+abbrev pub Are : List (List ℕ) → List (Option ℤ) → Type 0
 Are [] [] = Unit {0}
 Are [] (e ∷ es) = ⊥
 Are (t ∷ ts) [] = ⊥
 Are (t ∷ ts) (e ∷ es) = P.Degree t e × Are ts es
 
-pub record Written (ls : List (List ℕ)) (es : List Entry) : Type 0 where
+pub record Written (ls : List (List ℕ)) (es : List (Option ℤ)) : Type 0 where
   pub tokens : List (List ℕ)
   pub holds : Holds ls tokens
   pub are : Are tokens es
 
-pub degree_tokens : (ls : List (List ℕ)) (es : List Entry) → P.Degrees ls es → Written ls es
+pub degree_tokens : (ls : List (List ℕ)) (es : List (Option ℤ)) → P.Degrees ls es → Written ls es
 degree_tokens [] [] d = record { tokens = []; holds = tt; are = tt }
 degree_tokens [] (e ∷ es) d = absurd d
 degree_tokens (l ∷ ls) [] d = absurd d
@@ -128,7 +127,7 @@ degree_tokens (l ∷ ls) (e ∷ es) d =
     let r = degree_tokens ls es d.1 in
     record { tokens = t ∷ r.tokens; holds = ((degree_word t d.0.2, d.0.1), r.holds); are = (d.0.2, r.are) }
 
-pub same_entries : (ts : List (List ℕ)) (es fs : List Entry) → Are ts es → Entries ts fs → es ≡ fs
+pub same_entries : (ts : List (List ℕ)) (es fs : List (Option ℤ)) → Are ts es → Entries ts fs → es ≡ fs
 same_entries [] [] [] a b = refl
 same_entries [] [] (f ∷ fs) a b = absurd b
 same_entries [] (e ∷ es) fs a b = absurd a

@@ -1,4 +1,5 @@
 -- The items of an export, read again: each one's text is that item exactly when its cents come back. Assumes nothing.
+use Rattle.std.specs.Prelude.{Some, None}
 use mathlib.Core.Path.{◌≡◌, refl, sym, ◌∙◌, subst}
 use mathlib.Core.Bool.{true, false}
 use mathlib.Core.List.{List, [], ◌∷◌, ◌++◌, append_assoc}
@@ -16,7 +17,6 @@ use Rattle.printing.specs.PrintText.{sign_text, text_of, whole_text}
 use Rattle.printing.proofs.Form.{printed}
 use Rattle.scl.specs.Items.{is_usable_cents, is_usable, Held, AllHeld}
 use Rattle.scl.specs.Table.{are_usable}
-use Rattle.scl.specs.declared.Denom.TheVariants.{Given, Lacking}
 use Rattle.scl.specs.declared.Item.{Item}
 use Rattle.scl.specs.declared.Item.TheVariants.{Cents, Fraction}
 use Rattle.scl.proofs.Items.{usable_fraction}
@@ -58,8 +58,8 @@ module _ (n : ℕ) (h : n < 2 ^ 32) where
 -- the item that comes back is the one that its text is
 pub item_back : (i : Item) → Held i → is_usable i ≡ true → ItemBack i → ItemText (item_text i) i
 item_back (Cents c) f h b = ItemText.cents (cents_dot c h) c (subst (DecimalText (text_of 3 false c)) b (cents_reads c h)) h
-item_back (Fraction n (Given d)) f h b =
-    let p = usable_fraction n (Given d) h in
+item_back (Fraction n (Some d)) f h b =
+    let p = usable_fraction n (Some d) h in
     let P : ℕ → Type 0 = λ c. c ≡ 46 → ⊥ in
     ItemText.fraction (whole_text (pos n)) (whole_text (pos d))
     (record {
@@ -67,8 +67,8 @@ item_back (Fraction n (Given d)) f h b =
       whole = append_assoc (whole_text (pos n)) (47 ∷ []) (whole_text (pos d));
       first = number_free n f.0 47 (omega arith);
     }) n d (number_reads n f.0) (number_reads d f.1) p.0 p.1
-item_back (Fraction n Lacking) f h b =
-    let p = usable_fraction n Lacking h in
+item_back (Fraction n None) f h b =
+    let p = usable_fraction n None h in
     ItemText.whole (number_free n f.0 46 (omega arith)) (number_free n f.0 47 (omega arith)) n (number_reads n f.0) p.0
 
 -- and the other way round

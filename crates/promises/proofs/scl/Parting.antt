@@ -1,5 +1,6 @@
 -- Where the two formats part: a text with a blank description, in both, with other notes; and a value with something after it, which is
 -- published alone. Assumes nothing.
+use Rattle.std.specs.Prelude.{Some}
 use mathlib.Core.Path.{◌≡◌, refl, ◌∙◌}
 use mathlib.Core.Bool.{true}
 use mathlib.Core.List.{List, [], ◌∷◌}
@@ -10,7 +11,6 @@ use lib.IntN.{pos}
 use Rattle.base.specs.Said.{gives}
 use Rattle.scl.specs.Items.{AllHeld}
 use Rattle.scl.specs.Table.{implicit, are_usable}
-use Rattle.scl.specs.declared.Denom.TheVariants.{Given}
 use Rattle.scl.specs.declared.Item.{Item}
 use Rattle.scl.specs.declared.Item.TheVariants.{Fraction}
 use Rattle.integers.specs.Integer.{scan, magnitude_of, read_signed}
@@ -54,7 +54,7 @@ as_published =
 
 -- the one note that document 01 reads
 abbrev fifth : List Item
-fifth = Fraction 3 (Given 2) ∷ []
+fifth = Fraction 3 (Some 2) ∷ []
 
 fifth_usable : are_usable (implicit ∷ fifth) ≡ true
 unfolding are_usable
@@ -79,7 +79,7 @@ read_here list e =
             rest = record { whole = 51 ∷ 47 ∷ 50 ∷ []; token = 51 ∷ 47 ∷ 50 ∷ [] } ∷ [];
             words = (refl, (refl, (refl, tt)));
             values = (refl, (size_reads (2 ^ 16) 1 (lit< tt) (lit< tt), tt));
-            entries = (item_back (Fraction 3 (Given 2)) (lit< tt, lit< tt) refl tt, tt);
+            entries = (item_back (Fraction 3 (Some 2)) (lit< tt, lit< tt) refl tt, tt);
           };
       not_large = lit≤ tt;
       consistent = refl;

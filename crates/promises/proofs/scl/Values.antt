@@ -1,4 +1,5 @@
 -- PITCH VALUES AS PUBLISHED, read by document 01: each is a word, and within the limits it is the item that it says. Assumes nothing.
+use Rattle.std.specs.Prelude.{Some, None}
 use mathlib.Core.Path.{◌≡◌, refl, sym, subst}
 use mathlib.Core.Bool.{Bool, true, false}
 use mathlib.Core.List.{List, ◌∷◌, ◌++◌}
@@ -10,7 +11,6 @@ use lib.ListN.{length, length-append}
 use Rattle.decimals.specs.DecimalText.{OptionalSign, Form, FloatText, Unsupported, DecimalText, from_nonzero}
 use Rattle.integers.specs.Digits.{AllDigits}
 use Rattle.integers.specs.IntegerText.{Digits, IntText}
-use Rattle.scl.specs.declared.Denom.TheVariants.{Given, Lacking}
 use Rattle.scl.specs.declared.Item.{Item}
 use Rattle.scl.specs.declared.Item.TheVariants.{Cents, Fraction}
 use Rattle.scl_read.specs.ItemText.{Contains, Free, Split, ItemText}
@@ -85,6 +85,6 @@ value_item (P.PitchText.cents {minus} {n} {k} x) w =
     let c = round binary64 minus n (10 ^ k) in
     (Cents c, ItemText.cents (cents_dot x) c (cents_decimal x w.0 (omega (arith, w.1))) w.2, refl)
 value_item {t} (P.PitchText.ratio a b n d e x y p q) w =
-    (Fraction n (Given d), ItemText.fraction a b (split_at t a b e x y) n d (IntText.plain n x w.0 refl) (IntText.plain d y w.1 refl) p q, (refl, refl))
+    (Fraction n (Some d), ItemText.fraction a b (split_at t a b e x y) n d (IntText.plain n x w.0 refl) (IntText.plain d y w.1 refl) p q, (refl, refl))
 value_item {t} (P.PitchText.whole n x p) w =
-    (Fraction n Lacking, ItemText.whole (free_digits 46 t (omega arith) x.each) (free_digits 47 t (omega arith) x.each) n (IntText.plain n x w refl) p, (refl, refl))
+    (Fraction n None, ItemText.whole (free_digits 46 t (omega arith) x.each) (free_digits 47 t (omega arith) x.each) n (IntText.plain n x w refl) p, (refl, refl))

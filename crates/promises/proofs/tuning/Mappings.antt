@@ -1,4 +1,5 @@
 -- The root of a mapping that was read: its pitch is usable, and its offset can be turned over. Assumes nothing.
+use Rattle.std.specs.Prelude.{Option}
 use mathlib.Core.Path.{◌≡◌, sym, ap, subst}
 use mathlib.Core.Bool.{true}
 use mathlib.Core.List.{List, [], ◌∷◌}
@@ -8,7 +9,6 @@ use lib.IntN.{ℤ, negsuc, ◌-ℤ◌}
 use lib.Signed.{mag}
 use Rattle.base.proofs.Integers.{mag_sub}
 use Rattle.integers.specs.IntegerText.{IntText}
-use Rattle.kbm.specs.declared.Entry.{Entry}
 use Rattle.kbm.specs.declared.Kbm.{Kbm}
 use Rattle.kbm_read.specs.Language.{Values, GiveAll, required, unseen, mapping_from, MappingText}
 use Rattle.promises.specs.tuning.Roots.{Usable}
@@ -37,5 +37,5 @@ usable_values (a ∷ b ∷ c ∷ d ∷ e ∷ f ∷ rest) vs g =
     record { pitch = g.1.1.1.1.1.0.1; offset = omega (arith, bound); turns = lowest_far (mid -ℤ ref) bound }
 
 -- "Pitch is usable from 2^-10 to 2^20 Hz"; middle and reference key have 16 bits, so the offset is never -2147483648
-pub read_root : {s : List ℕ} {k : Kbm} {es : List Entry} → MappingText s k es → Usable k
+pub read_root : {s : List ℕ} {k : Kbm} {es : List (Option ℤ)} → MappingText s k es → Usable k
 read_root t = subst Usable (sym t.mapping) (usable_values t.lines.first t.values t.lines.values)

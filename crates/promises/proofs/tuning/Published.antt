@@ -1,5 +1,6 @@
 -- THE PITCH OF A KEY, HERE AND AS PUBLISHED: counted from the middle key (document 02, W1) a key sounds what Scala's pages give it, as far
 -- as rounding and 32 bits allow, for every middle key: of a mapping that is given, and of one that a text's bytes say. Assumes nothing.
+use Rattle.std.specs.Prelude.{Option}
 use mathlib.Core.Path.{◌≡◌, refl, sym, ap, ◌∙◌, subst}
 use mathlib.Core.Bool.{true, false}
 use mathlib.Core.List.{List}
@@ -20,7 +21,6 @@ use Rattle.kbm.specs.Middle.{middle_of, at_middle, scale_degree_from_middle, ref
 use Rattle.kbm.specs.ReferenceKey.{reference_distance, ReferenceHas}
 use Rattle.kbm.specs.Root.{is_root}
 use Rattle.kbm.specs.Table.{is_table, table_of}
-use Rattle.kbm.specs.declared.Entry.{Entry}
 use Rattle.kbm.specs.declared.Kbm.{Kbm}
 use Rattle.kbm.proofs.Middle.{middle_has, reference_has}
 use Rattle.kbm_read.specs.Reader.{read_of, after_read}
@@ -78,7 +78,7 @@ module _ {m : P.Mapping} where
   only_past (ReferenceSaid.past y) x = refl
 
 -- m says of the keys what the mapping does, counted from the middle key, and has its reference key
-module _ (kbm : Kbm) {m : P.Mapping} {es : List Entry} (a : SameKeys m (at_middle kbm) es)
+module _ (kbm : Kbm) {m : P.Mapping} {es : List (Option ℤ)} (a : SameKeys m (at_middle kbm) es)
     (same : m.reference ≡ kbm.root.reference.0) where
   distance_is : m.reference -ℤ m.middle ≡ reference_distance kbm
   distance_is = ap (λ (z : ℤ). z -ℤ m.middle) same ∙ from_middle a kbm.root.reference
@@ -147,7 +147,7 @@ module _ {m : P.Mapping} {items : List Item} {p : Float} {key : ℤ} where
 module _ (items : List Item) (kbm : Kbm) (map : List ℤ) (o : is_root kbm.root ≡ true) (t : is_table kbm.count map ≡ true)
     {m : P.Mapping} (a : SameKeys m (at_middle kbm) (table_of kbm.count map)) (same : m.reference ≡ kbm.root.reference.0)
     (k : PianoKey) where
-  abbrev es : List Entry
+  abbrev es : List (Option ℤ)
   es = table_of kbm.count map
 
   abbrev p : Float

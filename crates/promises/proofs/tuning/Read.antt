@@ -1,5 +1,6 @@
 -- AFTER A READ of a scale and a mapping: why a pitch is refused by 18, the pitch by mapping degree, and a run of keys. Document 01,
 -- "Keys" and "Scales and searches". Assumes nothing.
+use Rattle.std.specs.Prelude.{Option}
 use mathlib.Core.Path.{◌≡◌, refl, sym, ◌∙◌, ap, subst}
 use mathlib.Core.Logic.{◌↔◌}
 use mathlib.Core.Bool.{true, false, ◌&&◌}
@@ -33,7 +34,6 @@ use Rattle.scl_read.proofs.Leaves.{leaves_items}
 use Rattle.kbm.specs.Degree.{degree_of}
 use Rattle.kbm.specs.Root.{is_root}
 use Rattle.kbm.specs.Table.{is_table, table_of}
-use Rattle.kbm.specs.declared.Entry.{Entry as MapEntry}
 use Rattle.kbm.specs.declared.Kbm.{Kbm}
 use Rattle.kbm_read.specs.Language.{MappingText}
 use Rattle.kbm_read.specs.Reader.{after_read}
@@ -71,7 +71,7 @@ module _ (items : List Item) (some : 0 < length items) (h : AllHeld items) (u : 
   degree_given z = given_at (place_of (count_of items) z) (omega (arith, some, place_le (count_of items) z))
 
 module _ (text : List ℕ) (t : ItemTable) (l : ListTable) {d : List ℕ} {items : List Item} {list : List Entry} (s : ScaleText text d items list) (room : length items < room_of t l)
-    (mapping : List ℕ) (map : List ℤ) {k : Kbm} {es : List MapEntry} (r : MappingText mapping k es) (fits : length es ≤ length map) where
+    (mapping : List ℕ) (map : List ℤ) {k : Kbm} {es : List (Option ℤ)} (r : MappingText mapping k es) (fits : length es ≤ length map) where
   abbrev left : ItemTable
   left = after_items text t l
 

@@ -1,5 +1,6 @@
 -- WHAT AN ACCEPTED READ OR BUILD LEAVES is used by every call on tunings: no 10 for the tables, and which refusals are left.
 -- Document 01, "Scales and searches". Assumes nothing.
+use Rattle.std.specs.Prelude.{Option}
 use mathlib.Core.Path.{◌≡◌, sym, ◌∙◌, ap}
 use mathlib.Core.Bool.{true, ◌&&◌}
 use mathlib.Core.List.{List, ◌∷◌}
@@ -36,7 +37,6 @@ use Rattle.scl_read.proofs.Leaves.{leaves_items, leaves_list}
 use Rattle.kbm.specs.Degree.{degree_of}
 use Rattle.kbm.specs.Root.{is_root}
 use Rattle.kbm.specs.Table.{is_table, table_of}
-use Rattle.kbm.specs.declared.Entry.{Entry as MapEntry}
 use Rattle.kbm.specs.declared.Kbm.{Kbm}
 use Rattle.kbm_read.specs.Language.{MappingText}
 use Rattle.kbm_read.specs.Reader.{after_read}
@@ -95,7 +95,7 @@ module _ (text : List ℕ) (t : ItemTable) (l : ListTable) {d : List ℕ} {items
       record { value = g.value; is = ap (λ (is : List Item). search_of is (list_in (length items) (after_sorted text t l)) x) (leaves_items text t l s room).1 ∙ ap (λ (fs : List Entry). search_of (implicit ∷ items) fs x) m ∙ g.is }
 
   -- ---- and of a mapping beside it
-  module _ (mapping : List ℕ) (map : List ℤ) {k : Kbm} {es : List MapEntry} (r : MappingText mapping k es) (fits : length es ≤ length map) where
+  module _ (mapping : List ℕ) (map : List ℤ) {k : Kbm} {es : List (Option ℤ)} (r : MappingText mapping k es) (fits : length es ≤ length map) where
     only_reached : {p : Said Float} → Pitched k.root p → ReachedOrBeyond p
     only_reached (pitched n h) = h
     only_reached (unturned h e) = absurd ((read_root r).turns h)

@@ -1,17 +1,16 @@
 -- THE DEGREE OF A KEY, BY THE TEXT OF A MAPPING FILE: document 01, "Keys" and "Mapping", and document 02, W1, said of the text's own
 -- lines: the values of its seven required lines, and the tokens of the lines after them. No table and no reader is named here. What counts
 -- keys takes the line that is counted from first: `reference_key` is 01's counting, `middle_key` W1's. Assumes nothing.
-use Rattle.std.specs.Prelude.{◌≡◌, true, false, List, [], ◌∷◌, ◌⊎◌, ℕ, ◌^◌, ◌≤◌, ◌<◌, ℤ, ◌+ℤ◌, ◌-ℤ◌, ◌*ℤ◌, length, get_or, ◌≤ℤ◌, ◌<ℤ◌}
+use Rattle.std.specs.Prelude.{◌≡◌, true, false, List, [], ◌∷◌, ◌⊎◌, ℕ, ◌^◌, ◌≤◌, ◌<◌, ℤ, ◌+ℤ◌, ◌-ℤ◌, ◌*ℤ◌, length, get_or, ◌≤ℤ◌, ◌<ℤ◌, Option}
 use Rattle.base.specs.Integers.{Divides, in_i32}
 use Rattle.base.specs.Numbers.{overflow, key_out_of_range, unmapped_key}
 use Rattle.base.specs.Said.{Said, gives, refuses}
 use Rattle.integers.specs.IntegerText.{IntText}
-use Rattle.kbm.specs.declared.Entry.{Entry}
 use Rattle.kbm.specs.declared.Kbm.{Kbm}
 use Rattle.kbm_read.specs.Language.{required, Values, size_of, MappingText}
 
 -- the tokens of the lines after the seven required ones: the entries that the text writes
-abbrev pub entry_tokens : {s : List ℕ} {k : Kbm} {es : List Entry} → MappingText s k es → List (List ℕ)
+abbrev pub entry_tokens : {s : List ℕ} {k : Kbm} {es : List (Option ℤ)} → MappingText s k es → List (List ℕ)
 entry_tokens t = t.lines.rest
 
 -- what the required lines say: the first and the last key, the middle key, the reference key, the formal octave

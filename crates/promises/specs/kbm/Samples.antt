@@ -1,7 +1,7 @@
 -- SAMPLES: texts, and what the calls answer for their keys (document 01's example for `kbmcopy`; the same with `x` written small, as
 -- Scala's pages have it; that one with middle and reference key one, and with an entry more; a text at the ends of 32 bits), and the round
 -- trip. Keys are counted from the reference key (01) and from the middle key (document 02, W1). Assumes nothing.
-use Rattle.std.specs.Prelude.{◌≡◌, false, List, [], ◌∷◌, ◌++◌, ℕ, ◌^◌, ℤ, pos, negsuc, ◌-ℤ◌, length, get_or}
+use Rattle.std.specs.Prelude.{◌≡◌, false, List, [], ◌∷◌, ◌++◌, ℕ, ◌^◌, ℤ, pos, negsuc, ◌-ℤ◌, length, get_or, Some, None, Option}
 use Rattle.std.specs.Float.Ieee.{round}
 use Rattle.std.specs.Float.{binary64}
 use Rattle.base.specs.Numbers.{overflow, key_out_of_range, unmapped_key}
@@ -10,8 +10,6 @@ use Rattle.kbm.specs.Degree.{scale_degree_of}
 use Rattle.kbm.specs.Middle.{scale_degree_from_middle}
 use Rattle.kbm.specs.Samples.{sample, sample_table}
 use Rattle.kbm.specs.Table.{table_of}
-use Rattle.kbm.specs.declared.Entry.{Entry}
-use Rattle.kbm.specs.declared.Entry.TheVariants.{Mapped, Unmapped}
 use Rattle.kbm.specs.declared.Kbm.{Kbm}
 use Rattle.kbm_read.specs.Language.{MappingText}
 use Rattle.kbm_read.specs.Reader.{read_of, after_read}
@@ -52,7 +50,7 @@ example_mapping middle =
       hertz = 2616256;
       places = 4;
       octave = pos 5;
-      given = Mapped (pos 0) ∷ Unmapped ∷ [];
+      given = Some (pos 0) ∷ None ∷ [];
     }
 
 -- and by 01: the f64 nearest to 261.6256, the end after the last key, and one entry added
@@ -66,8 +64,8 @@ example_kbm middle =
       count = 3;
     }
 
-abbrev pub example_entries : List Entry
-example_entries = Mapped (pos 0) ∷ Unmapped ∷ Unmapped ∷ []
+abbrev pub example_entries : List (Option ℤ)
+example_entries = Some (pos 0) ∷ None ∷ None ∷ []
 
 -- THE KEYS OF 01'S OWN INPUT, read into a table `old`
 pub record CopyKeys (old : List ℤ) : Type 0 where
@@ -117,8 +115,8 @@ pub record ExampleKeys (k : Kbm) (old : List ℤ) : Type 0 where
 abbrev pub counted_text : List ℕ
 counted_text = lines_text (example_lines (54 ∷ 50 ∷ []) (120 ∷ []) ++ (50 ∷ []) ∷ [])
 
-abbrev pub counted_entries : List Entry
-counted_entries = Mapped (pos 0) ∷ Unmapped ∷ Mapped (pos 2) ∷ []
+abbrev pub counted_entries : List (Option ℤ)
+counted_entries = Some (pos 0) ∷ None ∷ Some (pos 2) ∷ []
 
 -- ITS KEYS IN BOTH COUNTINGS, read into a table `old`: what the calls answer, and what the text's own lines say
 pub record BothCountings (old : List ℤ) : Type 0 where
@@ -162,7 +160,7 @@ far_kbm =
 -- ITS LAST KEY, read into a table `old`: inside the range, and the place reached has the token `x`, but its distance from the reference key is
 -- 2147483648, so that 11 comes before 17
 pub record FarKey (old : List ℤ) : Type 0 where
-  pub text : MappingText far_text far_kbm (Unmapped ∷ [])
+  pub text : MappingText far_text far_kbm (None ∷ [])
   pub read : read_of (length old) far_text ≡ gives far_kbm
   pub inside : Inside text.values (pos 2147483646)
   pub counted : Counts reference_key text.values (pos 2147483646) (pos 2147483648) 0

@@ -2,13 +2,12 @@
 -- whose turned-over entry takes place 0; the lowest of repeated entries and the first declared; the two sides of the tolerance. Lists
 -- and degrees are those that the given Rust answers with E and L in place of exp2 and log2. Document 01, "Scales and searches".
 -- Assumes nothing.
-use Rattle.std.specs.Prelude.{◌≡◌, true, false, List, [], ◌∷◌, ℕ, pos, negsuc, neg_ℤ, Float}
+use Rattle.std.specs.Prelude.{◌≡◌, true, false, List, [], ◌∷◌, ℕ, pos, negsuc, neg_ℤ, Float, Some}
 use Rattle.std.specs.Float.{fin, binary64}
 use Rattle.std.specs.Float.Ieee.{round}
 use Rattle.base.specs.Said.{Said, gives, and_then}
 use Rattle.pitch.specs.Ratios.{from_cents}
 use Rattle.scl.specs.Table.{implicit}
-use Rattle.scl.specs.declared.Denom.TheVariants.{Given}
 use Rattle.scl.specs.declared.Item.{Item}
 use Rattle.scl.specs.declared.Item.TheVariants.{Cents, Fraction}
 use Rattle.scl_tables.specs.Build.{entry, sorted_of}
@@ -42,7 +41,7 @@ downward_found = found_at minor_third 1 (pos 1) downward_far
 
 -- ---- items 5/3, 80/3 and 2/1: (0, 1.0, 0) (2, 1.666666666666666, 4) twice (3, 2.0, 0)
 abbrev pub thirds : List Item
-thirds = implicit ∷ Fraction 5 (Given 3) ∷ Fraction 80 (Given 3) ∷ Fraction 2 (Given 1) ∷ []
+thirds = implicit ∷ Fraction 5 (Some 3) ∷ Fraction 80 (Some 3) ∷ Fraction 2 (Some 1) ∷ []
 
 abbrev pub lower_third : Entry
 lower_third = entry 2 (fin false 938249922368853 (negsuc 48)) (pos 4)

@@ -1,6 +1,6 @@
 -- THE LIMITS OF DOCUMENT 01 on Scala's published scale format: what a published text must be besides, so that 01 takes it, given room (12),
 -- each with the sentence of 01 that it comes from and the number that it draws. Assumes nothing.
-use Rattle.std.specs.Prelude.{◌≡◌, true, List, [], ◌∷◌, ◌++◌, ◌⊎◌, ℕ, ◌^◌, ◌≤◌, ◌<◌, length}
+use Rattle.std.specs.Prelude.{◌≡◌, true, List, [], ◌∷◌, ◌++◌, ◌⊎◌, ℕ, ◌^◌, ◌≤◌, ◌<◌, length, Some}
 use Rattle.std.specs.Float.Ieee.{round}
 use Rattle.std.specs.Float.{binary64}
 use Rattle.base.specs.Said.{gives}
@@ -8,7 +8,6 @@ use Rattle.decimals.specs.DecimalText.{from_nonzero}
 use Rattle.floats.specs.Floats.{one_f}
 use Rattle.scl.specs.Items.{is_usable_cents, ratio_of}
 use Rattle.scl.specs.Table.{implicit}
-use Rattle.scl.specs.declared.Denom.TheVariants.{Given}
 use Rattle.scl.specs.declared.Item.{Item}
 use Rattle.scl.specs.declared.Item.TheVariants.{Cents, Fraction}
 use Rattle.scl_tables.specs.Build.{last_of}
@@ -45,7 +44,7 @@ AllApart (l ∷ ls) (p ∷ ps) v = Apart v.0.1.rest × AllApart ls ps v.1
 -- a pitch value as it sounds
 abbrev pub heard : P.Pitch → Item
 heard (P.Pitch.cents minus n k) = Cents (round binary64 minus n (10 ^ k))
-heard (P.Pitch.ratio n d) = Fraction n (Given d)
+heard (P.Pitch.ratio n d) = Fraction n (Some d)
 
 abbrev pub all_heard : List P.Pitch → List Item
 all_heard [] = []

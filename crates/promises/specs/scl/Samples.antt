@@ -1,9 +1,8 @@
 -- Samples of the round trip: a scale whose export is read as the same scale, and scales that differ from it in one thing and do not come
 -- back. Assumes nothing.
-use Rattle.std.specs.Prelude.{◌≡◌, false, List, [], ◌∷◌, ℕ, suc}
+use Rattle.std.specs.Prelude.{◌≡◌, false, List, [], ◌∷◌, ℕ, suc, Some, None}
 use Rattle.std.specs.Float.Ieee.{round}
 use Rattle.std.specs.Float.{binary64}
-use Rattle.scl.specs.declared.Denom.TheVariants.{Given, Lacking}
 use Rattle.scl.specs.declared.Item.{Item}
 use Rattle.scl.specs.declared.Item.TheVariants.{Cents, Fraction}
 use Rattle.base.specs.Said.{refuses}
@@ -19,7 +18,7 @@ words = 97 ∷ 32 ∷ 98 ∷ []
 
 -- 701.955 cents, 3/2 and 2
 abbrev pub fifths : List Item
-fifths = Cents (round binary64 false 701955 1000) ∷ Fraction 3 (Given 2) ∷ Fraction 2 Lacking ∷ []
+fifths = Cents (round binary64 false 701955 1000) ∷ Fraction 3 (Some 2) ∷ Fraction 2 None ∷ []
 
 -- 0.0625 cents, which are written as 0.062
 abbrev pub sixteenth : List Item
@@ -51,7 +50,7 @@ blank_scale = record { description = []; pitches = P.Pitch.ratio 1 1 ∷ P.Pitch
 pub record Parting : Type 0 where
   pub published : P.PublishedText blank_text blank_scale
   pub list : List Entry
-  pub here : ScaleText blank_text (50 ∷ []) (Fraction 3 (Given 2) ∷ []) list
+  pub here : ScaleText blank_text (50 ∷ []) (Fraction 3 (Some 2) ∷ []) list
 
 -- SOMETHING THAT FOLLOWS A VALUE: `d`, `1`, `5/4E`, each with LF. As published one note, 5/4
 abbrev pub followed_text : List ℕ

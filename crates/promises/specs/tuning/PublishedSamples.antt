@@ -1,14 +1,13 @@
 -- SAMPLES OF THE REFERENCE KEY, counted from the middle key (document 02, W1): one that sounds its frequency exactly, which it does not by
 -- document 01's counting; one that rounding leaves just below it; and document 01's own mapping, whose reference key sounds no degree with
 -- middle key 62. Assumes nothing.
-use Rattle.std.specs.Prelude.{◌≡◌, false, List, [], ◌∷◌, ℤ, pos, negsuc, Float}
+use Rattle.std.specs.Prelude.{◌≡◌, false, List, [], ◌∷◌, ℤ, pos, negsuc, Float, Some}
 use Rattle.std.specs.Float.{fin}
 use Rattle.base.specs.Numbers.{reference_unmapped}
 use Rattle.base.specs.Said.{gives, refuses}
 use Rattle.key.specs.Keys.{key}
 use Rattle.pitch.specs.declared.Pitch.{Pitch}
 use Rattle.scl.specs.Table.{implicit}
-use Rattle.scl.specs.declared.Denom.TheVariants.{Given}
 use Rattle.scl.specs.declared.Item.{Item}
 use Rattle.scl.specs.declared.Item.TheVariants.{Fraction}
 use Rattle.kbm.specs.MiddleSamples.{mapping}
@@ -34,7 +33,7 @@ exact_table = pos 0 ∷ pos 1 ∷ pos 2 ∷ []
 
 -- ---- items 7/5 and 2/1; entries 0 1, octave 2, keys 0 to 127, middle key 60, reference key 61
 abbrev pub seven : List Item
-seven = implicit ∷ Fraction 7 (Given 5) ∷ Fraction 2 (Given 1) ∷ []
+seven = implicit ∷ Fraction 7 (Some 5) ∷ Fraction 2 (Some 1) ∷ []
 
 abbrev pub rounded_kbm : Kbm
 rounded_kbm = mapping (record { 0 = concert }) (pos 0) (pos 128) (pos 61) (negsuc 0) (pos 2) 2

@@ -1,12 +1,11 @@
 -- Four scales and what pitches and searches in them answer: "Only item 2/1: ratio 3.0 gives degree 2" (document 01, "Sample lines"); a
 -- degree whose pitch, searched, is answered by another degree, as in the Rust; the first of equal entries; a degree below place 0.
 -- Assumes nothing.
-use Rattle.std.specs.Prelude.{false, List, [], ◌∷◌, ℕ, pos, negsuc, Float}
+use Rattle.std.specs.Prelude.{false, List, [], ◌∷◌, ℕ, pos, negsuc, Float, Some}
 use Rattle.std.specs.Float.{fin}
 use Rattle.pitch.specs.Ratios.{two_f}
 use Rattle.sorting.specs.Entries.{Entry}
 use Rattle.scl.specs.Table.{implicit}
-use Rattle.scl.specs.declared.Denom.TheVariants.{Given}
 use Rattle.scl.specs.declared.Item.{Item}
 use Rattle.scl.specs.declared.Item.TheVariants.{Fraction}
 use Rattle.scl_tables.specs.Build.{entry}
@@ -15,7 +14,7 @@ use Rattle.searching.specs.declared.approximation.Approximation.{Approximation}
 
 -- place 0 and the item numer / 1
 abbrev pub only : ℕ → List Item
-only numer = implicit ∷ Fraction numer (Given 1) ∷ []
+only numer = implicit ∷ Fraction numer (Some 1) ∷ []
 
 -- 1.0, and the period
 abbrev pub only_list : Float → List Entry
@@ -43,7 +42,7 @@ parted_answer = approximation (fin false 2251799813685245 (negsuc 50)) (pos 18)
 
 -- ---- items 1/1 five times and 2/1: 1.0 is searched, which six entries equal
 abbrev pub repeated_items : List Item
-repeated_items = implicit ∷ Fraction 1 (Given 1) ∷ Fraction 1 (Given 1) ∷ Fraction 1 (Given 1) ∷ Fraction 1 (Given 1) ∷ Fraction 1 (Given 1) ∷ Fraction 2 (Given 1) ∷ []
+repeated_items = implicit ∷ Fraction 1 (Some 1) ∷ Fraction 1 (Some 1) ∷ Fraction 1 (Some 1) ∷ Fraction 1 (Some 1) ∷ Fraction 1 (Some 1) ∷ Fraction 2 (Some 1) ∷ []
 
 abbrev pub unison : Entry
 unison = entry 0 (fin false 1 (pos 0)) (pos 0)
@@ -57,7 +56,7 @@ repeated_answer = approximation (fin false 1 (pos 0)) (pos 0)
 
 -- ---- items 9/8, 5/4 and 2/1: a degree below place 0
 abbrev pub three : List Item
-three = implicit ∷ Fraction 9 (Given 8) ∷ Fraction 5 (Given 4) ∷ Fraction 2 (Given 1) ∷ []
+three = implicit ∷ Fraction 9 (Some 8) ∷ Fraction 5 (Some 4) ∷ Fraction 2 (Some 1) ∷ []
 
 -- 0.625: one period down and 5/4 up ("Truncating, not flooring" is ruled out: it would be 9/8)
 abbrev pub below_pitch : Float

@@ -13,12 +13,6 @@ sort_entries-requires c =
     let v = values_of c.args.period c.args.generator_cents c.args.period_cents (record { within = c.requires.3; held = c.well_formed.1.1.1.0.1 }) c.requires.4 c.requires.5 c.args.positive (length c.args.ratio.now) c.requires.0 in
     (filled_length v c.fill.ensures ∙ sym c.requires.1 ∙ sym l, c.requires.2 ∙ sym c.requires.1 ∙ sym l, rw c.number.ensures (from_ascends (length c.args.place.now)), filled_positive v c.fill.ensures)
 
-pub shape_of-place : goal.shape_of-place
-shape_of-place c = c.place-2-1.given ∙ c.place-1.given
-
-pub shape_of-ratio : goal.shape_of-ratio
-shape_of-ratio c = c.ratio-2-1.given ∙ c.ratio-1.given
-
 pub returns : goal.returns
 returns c =
     let v = values_of c.args.period c.args.generator_cents c.args.period_cents (record { within = c.requires.3; held = c.well_formed.1.1.1.0.1 }) c.requires.4 c.requires.5 c.args.positive (length c.args.ratio.now) c.requires.0 in

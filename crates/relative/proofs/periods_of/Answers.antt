@@ -11,4 +11,4 @@ pub returns-then-count-eq0 : goal.returns-then-count-eq0
 returns-then-count-eq0 c = periods_none c.args.count c.args.degree c.if-count-eq0.true
 
 pub returns : goal.returns
-returns c = told {w = w32} {w' = w32} (λ z. floor_div z c.args.count) c.ranges.degree (record { sfits = c.quotient.type_inv }) c.quotient.ensures ∙ periods_some c.args.count c.args.degree c.if-count-eq0.false
+returns c = told {w = w32} {w' = w32} (λ z. floor_div z c.args.count) c.ranges.degree (record { sfits = c.quotient.type_inv }) (rw c.from.ensures at c.quotient.ensures) ∙ periods_some c.args.count c.args.degree c.if-count-eq0.false

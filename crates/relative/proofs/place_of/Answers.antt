@@ -8,4 +8,4 @@ pub returns-then-count-eq0 : goal.returns-then-count-eq0
 returns-then-count-eq0 c = place_none c.args.count c.args.degree c.if-count-eq0.true
 
 pub returns : goal.returns
-returns c = rw (rw (to_z-of_z c.ranges.degree) at c.remainder.ensures) (place_some c.args.count c.args.degree c.if-count-eq0.false)
+returns c = rw (rw (to_z-of_z c.ranges.degree, c.from.ensures) at c.remainder.ensures) (place_some c.args.count c.args.degree c.if-count-eq0.false)

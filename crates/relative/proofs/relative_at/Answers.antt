@@ -16,10 +16,10 @@ use Rattle.relative.proofs.relative_at.Goals as goal
 
 pub returns : goal.returns
 returns c =
-    let items = items_in c.args.count (item_table c.args.kind.now c.args.cents.now c.args.numer.now c.args.denom.now) in
+    let items = items_in c.args.count c.args.items.now in
     let q = told {w = w32} {w' = w32} (periods_of c.args.count) c.ranges.degree (record { sfits = c.periods_of.type_inv }) c.periods_of.ensures in
     let at = rw (to_z-of_z c.ranges.degree) at c.place_of-place.ensures.0 in
-    let last = c.ratio_at-period.ensures.0 ∙ ap ratio_of (items_last c.args.count (item_table c.args.kind.now c.args.cents.now c.args.numer.now c.args.denom.now) c.requires) in
+    let last = c.ratio_at-period.ensures.0 ∙ ap ratio_of (items_last c.args.count c.args.items.now c.requires) in
     c.stretch.ensures
     ∙ ap (λ (z : ℤ). stretched c.ratio_at-period.result z c.ratio_at-ratio.result) q
-    ∙ relative_told items c.args.count c.args.degree (items_count c.args.count (item_table c.args.kind.now c.args.cents.now c.args.numer.now c.args.denom.now) c.requires) last (c.ratio_at-ratio.ensures.0 ∙ ap (λ (i : ℕ). ratio_of (get_or items i no_item)) at)
+    ∙ relative_told items c.args.count c.args.degree (items_count c.args.count c.args.items.now c.requires) last (c.ratio_at-ratio.ensures.0 ∙ ap (λ (i : ℕ). ratio_of (get_or items i no_item)) at)

@@ -1,13 +1,8 @@
 -- `are_items` meets its contract. The invariant: `all` says whether the items up to i can be used, and what is left decides with it.
 -- The measure is the number of places left. Assumes nothing.
-use mathlib.Core.Path.{refl}
-use native.Mathlib.Omega.{arith}
 use Rattle.scl.specs.Table.{item_table}
 use Rattle.scl.proofs.Table.{roomy, turn, finish}
 use Rattle.scl.proofs.are_items.Goals as goal
-
-pub loop-i-init : goal.loop-i-init
-loop-i-init c = record { end = omega arith; same = refl }
 
 pub loop-i-preserved : goal.loop-i-preserved
 loop-i-preserved c =

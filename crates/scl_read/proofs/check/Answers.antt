@@ -1,16 +1,13 @@
 -- `check` answers what the walk over the lines gives. The invariant: what is left to walk, after what was said so far,
 -- gives the answer of the whole; a line has at least one byte, so its number stays in range; the last item can be used.
-use borrow.Author.Rules.{rules}
-use mathlib.Core.Path.{◌≡◌, sym, ◌∙◌}
-use mathlib.Core.Bool.{true}
-use Prim.Native.Nat.{◌≤◌, ◌+◌, ◌-◌}
+use Rattle.base.specs.Said.{outcome}
+use Rattle.std.proofs.lemmas.Result.{err_from_is_err_and}
+use mathlib.Core.Path.{sym, ◌∙◌}
 use native.Mathlib.Omega.{arith}
-use lib.ListN.{length, drop}
-use Rattle.scl.specs.Items.{is_usable}
 use Rattle.listing.proofs.Given.{walk_end, walk_turn}
 use Rattle.text.proofs.Shown.{LineTurn, line_turn, said_end}
-use Rattle.text.specs.ReadLine.{strictly, said_in, shown}
-use Rattle.scl_read.specs.Reader.{says_step, take_meaning, finished, check_of, walk}
+use Rattle.text.specs.ReadLine.{strictly, shown}
+use Rattle.scl_read.specs.Reader.{take_meaning, finished}
 use Rattle.scl_read.proofs.Usable.{implicit_usable, step_last}
 use Rattle.scl_read.proofs.check.Goals as goal
 use Rattle.scl_read.proofs.check.Goals.{After-read_line-says}
@@ -23,14 +20,14 @@ the_turn : (c : After-read_line-says) →
     LineTurn strictly c.args.text.now c.loop-at.at c.next_line-ends.result c.read_line-says.result
 the_turn c = line_turn strictly _ _ c.loop-at-test.true c.next_line-ends.ensures c.read_line-says.ensures
 
-pub take_line-step-requires : goal.take_line-step-requires
-take_line-step-requires c = (the_turn c).parts
+pub take_line-requires : goal.take_line-requires
+take_line-requires c = (the_turn (goal.at.take_line-requires c).After-read_line-says).parts
 
-pub returns-in-Refused : goal.returns-in-Refused
-returns-in-Refused c = sym (c.loop-at.invariant.2 ∙ walk_turn (take_meaning _) finished _ _ says_step (the_turn (goal.at.returns-in-Refused c).After-read_line-says).first c.take_line-step.ensures c.in-Refused.is)
-
-pub overflow_add-line : goal.overflow_add-line
-overflow_add-line c = omega arith
+pub returns-in_err-state : goal.returns-in_err-state
+returns-in_err-state c =
+    let p = err_from_is_err_and c.from_residual.result c.from_residual.ensures.1 in
+    let t = the_turn (goal.at.returns-in_err-state c).After-read_line-says in
+    rw (p.1, p.2) (sym (c.loop-at.invariant.2 ∙ walk_turn (take_meaning _) finished _ _ outcome t.first c.take_line.ensures c.in_err-state.was))
 
 pub loop-at-smaller : goal.loop-at-smaller
 loop-at-smaller c = let t = the_turn (goal.at.loop-at-smaller c).After-read_line-says in omega arith
@@ -40,8 +37,8 @@ loop-at-preserved c =
     let t = the_turn (goal.at.loop-at-preserved c).After-read_line-says in (
       t.stays,
       omega arith,
-      c.loop-at.invariant.2 ∙ walk_turn (take_meaning _) finished _ _ says_step t.first c.take_line-step.ensures c.in-Is.is,
-      step_last c.args.places c.loop-at.line (shown c.args.text.now c.read_line-says.result) c.loop-at.state c.take_line-step.ensures c.in-Is.is c.loop-at.invariant.3,
+      c.loop-at.invariant.2 ∙ walk_turn (take_meaning _) finished _ _ outcome t.first c.take_line.ensures c.in_ok-state.was,
+      step_last c.args.places c.loop-at.line (shown c.args.text.now c.read_line-says.result) c.loop-at.state c.take_line.ensures c.in_ok-state.was c.loop-at.invariant.3,
     )
 
 pub finish-requires : goal.finish-requires

@@ -1,17 +1,12 @@
 -- `check` answers what the walk over the lines gives. The invariant: what is left to walk, after what was said so far,
 -- gives the answer of the whole; a line has at least one byte, so its number stays in range; the last item can be used.
-use borrow.Author.Rules.{rules}
-use mathlib.Core.Path.{◌≡◌, sym, ◌∙◌}
+use mathlib.Core.Path.{◌≡◌}
 use mathlib.Core.Bool.{true}
 use Prim.Native.Nat.{◌≤◌, ◌+◌, ◌-◌}
-use native.Mathlib.Omega.{arith}
 use lib.ListN.{length, drop}
 use Rattle.scl.specs.Items.{is_usable}
-use Rattle.listing.proofs.Given.{walk_end, walk_turn}
-use Rattle.text.proofs.Shown.{LineTurn, line_turn, said_end}
-use Rattle.text.specs.ReadLine.{strictly, said_in, shown}
-use Rattle.scl_read.specs.Reader.{says_step, take_meaning, finished, check_of, walk}
-use Rattle.scl_read.proofs.Usable.{implicit_usable, step_last}
+use Rattle.text.specs.ReadLine.{said_in}
+use Rattle.scl_read.specs.Reader.{check_of, walk}
 use Rattle.scl_read.proofs.check.Given as goal
 
 abbrev pub invariant-loop-at : goal.invariant-loop-at

@@ -1,16 +1,12 @@
 -- `fill` writes place 0 and the items that the text gives. The invariant: of what the lines say a part is left, and the items of what
 -- came before it stand in the columns.
-use borrow.Author.Rules.{rules}
-use mathlib.Core.Path.{◌≡◌, refl, sym, ◌∙◌}
-use Prim.Native.Nat.{◌≤◌, ◌<◌, ◌-◌}
-use native.Mathlib.Omega.{arith}
+use Prim.Native.Nat.{◌≤◌, ◌-◌}
 use lib.ListN.{length, drop}
-use Rattle.scl.proofs.Table.{Roomy, roomy}
-use Rattle.scl.specs.Table.{ItemTable, item_table, implicit}
-use Rattle.text.proofs.Shown.{LineTurn, line_turn, said_end}
-use Rattle.text.specs.ReadLine.{strictly, said_in, shown}
+use Rattle.scl.proofs.Table.{Roomy}
+use Rattle.scl.specs.Table.{item_table}
+use Rattle.text.specs.ReadLine.{said_in}
 use Rattle.scl_read.specs.Reader.{items_read}
-use Rattle.scl_read.proofs.Fills.{SameLengths, same_lengths, lengths_same, lengths_roomy, written_start, Filled, filled_none, filled_end, filled_nothing, filled_required, item_place, filled_item, required_some}
+use Rattle.scl_read.proofs.Fills.{SameLengths, Filled}
 use Rattle.scl_read.proofs.fill.Given as goal
 
 abbrev pub invariant-loop-at : goal.invariant-loop-at

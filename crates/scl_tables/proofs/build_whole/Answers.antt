@@ -24,6 +24,6 @@ pub returns : goal.returns
 returns c =
     let some : 0 < length c.fill.new.ratio = search rules in
     let lw : length c.fill.new.wraps ≡ length c.fill.new.ratio = search rules in
-    let items = items_of c.args.kind.now c.args.cents.now c.args.numer.now c.args.denom.now in
+    let items = items_of c.args.items.now.kinds c.args.items.now.cents c.args.items.now.numers c.args.items.now.denoms in
     let same : length c.args.place.now ≡ length c.fill.new.ratio = search rules in
     built c.period_at-period.result.ratio c.period_at-period.ensures.1.reach c.fill.new.ratio c.fill.new.wraps some lw items c.args.place.now same c.period_at-period.ensures.0 c.fill.ensures.0 c.override_period.ensures.0 c.override_period.ensures.1 c.arrange.ensures

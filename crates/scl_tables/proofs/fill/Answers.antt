@@ -18,28 +18,28 @@ use Rattle.scl_tables.proofs.fill.Goals as goal
 
 pub loop-i-init : goal.loop-i-init
 loop-i-init c =
-    let n = length_items c.args.kind.now c.args.cents.now c.args.numer.now c.args.denom.now c.requires.0 c.requires.1 c.requires.2 in
-    (refl, refl, fill_starts c.args.period.ratio (items_of c.args.kind.now c.args.cents.now c.args.numer.now c.args.denom.now) c.args.ratio.now c.args.wraps.now (c.requires.3 ∙ sym n) (c.requires.4 ∙ sym n))
+    let n = length_items c.args.items.now.kinds c.args.items.now.cents c.args.items.now.numers c.args.items.now.denoms c.requires.0 c.requires.1 c.requires.2 in
+    (refl, refl, fill_starts c.args.period.ratio (items_of c.args.items.now.kinds c.args.items.now.cents c.args.items.now.numers c.args.items.now.denoms) c.args.ratio.now c.args.wraps.now (c.requires.3 ∙ sym n) (c.requires.4 ∙ sym n))
 
-pub reduced_at-x-requires : goal.reduced_at-x-requires
-reduced_at-x-requires c =
-    let n = length_items c.args.kind.now c.args.cents.now c.args.numer.now c.args.denom.now c.requires.0 c.requires.1 c.requires.2 in
-    let l : c.loop-i.i < length c.args.kind.now = omega (arith, c.loop-i-test.true, c.loop-i.invariant.0, c.requires.3) in
-    (l, c.requires.0, c.requires.1, c.requires.2, subst (λ (x : Item). is_usable x ≡ true) (item_at_law c.args.kind.now c.args.cents.now c.args.numer.now c.args.denom.now c.loop-i.i c.requires.0 c.requires.1 c.requires.2 l) (usable_at (items_of c.args.kind.now c.args.cents.now c.args.numer.now c.args.denom.now) c.loop-i.i c.requires.5 (omega (arith, l, n))), c.requires.6)
+pub reduced_at-reduced-requires : goal.reduced_at-reduced-requires
+reduced_at-reduced-requires c =
+    let n = length_items c.args.items.now.kinds c.args.items.now.cents c.args.items.now.numers c.args.items.now.denoms c.requires.0 c.requires.1 c.requires.2 in
+    let l : c.loop-i.i < length c.args.items.now.kinds = omega (arith, c.loop-i-test.true, c.loop-i.invariant.0, c.requires.3) in
+    (l, c.requires.0, c.requires.1, c.requires.2, subst (λ (x : Item). is_usable x ≡ true) (item_at_law c.args.items.now.kinds c.args.items.now.cents c.args.items.now.numers c.args.items.now.denoms c.loop-i.i c.requires.0 c.requires.1 c.requires.2 l) (usable_at (items_of c.args.items.now.kinds c.args.items.now.cents c.args.items.now.numers c.args.items.now.denoms) c.loop-i.i c.requires.5 (omega (arith, l, n))), c.requires.6)
 
 pub loop-i-preserved : goal.loop-i-preserved
 loop-i-preserved c =
-    let n = length_items c.args.kind.now c.args.cents.now c.args.numer.now c.args.denom.now c.requires.0 c.requires.1 c.requires.2 in
-    let l : c.loop-i.i < length c.args.kind.now = omega (arith, c.loop-i-test.true, c.loop-i.invariant.0, c.requires.3) in
-    rw (to_z-of_z {w = w32} {z = c.reduced_at-x.result.wraps} (search rules)) (
-      length-set c.loop-i.ratio c.loop-i.i c.reduced_at-x.result.ratio ∙ c.loop-i.invariant.0,
-      length-set c.loop-i.wraps c.loop-i.i c.reduced_at-x.result.wraps ∙ c.loop-i.invariant.1,
-      fill_turn c.loop-i.invariant.2 c.reduced_at-x.result.ratio c.reduced_at-x.result.wraps (omega (arith, l, n))
-          (c.reduced_at-x.ensures.0 ∙ ap (reduced_entry c.args.period.ratio c.loop-i.i) (sym (item_at_law c.args.kind.now c.args.cents.now c.args.numer.now c.args.denom.now c.loop-i.i c.requires.0 c.requires.1 c.requires.2 l)))
-          c.reduced_at-x.ensures.1,
+    let n = length_items c.args.items.now.kinds c.args.items.now.cents c.args.items.now.numers c.args.items.now.denoms c.requires.0 c.requires.1 c.requires.2 in
+    let l : c.loop-i.i < length c.args.items.now.kinds = omega (arith, c.loop-i-test.true, c.loop-i.invariant.0, c.requires.3) in
+    rw (to_z-of_z {w = w32} {z = c.reduced_at-reduced.result.wraps} (search rules)) (
+      length-set c.loop-i.ratio c.loop-i.i c.reduced_at-reduced.result.ratio ∙ c.loop-i.invariant.0,
+      length-set c.loop-i.wraps c.loop-i.i c.reduced_at-reduced.result.wraps ∙ c.loop-i.invariant.1,
+      fill_turn c.loop-i.invariant.2 c.reduced_at-reduced.result.ratio c.reduced_at-reduced.result.wraps (omega (arith, l, n))
+          (c.reduced_at-reduced.ensures.0 ∙ ap (reduced_entry c.args.period.ratio c.loop-i.i) (sym (item_at_law c.args.items.now.kinds c.args.items.now.cents c.args.items.now.numers c.args.items.now.denoms c.loop-i.i c.requires.0 c.requires.1 c.requires.2 l)))
+          c.reduced_at-reduced.ensures.1,
     )
 
 pub returns : goal.returns
 returns c =
-    let n = length_items c.args.kind.now c.args.cents.now c.args.numer.now c.args.denom.now c.requires.0 c.requires.1 c.requires.2 in
+    let n = length_items c.args.items.now.kinds c.args.items.now.cents c.args.items.now.numers c.args.items.now.denoms c.requires.0 c.requires.1 c.requires.2 in
     fill_ends c.loop-i.invariant.2 (omega (arith, n, c.loop-i-test.false, c.loop-i.invariant.0, c.requires.3))

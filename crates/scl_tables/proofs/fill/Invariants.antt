@@ -1,7 +1,5 @@
--- `fill` meets its contract. The invariant: the first i places hold the entries of the first i items.
--- The measure is the number of places left. Assumes nothing.
+-- The first i places hold the entries of the first i items.
 use mathlib.Core.Path.{◌≡◌}
-use Prim.Native.Nat.{◌-◌}
 use lib.ListN.{length}
 use Rattle.scl.specs.Table.{items_of}
 use Rattle.scl_tables.proofs.Filling.{Filled}
@@ -9,7 +7,4 @@ use Rattle.scl_tables.proofs.fill.Given as goal
 
 abbrev pub invariant-loop-i : goal.invariant-loop-i
 invariant-loop-i l =
-    (length l.ratio ≡ length l.initial.ratio) × (length l.wraps ≡ length l.initial.wraps) × Filled l.period.ratio (items_of l.kind l.cents l.numer l.denom) l.i l.ratio l.wraps
-
-abbrev pub decreases-loop-i : goal.decreases-loop-i
-decreases-loop-i l = length l.initial.ratio - l.i
+    (length l.ratio ≡ length l.initial.ratio) × (length l.wraps ≡ length l.initial.wraps) × Filled l.period.ratio (items_of l.items.kinds l.items.cents l.items.numers l.items.denoms) l.i l.ratio l.wraps

@@ -1,7 +1,6 @@
 -- `item_length` meets its contract: it writes the item into bytes of its own, which have room for any.
 -- Assumes nothing.
 use native.Mathlib.Omega.{arith}
-use borrow.Author.Rules.{rules}
 use Rattle.scl_write.proofs.ItemLines.{item_short}
 use Rattle.scl_write.proofs.item_length.Goals as goal
 

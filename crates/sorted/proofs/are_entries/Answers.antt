@@ -1,9 +1,7 @@
 -- `are_entries` meets its contract. The invariant: what `all`, `last` and `highest` say of the entries up to i decides with what is left.
 -- The measure is the number of entries left. Assumes nothing.
-use Prim.Native.Nat.{◌-◌}
-use borrow.Author.Rules.{rules}
 use lib.Ieee.{of_bits}
-use Rattle.sorted.proofs.Passes.{Passed, starts, turn, ends}
+use Rattle.sorted.proofs.Passes.{starts, turn, ends}
 use Rattle.sorted.proofs.are_entries.Goals as goal
 
 pub loop-i-init : goal.loop-i-init

@@ -3,7 +3,6 @@
 use mathlib.Core.Path.{sym, ◌∙◌, ap}
 use lib.ListN.{length}
 use Rattle.sorted.proofs.Numbering.{length_from, from_ascends, arranges}
-use borrow.Author.Rules.{rules}
 use Rattle.sorted.proofs.arrange.Goals as goal
 
 pub sort_entries-requires : goal.sort_entries-requires

@@ -1,13 +1,8 @@
 -- `first_not_below` meets its contract. The invariant: below lo every ratio is below x, from hi on none is (Search.antt).
 -- The measure is hi - lo.
-use Prim.Native.Nat.{◌-◌}
-use native.Mathlib.Omega.{arith}
 use borrow.Author.Rules.{rules}
-use Rattle.sorted.proofs.Search.{Between, raise, lower, found}
+use Rattle.sorted.proofs.Search.{raise, lower, found}
 use Rattle.sorted.proofs.first_not_below.Goals as goal
-
-pub loop-lo-init : goal.loop-lo-init
-loop-lo-init c = record { order = search rules; end = search rules; low = λ k l. absurd (omega arith); high = λ k l m. absurd (omega arith) }
 
 pub loop-lo-preserved-then-ratio-mid : goal.loop-lo-preserved-then-ratio-mid
 loop-lo-preserved-then-ratio-mid c = raise c.requires.0 c.requires.1 c.requires.2 c.loop-lo.invariant _ (search rules) (search rules) c.if-ratio-mid.true

@@ -1,9 +1,7 @@
 -- `first_not_below` meets its contract. The invariant: below lo every ratio is below x, from hi on none is (Search.antt).
 -- The measure is hi - lo.
 use Prim.Native.Nat.{◌-◌}
-use native.Mathlib.Omega.{arith}
-use borrow.Author.Rules.{rules}
-use Rattle.sorted.proofs.Search.{Between, raise, lower, found}
+use Rattle.sorted.proofs.Search.{Between}
 use Rattle.sorted.proofs.first_not_below.Given as goal
 
 abbrev pub invariant-loop-lo : goal.invariant-loop-lo

@@ -1,6 +1,5 @@
 -- `is_list` meets its contract: room in each column, then the entries.
 -- Assumes nothing.
-use borrow.Author.Rules.{rules}
 use Rattle.sorted.specs.Lent.{list_table}
 use Rattle.sorted.proofs.Lists.{places_short, ratios_short, wraps_short, list_tests}
 use Rattle.sorted.proofs.is_list.Goals as goal

@@ -1,20 +1,12 @@
 -- `keep_first` meets its contract. The invariant: the first k entries are done, and q is the last one kept (Keep.antt).
 -- The measure is the number of entries left.
 use mathlib.Core.Path.{sym, ◌∙◌}
-use mathlib.Core.Logic.{⊎_elim}
-use Prim.Native.Nat.{◌<◌, ◌-◌}
+use Prim.Native.Nat.{◌<◌}
 use native.Mathlib.Omega.{arith}
-use borrow.Author.Rules.{rules}
 use lib.ListN.{length}
-use Rattle.sorted.proofs.Keep.{Passed, pass_starts, pass_repeat, pass_new, passed_all}
+use Rattle.sorted.proofs.Keep.{pass_repeat, pass_new, passed_all}
 use Rattle.sorted.proofs.keep_first.Goals as goal
 use Rattle.sorted.proofs.keep_first.Goals.{then-is_near, else-is_near}
-
-pub loop-k-init : goal.loop-k-init
-loop-k-init c = pass_starts _ _ _ c.requires.0 c.requires.1
-
-pub copy_entry-requires : goal.copy_entry-requires
-copy_entry-requires c = (omega (arith, c.loop-k.invariant.ratios, c.loop-k-test.true, c.loop-k.invariant.last), omega (arith, c.loop-k.invariant.ratios, c.loop-k-test.true, c.loop-k.invariant.last), c.loop-k.invariant.ratios, c.loop-k.invariant.wraps)
 
 pub loop-k-preserved : goal.loop-k-preserved
 loop-k-preserved c =

@@ -1,7 +1,6 @@
 -- `earlier` meets its contract: the lower ratio first, and of equal ratios the lower place.
 -- No loop.
 use Rattle.sorting.specs.Heap.{comes, earlier_at}
-use borrow.Author.Rules.{rules}
 use Rattle.sorting.proofs.earlier.Goals as goal
 
 pub returns-then-a-b : goal.returns-then-a-b

@@ -1,11 +1,10 @@
 -- `heap_sort` meets its contract. First loop: the first n entries are a heap from s on. Second loop: what it has done, whatever the first one left.
 -- Both by one record, Work.antt; the measures are s and k.
-use mathlib.Core.Path.{◌≡◌, refl, sym, ◌∙◌}
-use Prim.Native.Nat.{◌≤◌, ◌<◌, ◌/◌}
+use mathlib.Core.Path.{◌≡◌, refl}
+use Prim.Native.Nat.{◌<◌}
 use native.Mathlib.Omega.{arith}
-use borrow.Author.Rules.{rules}
 use lib.ListN.{length}
-use Rattle.sorting.proofs.Work.{Sorting, Drains, sort_starts, sort_ends, sizes, one_sifted, one_taken}
+use Rattle.sorting.proofs.Work.{Sorting, sort_starts, sort_ends, one_sifted, one_taken}
 use Rattle.sorting.proofs.heap_sort.Goals as goal
 use Rattle.sorting.proofs.heap_sort.Goals.{After-loop-s, At-loop-k}
 
@@ -24,29 +23,8 @@ drained c =
 pub loop-s-init : goal.loop-s-init
 loop-s-init c = (refl, omega arith, sort_starts _ _ _ c.requires.0 c.requires.1 c.requires.2 _ _ refl (omega arith))
 
-pub sift_down-requires : goal.sift_down-requires
-sift_down-requires c =
-    let z = sizes c.loop-s.invariant.2 in
-    (omega (arith, c.loop-s.invariant.1, c.loop-s-test.true), omega (arith, z.0), z.1 ∙ sym z.0, z.2 ∙ sym z.0)
-
 pub loop-s-preserved : goal.loop-s-preserved
 loop-s-preserved c = (refl, omega (arith, c.loop-s.invariant.1), one_sifted c.requires.3 c.loop-s-test.true c.loop-s.invariant.2 c.sift_down.ensures)
-
-pub loop-k-init : goal.loop-k-init
-loop-k-init c = record { law = λ ps rs ws a w. w }
-
-pub swap_entries-requires : goal.swap_entries-requires
-swap_entries-requires c =
-    let w = drained (goal.at.swap_entries-requires c).At-loop-k in
-    let z = sizes w in
-    (omega (arith, w.work.end, c.loop-k-test.true), omega (arith, w.work.end, c.loop-k-test.true), z.1 ∙ sym z.0, z.2 ∙ sym z.0)
-
-pub sift_down-requires-in-loop-k : goal.sift_down-requires-in-loop-k
-sift_down-requires-in-loop-k c =
-    let more : 1 < c.loop-k.k = omega (arith, c.loop-k-test.true) in
-    let w = one_taken c.requires.3 more (drained (goal.at.sift_down-requires-in-loop-k c).At-loop-k) c.swap_entries.ensures in
-    let z = sizes w in
-    (omega (arith, more), w.work.end, z.1 ∙ sym z.0, z.2 ∙ sym z.0)
 
 pub loop-k-preserved : goal.loop-k-preserved
 loop-k-preserved c =
@@ -54,15 +32,6 @@ loop-k-preserved c =
     record {
       law = λ ps rs ws a w. one_sifted a (omega arith) (one_taken a more (c.loop-k.invariant.law ps rs ws a w) c.swap_entries.ensures) c.sift_down-in-loop-k.ensures;
     }
-
-pub shape_of-place : goal.shape_of-place
-shape_of-place c = let z = sizes (drained (goal.at.shape_of-place c).At-loop-k) in z.0
-
-pub shape_of-ratio : goal.shape_of-ratio
-shape_of-ratio c = let z = sizes (drained (goal.at.shape_of-ratio c).At-loop-k) in z.1 ∙ sym c.requires.0
-
-pub shape_of-wraps : goal.shape_of-wraps
-shape_of-wraps c = let z = sizes (drained (goal.at.shape_of-wraps c).At-loop-k) in z.2 ∙ sym c.requires.1
 
 pub returns : goal.returns
 returns c = sort_ends _ _ _ c.requires.0 c.requires.1 c.requires.2 (drained (goal.at.returns c).At-loop-k) (omega (arith, c.loop-k-test.false))

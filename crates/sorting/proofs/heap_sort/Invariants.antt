@@ -1,11 +1,9 @@
 -- `heap_sort` meets its contract. First loop: the first n entries are a heap from s on. Second loop: what it has done, whatever the first one left.
 -- Both by one record, Work.antt; the measures are s and k.
-use mathlib.Core.Path.{◌≡◌, refl, sym, ◌∙◌}
-use Prim.Native.Nat.{◌≤◌, ◌<◌, ◌/◌}
-use native.Mathlib.Omega.{arith}
-use borrow.Author.Rules.{rules}
+use mathlib.Core.Path.{◌≡◌}
+use Prim.Native.Nat.{◌≤◌, ◌/◌}
 use lib.ListN.{length}
-use Rattle.sorting.proofs.Work.{Sorting, Drains, sort_starts, sort_ends, sizes, one_sifted, one_taken}
+use Rattle.sorting.proofs.Work.{Sorting, Drains}
 use Rattle.sorting.proofs.heap_sort.Given as goal
 
 abbrev pub invariant-loop-s : goal.invariant-loop-s

@@ -2,7 +2,6 @@
 -- No loop.
 use borrow.Author.Tests.{lt-ltb, le-ltb}
 use Rattle.sorting.specs.Heap.{later_of}
-use borrow.Author.Rules.{rules}
 use Rattle.sorting.proofs.later.Goals as goal
 
 pub returns-then-earlier : goal.returns-then-earlier

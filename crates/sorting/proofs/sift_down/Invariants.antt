@@ -1,15 +1,10 @@
 -- `sift_down` meets its contract. The invariant: the heap holds but at i, and what is above i is not before what is below it (Sift.antt).
 -- The measure is how often i can go to a child: at most 17 for 65,536 entries (Turns.antt).
-use Rattle.sorting.proofs.Turns.{reach, reach_falls}
-use lib.Ieee.{nan}
-use lib.IntN.{pos}
-use Rattle.sorting.proofs.Theory.{top_below, top_child, length_swapped}
-use mathlib.Core.Path.{◌≡◌, refl, sym, ◌∙◌, ap}
+use Rattle.sorting.proofs.Turns.{reach}
+use mathlib.Core.Path.{◌≡◌}
 use Prim.Native.Nat.{◌<◌}
-use native.Mathlib.Omega.{arith}
-use borrow.Author.Rules.{rules}
 use lib.ListN.{length}
-use Rattle.sorting.proofs.Sift.{Sinks, sinks_start, sinks_turn, sinks_end}
+use Rattle.sorting.proofs.Sift.{Sinks}
 use Rattle.sorting.proofs.sift_down.Given as goal
 
 abbrev pub invariant-loop-i : goal.invariant-loop-i

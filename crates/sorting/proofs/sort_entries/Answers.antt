@@ -2,7 +2,6 @@
 -- No loop.
 use mathlib.Core.Path.{sym, ◌∙◌}
 use Rattle.sorting.proofs.InOrder.{already}
-use borrow.Author.Rules.{rules}
 use Rattle.sorting.proofs.sort_entries.Goals as goal
 
 pub returns-then-is_in_order : goal.returns-then-is_in_order

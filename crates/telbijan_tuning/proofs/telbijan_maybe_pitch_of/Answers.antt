@@ -6,4 +6,4 @@ use Rattle.telbijan_answers.proofs.Interface.{handed_on}
 use Rattle.telbijan_tuning.proofs.telbijan_maybe_pitch_of.Goals as goal
 
 pub returns : goal.returns
-returns c = handed_on says_pitch (λ s. kept s c.args.pitch.now) c.maybe_pitch_of.result (rw (c.mapping_with-kbm.ensures, to_z-of_z c.ranges.start, to_z-of_z c.ranges.end, to_z-of_z c.ranges.reference, to_z-of_z c.ranges.offset, to_z-of_z c.ranges.octave, to_z-of_z c.ranges.number) at c.maybe_pitch_of.ensures) c.store_pitch.ensures
+returns c = handed_on says_pitch (λ s. kept s c.args.pitch.now) c.maybe_pitch_of.result (rw (c.new-items.ensures, c.mapping_with-kbm.ensures, to_z-of_z c.ranges.start, to_z-of_z c.ranges.end, to_z-of_z c.ranges.reference, to_z-of_z c.ranges.offset, to_z-of_z c.ranges.octave, to_z-of_z c.ranges.number) at c.maybe_pitch_of.ensures) c.store_pitch.ensures

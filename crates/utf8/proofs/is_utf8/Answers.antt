@@ -11,31 +11,19 @@ use Rattle.utf8.proofs.is_utf8.Goals as goal
 pub loop-i-init : goal.loop-i-init
 loop-i-init c = (passed_end c.pass-i.ensures (omega arith), run_pass none_due refl c.pass-i.ensures)
 
-pub bounds-s-i : goal.bounds-s-i
-bounds-s-i c = omega arith
-
 pub returns-in_default : goal.returns-in_default
 returns-in_default c = sym (c.loop-i.invariant.1 ∙ run_turn _ _ _ c.loop-i-test.true c.advance.ensures c.in_default.is)
-
-pub overflow_add-i : goal.overflow_add-i
-overflow_add-i c = omega arith
-
-pub loop-i-smaller-then-st-eq0 : goal.loop-i-smaller-then-st-eq0
-loop-i-smaller-then-st-eq0 c = omega arith
 
 pub loop-i-preserved-then-st-eq0 : goal.loop-i-preserved-then-st-eq0
 loop-i-preserved-then-st-eq0 c = (
   passed_end c.pass-i-then-st-eq0.ensures (omega arith),
   c.loop-i.invariant.1
-      ∙ run_turn _ _ _ c.loop-i-test.true c.advance.ensures c.in-Go.is
-      ∙ run_pass c.in-Go.t c.if-st-eq0.true c.pass-i-then-st-eq0.ensures,
+      ∙ run_turn _ _ _ c.loop-i-test.true c.advance.ensures c.in-Some.is
+      ∙ run_pass c.in-Some.t c.if-st-eq0.true c.pass-i-then-st-eq0.ensures,
 )
 
-pub loop-i-smaller : goal.loop-i-smaller
-loop-i-smaller c = omega arith
-
 pub loop-i-preserved : goal.loop-i-preserved
-loop-i-preserved c = (omega arith, c.loop-i.invariant.1 ∙ run_turn _ _ _ c.loop-i-test.true c.advance.ensures c.in-Go.is)
+loop-i-preserved c = (omega arith, c.loop-i.invariant.1 ∙ run_turn _ _ _ c.loop-i-test.true c.advance.ensures c.in-Some.is)
 
 pub returns : goal.returns
 returns c = sym (c.loop-i.invariant.1 ∙ run_end _ _ _ c.loop-i-test.false)

@@ -1,20 +1,10 @@
 -- `trim_end` answers where the white space at the end starts.
 -- Invariant: what white space stands at the end is what stands behind `e`, and what stands before `e`.
-use mathlib.Core.Path.{◌≡◌}
-use mathlib.Core.List.{reverse}
-use Prim.Native.Nat.{◌+◌, ◌-◌, ◌≤◌}
 use native.Mathlib.Omega.{arith}
-use lib.ListN.{length, take}
-use Rattle.white.specs.Trim.{back, run}
-use Rattle.white.proofs.Runs.{behind_turn, behind_start, behind_stop, behind_end}
+use Rattle.white.specs.Trim.{back}
+use Rattle.white.proofs.Runs.{behind_turn, behind_stop}
 use Rattle.white.proofs.Widths.{back_fits}
 use Rattle.white.proofs.trim_end.Goals as goal
-
-pub loop-e-init : goal.loop-e-init
-loop-e-init c = (omega arith, behind_start back c.args.s.now)
-
-pub white_before-n-requires : goal.white_before-n-requires
-white_before-n-requires c = omega arith
 
 pub returns-then-n-eq0 : goal.returns-then-n-eq0
 returns-then-n-eq0 c = behind_stop back _ _ c.loop-e.invariant.0 c.loop-e.invariant.1 c.white_before-n.ensures c.if-n-eq0.true
@@ -22,11 +12,5 @@ returns-then-n-eq0 c = behind_stop back _ _ c.loop-e.invariant.0 c.loop-e.invari
 pub overflow_sub-e : goal.overflow_sub-e
 overflow_sub-e c = (behind_turn back back_fits _ _ c.loop-e.invariant.0 c.white_before-n.ensures c.if-n-eq0.false c.loop-e.invariant.1).0
 
-pub loop-e-smaller : goal.loop-e-smaller
-loop-e-smaller c = omega (arith, c.if-n-eq0.false, (behind_turn back back_fits _ _ c.loop-e.invariant.0 c.white_before-n.ensures c.if-n-eq0.false c.loop-e.invariant.1).0)
-
 pub loop-e-preserved : goal.loop-e-preserved
 loop-e-preserved c = (omega arith, (behind_turn back back_fits _ _ c.loop-e.invariant.0 c.white_before-n.ensures c.if-n-eq0.false c.loop-e.invariant.1).1)
-
-pub returns : goal.returns
-returns c = behind_end back c.args.s.now _ c.loop-e.invariant.0 c.loop-e.invariant.1 (omega arith)

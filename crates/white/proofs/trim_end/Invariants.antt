@@ -3,11 +3,8 @@
 use mathlib.Core.Path.{◌≡◌}
 use mathlib.Core.List.{reverse}
 use Prim.Native.Nat.{◌+◌, ◌-◌, ◌≤◌}
-use native.Mathlib.Omega.{arith}
 use lib.ListN.{length, take}
 use Rattle.white.specs.Trim.{back, run}
-use Rattle.white.proofs.Runs.{behind_turn, behind_start, behind_stop, behind_end}
-use Rattle.white.proofs.Widths.{back_fits}
 use Rattle.white.proofs.trim_end.Given as goal
 
 abbrev pub invariant-loop-e : goal.invariant-loop-e

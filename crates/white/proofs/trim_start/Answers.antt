@@ -1,28 +1,16 @@
 -- `trim_start` answers how many bytes of white space stand at the start.
 -- Invariant: that is `i` bytes and what stands from `i` on.
-use mathlib.Core.Path.{◌≡◌}
-use Prim.Native.Nat.{◌+◌, ◌-◌, ◌≤◌}
 use native.Mathlib.Omega.{arith}
-use lib.ListN.{length, drop}
-use Rattle.white.specs.Trim.{front, run}
+use Rattle.white.specs.Trim.{front}
 use Rattle.white.proofs.Runs.{ahead_turn, ahead_stop, ahead_end}
 use Rattle.white.proofs.Widths.{front_fits}
 use Rattle.white.proofs.trim_start.Goals as goal
-
-pub loop-i-init : goal.loop-i-init
-loop-i-init c = (omega arith, omega arith)
-
-pub white_at-n-requires : goal.white_at-n-requires
-white_at-n-requires c = omega arith
 
 pub returns-then-n-eq0 : goal.returns-then-n-eq0
 returns-then-n-eq0 c = ahead_stop front _ _ c.white_at-n.ensures c.if-n-eq0.true c.loop-i.invariant.1
 
 pub overflow_add-i : goal.overflow_add-i
 overflow_add-i c = omega (arith, (ahead_turn front front_fits _ _ c.loop-i.invariant.0 c.white_at-n.ensures c.if-n-eq0.false c.loop-i.invariant.1).0)
-
-pub loop-i-smaller : goal.loop-i-smaller
-loop-i-smaller c = omega (arith, c.if-n-eq0.false)
 
 pub loop-i-preserved : goal.loop-i-preserved
 loop-i-preserved c = ahead_turn front front_fits _ _ c.loop-i.invariant.0 c.white_at-n.ensures c.if-n-eq0.false c.loop-i.invariant.1

@@ -2,11 +2,8 @@
 -- Invariant: that is `i` bytes and what stands from `i` on.
 use mathlib.Core.Path.{◌≡◌}
 use Prim.Native.Nat.{◌+◌, ◌-◌, ◌≤◌}
-use native.Mathlib.Omega.{arith}
 use lib.ListN.{length, drop}
 use Rattle.white.specs.Trim.{front, run}
-use Rattle.white.proofs.Runs.{ahead_turn, ahead_stop, ahead_end}
-use Rattle.white.proofs.Widths.{front_fits}
 use Rattle.white.proofs.trim_start.Given as goal
 
 abbrev pub invariant-loop-i : goal.invariant-loop-i

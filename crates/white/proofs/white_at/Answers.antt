@@ -1,6 +1,5 @@
 -- `white_at` answers the width of the white character that stands from `i` on.
 -- No loop.
-use borrow.Author.Rules.{rules}
 use Rattle.white.specs.Trim.{white2, white3}
 use Rattle.white.proofs.Widths.{width_told}
 use Rattle.white.proofs.white_at.Goals as goal

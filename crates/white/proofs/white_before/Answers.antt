@@ -1,6 +1,5 @@
 -- `white_before` answers the width of the white character that stands before `e`, read from its end.
 -- No loop.
-use borrow.Author.Rules.{rules}
 use Rattle.white.specs.Trim.{back2, back3}
 use Rattle.white.proofs.Widths.{width_told}
 use Rattle.white.proofs.white_before.Goals as goal

@@ -5,11 +5,11 @@ use native.Mathlib.Omega.{arith}
 use borrow.Author.Rules.{rules}
 use Rattle.writing.specs.Lines.{place_reached}
 use Rattle.writing.proofs.end_text.Goals as goal
-use Rattle.writing.proofs.end_text.Goals.{In-At}
+use Rattle.writing.proofs.end_text.Goals.{In-Some}
 
 -- the place is the one that the match found
-found : (c : In-At) → place_reached c.args.reached ≡ c.in-At.next
-found c = ap place_reached c.in-At.is
+found : (c : In-Some) → place_reached c.args.reached ≡ c.in-Some.next
+found c = ap place_reached c.in-Some.is
 
 pub bounds-out-next : goal.bounds-out-next
 bounds-out-next c = omega (arith, found c, c.requires.1)

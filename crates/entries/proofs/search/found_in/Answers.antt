@@ -4,7 +4,6 @@ use mathlib.Core.Path.{◌∙◌, ap}
 use native.Mathlib.Omega.{arith}
 use Rattle.base.specs.Said.{gives}
 use Rattle.entries.proofs.Opened.{found_none, found_beyond, found_near}
-use borrow.Author.Rules.{rules}
 use Rattle.entries.proofs.search.found_in.Goals as goal
 
 pub returns-then-s-eq0 : goal.returns-then-s-eq0

@@ -1,6 +1,5 @@
 -- `is_next` meets its contract: in the range, not below the one before, within the count.
 -- Assumes nothing.
-use borrow.Author.Rules.{rules}
 use Rattle.sorted.specs.Lent.{may_follow}
 use Rattle.entries.proofs.search.is_next.Goals as goal
 

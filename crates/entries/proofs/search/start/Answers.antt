@@ -7,12 +7,10 @@ use lib.Dec.{ltb}
 use lib.IntN.{pos}
 use Rattle.floats.specs.Ranges.{in_search}
 use Rattle.sorting.proofs.Order.{clash}
-use Rattle.scl.specs.Table.{ItemTable, is_items, item_table}
+use Rattle.scl.specs.Table.{is_items, item_table}
 use Rattle.scl.proofs.Table.{both}
 use Rattle.searching.proofs.Within.{search_reach}
-use Rattle.entries.specs.declared.search.Aim.{Aim}
 use Rattle.entries.proofs.Opened.{starts}
-use borrow.Author.Rules.{rules}
 use Rattle.entries.proofs.search.start.Goals as goal
 
 pub returns-then-count-eq0 : goal.returns-then-count-eq0
@@ -21,8 +19,8 @@ returns-then-count-eq0 c = starts true (record { beyond = false; periods = pos 0
 pub aim_of-requires : goal.aim_of-requires
 aim_of-requires c =
     let t = sym c.is_aimable.ensures ∙ c.if-is_aimable.true in
-    let h = both (is_items c.args.scl.count (item_table c.args.kind.now c.args.cents.now c.args.numer.now c.args.denom.now) && in_search c.args.target.0) (ltb c.args.scl.count c.args.places) t in
-    let k = both (is_items c.args.scl.count (item_table c.args.kind.now c.args.cents.now c.args.numer.now c.args.denom.now)) (in_search c.args.target.0) h.0 in
+    let h = both (is_items c.args.scl.count c.args.items.now && in_search c.args.target.0) (ltb c.args.scl.count c.args.places) t in
+    let k = both (is_items c.args.scl.count c.args.items.now) (in_search c.args.target.0) h.0 in
     (k.0, (omega (arith, c.if-count-eq0.false)), search_reach c.args.target.0 k.1)
 
 pub returns-then-is_aimable : goal.returns-then-is_aimable

@@ -3,7 +3,6 @@
 use mathlib.Core.Path.{◌∙◌, sym}
 use mathlib.Core.Bool.{true, false}
 use Rattle.entries.proofs.Opened.{step_is}
-use borrow.Author.Rules.{rules}
 use Rattle.entries.proofs.search.step.Goals as goal
 
 pub returns-then-goes_up : goal.returns-then-goes_up

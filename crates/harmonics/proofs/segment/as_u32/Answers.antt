@@ -1,6 +1,6 @@
 -- `as_u32` meets its contract: the machine's conversion below 2^32, the ends elsewhere.
 -- Assumes nothing.
-use Rattle.std.proofs.Common.{◌≡◌, ◌^◌, ◌<◌, sym, ◌∙◌, arith}
+use Rattle.std.proofs.Common.{◌≡◌, ◌∙◌, arith}
 use lib.Ieee.{of_bits, to_unsigned}
 use lib.Ieee.Casts.{to_unsigned-lt}
 use Rattle.floats.proofs.Order.{is_positive}

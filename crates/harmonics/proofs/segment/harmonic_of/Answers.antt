@@ -1,7 +1,7 @@
 -- `harmonic_of` meets its contract: the candidates, their quotients, the cast of the nearer one.
 -- Assumes nothing.
-use Rattle.std.proofs.Common.{◌≡◌, sym, ap, ◌∙◌, rules}
-use lib.Ieee.{Float, binary64, div, lt, neg, to_unsigned}
+use Rattle.std.proofs.Common.{ap}
+use lib.Ieee.{neg}
 use Rattle.harmonics.proofs.Fractions.{harmonic_low, harmonic_high}
 use Rattle.harmonics.proofs.segment.harmonic_of.Goals as goal
 

@@ -15,9 +15,6 @@ use Rattle.pitch.proofs.Ratio.from_octaves.Goals as goal
 in_range : (x r : Float) → fits binary64 x ≡ true → gives r ≡ E x → gives r ≡ and_then (E x) computed
 in_range x r f e = let inside = exp_reach x r f (sym e) in rw inside at (ap (λ s. and_then s computed) e)
 
-pub power-requires : goal.power-requires
-power-requires c = sym c.is_in_powers.ensures ∙ c.if-is_in_powers.true
-
 pub returns-then-is_in_powers : goal.returns-then-is_in_powers
 returns-then-is_in_powers c = in_range _ _ (search rules) c.power.ensures
 

@@ -9,7 +9,6 @@ use Rattle.pitch.specs.Given.{computed}
 use Rattle.scl.specs.Items.{ratio_of}
 use Rattle.scl.specs.declared.Item.TheVariants.{Cents, Fraction}
 use Rattle.scl.proofs.Theorems.{usable_ratio}
-use borrow.Author.Rules.{rules}
 use Rattle.scl.proofs.Item.ratio.Goals as goal
 
 pub returns-in-Cents : goal.returns-in-Cents

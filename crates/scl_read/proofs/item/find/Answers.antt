@@ -1,27 +1,17 @@
 -- `find` answers the first place of a byte. The invariant: so far it did not stand there.
-use Prim.Native.Nat.{◌≤◌, ◌-◌}
+use mathlib.Core.Path.{◌≡◌}
 use native.Mathlib.Omega.{arith}
 use lib.ListN.{length}
-use Rattle.scl_read.proofs.Finds.{Along, find_here, find_on, find_none}
+use Rattle.scl_read.proofs.Finds.{find_here, find_on, find_none}
 use Rattle.scl_read.proofs.item.find.Goals as goal
 
-pub loop-i-init : goal.loop-i-init
-loop-i-init c = (omega arith, omega arith)
-
-pub bounds-s-i : goal.bounds-s-i
-bounds-s-i c = c.loop-i-test.true
-
-pub returns-then-s-i : goal.returns-then-s-i
-returns-then-s-i c = find_here _ _ _ c.loop-i.invariant.1 c.loop-i-test.true c.if-s-i.true
-
-pub overflow_add-i : goal.overflow_add-i
-overflow_add-i c = omega (arith, c.loop-i-test.true, c.well_formed)
-
-pub loop-i-smaller : goal.loop-i-smaller
-loop-i-smaller c = omega (arith, c.loop-i-test.true)
+pub returns-then-b-byte : goal.returns-then-b-byte
+returns-then-b-byte c = find_here _ _ _ c.loop-i.invariant c.loop-i-test.true c.if-b-byte.true
 
 pub loop-i-preserved : goal.loop-i-preserved
-loop-i-preserved c = (omega (arith, c.loop-i-test.true), find_on _ _ _ c.loop-i.invariant.1 c.loop-i-test.true c.if-s-i.false)
+loop-i-preserved c = find_on _ _ _ c.loop-i.invariant c.loop-i-test.true c.if-b-byte.false
 
 pub returns : goal.returns
-returns c = find_none _ _ _ c.loop-i.invariant.1 c.loop-i-test.false
+returns c =
+    let e : c.loop-i.i ≡ length c.args.s.now = omega (arith, c.loop-i.auto.i-end, c.loop-i-test.false) in
+    rw (← e) (find_none _ _ _ c.loop-i.invariant c.loop-i-test.false)

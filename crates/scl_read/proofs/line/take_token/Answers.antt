@@ -1,5 +1,4 @@
 -- `take_token` meets its contract: any description, the number of notes, or an item. No loop.
-use borrow.Author.Rules.{rules}
 use mathlib.Core.Path.{◌∙◌}
 use Rattle.scl_read.proofs.Takes.{due_step}
 use Rattle.scl_read.proofs.line.take_token.Goals as goal

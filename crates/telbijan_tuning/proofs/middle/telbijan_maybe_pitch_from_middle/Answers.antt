@@ -9,6 +9,7 @@ pub returns : goal.returns
 returns c =
     let told =
     rw (
+      c.new-items.ensures,
       c.mapping_with-kbm.ensures,
       to_z-of_z c.ranges.start,
       to_z-of_z c.ranges.end,

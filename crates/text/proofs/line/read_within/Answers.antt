@@ -1,7 +1,6 @@
 -- `read_within` answers what a line says: not UTF-8, or what its rest says after the white space at its start.
 -- No loop.
 use native.Mathlib.Omega.{arith}
-use borrow.Author.Rules.{rules}
 use Rattle.text.specs.Part.{part}
 use Rattle.text.specs.ReadLine.{strictly}
 use Rattle.text.proofs.LineReads.{ahead_le, part_length, rest_within, line_empty, line_not, line_is}
@@ -23,10 +22,10 @@ overflow_add-start c = omega (arith, c.requires, ahead_le strictly _ c.trim_star
 pub read_rest-requires : goal.read_rest-requires
 read_rest-requires c = omega (arith, rest_within c.args.text.now c.args.start c.args.end c.trim_start-n.result (omega arith) c.requires (ahead_le strictly _ c.trim_start-n.ensures))
 
-pub returns-then-is_utf8 : goal.returns-then-is_utf8
-returns-then-is_utf8 c =
-    line_is strictly c.args.start (part c.args.text.now c.args.start c.args.end) c.is_utf8.ensures c.if-is_utf8.true
+pub returns : goal.returns
+returns c =
+    line_is strictly c.args.start (part c.args.text.now c.args.start c.args.end) c.is_utf8.ensures c.if-not-is_utf8.false
     c.trim_start-n.ensures c.read_rest.ensures
 
-pub returns : goal.returns
-returns c = line_not strictly c.args.start (part c.args.text.now c.args.start c.args.end) c.is_utf8.ensures c.if-is_utf8.false
+pub returns-then-not-is_utf8 : goal.returns-then-not-is_utf8
+returns-then-not-is_utf8 c = line_not strictly c.args.start (part c.args.text.now c.args.start c.args.end) c.is_utf8.ensures c.if-not-is_utf8.true

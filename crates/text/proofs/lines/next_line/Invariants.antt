@@ -1,13 +1,9 @@
 -- `next_line` answers where the line from `at` on ends, and where the next one starts.
 -- Invariant: the cut of the text from `at` on is that of the rest from `i` on.
-use mathlib.Core.Path.{◌≡◌, sym, ◌∙◌}
-use mathlib.Core.Logic.{⊎_elim}
+use mathlib.Core.Path.{◌≡◌}
 use Prim.Native.Nat.{◌≤◌, ◌-◌}
-use native.Mathlib.Omega.{arith}
-use borrow.Author.Rules.{rules}
 use lib.ListN.{length, drop}
 use Rattle.text.specs.Cut.{cut}
-use Rattle.text.proofs.Cuts.{cut_pass, cut_lf, cut_crlf, cut_on, cut_end, no_cr, cr_last, cr_alone}
 use Rattle.text.proofs.lines.next_line.Given as goal
 
 abbrev pub invariant-loop-i : goal.invariant-loop-i

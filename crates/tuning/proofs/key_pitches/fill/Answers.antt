@@ -24,7 +24,7 @@ store-requires c = (
     arith,
     c.requires.2,
     c.loop-k-test.true,
-    (ap length c.loop-k.invariant.1 ∙ sounded_to_length (let table = item_table c.args.kind.now c.args.cents.now c.args.numer.now c.args.denom.now in
+    (ap length c.loop-k.invariant.1 ∙ sounded_to_length (let table = item_table c.args.items.now.kinds c.args.items.now.cents c.args.items.now.numers c.args.items.now.denoms in
         let items = items_in c.args.count table in
         step_said items (counted c.args.counting c.args.kbm) c.args.map.now (says_pitch c.args.root) c.args.first) c.loop-k.k c.args.hz.now),
   ),
@@ -32,7 +32,7 @@ store-requires c = (
     arith,
     c.requires.3,
     c.loop-k-test.true,
-    (ap length c.loop-k.invariant.2 ∙ numbers_to_length (let table = item_table c.args.kind.now c.args.cents.now c.args.numer.now c.args.denom.now in
+    (ap length c.loop-k.invariant.2 ∙ numbers_to_length (let table = item_table c.args.items.now.kinds c.args.items.now.cents c.args.items.now.numers c.args.items.now.denoms in
         let items = items_in c.args.count table in
         step_said items (counted c.args.counting c.args.kbm) c.args.map.now (says_pitch c.args.root) c.args.first) c.loop-k.k c.args.numbers.now),
   ),
@@ -41,23 +41,23 @@ store-requires c = (
 pub loop-k-preserved : goal.loop-k-preserved
 loop-k-preserved c = (
   omega (arith, c.loop-k-test.true),
-  hz_turn (let table = item_table c.args.kind.now c.args.cents.now c.args.numer.now c.args.denom.now in
+  hz_turn (let table = item_table c.args.items.now.kinds c.args.items.now.cents c.args.items.now.numers c.args.items.now.denoms in
       let items = items_in c.args.count table in
       step_said items (counted c.args.counting c.args.kbm) c.args.map.now (says_pitch c.args.root) c.args.first) c.loop-k.k c.run_pitch-answer.ensures c.args.hz.now c.loop-k.invariant.1 c.store.ensures.0,
-  numbers_turn (let table = item_table c.args.kind.now c.args.cents.now c.args.numer.now c.args.denom.now in
+  numbers_turn (let table = item_table c.args.items.now.kinds c.args.items.now.cents c.args.items.now.numers c.args.items.now.denoms in
       let items = items_in c.args.count table in
       step_said items (counted c.args.counting c.args.kbm) c.args.map.now (says_pitch c.args.root) c.args.first) c.loop-k.k c.run_pitch-answer.ensures c.args.numbers.now c.loop-k.invariant.2 c.store.ensures.1,
 )
 
 pub shape_of-hz : goal.shape_of-hz
 shape_of-hz c =
-    rw c.loop-k.invariant.1 (sounded_to_length (let table = item_table c.args.kind.now c.args.cents.now c.args.numer.now c.args.denom.now in
+    rw c.loop-k.invariant.1 (sounded_to_length (let table = item_table c.args.items.now.kinds c.args.items.now.cents c.args.items.now.numers c.args.items.now.denoms in
     let items = items_in c.args.count table in
     step_said items (counted c.args.counting c.args.kbm) c.args.map.now (says_pitch c.args.root) c.args.first) c.loop-k.k c.args.hz.now)
 
 pub shape_of-numbers : goal.shape_of-numbers
 shape_of-numbers c =
-    rw c.loop-k.invariant.2 (numbers_to_length (let table = item_table c.args.kind.now c.args.cents.now c.args.numer.now c.args.denom.now in
+    rw c.loop-k.invariant.2 (numbers_to_length (let table = item_table c.args.items.now.kinds c.args.items.now.cents c.args.items.now.numers c.args.items.now.denoms in
     let items = items_in c.args.count table in
     step_said items (counted c.args.counting c.args.kbm) c.args.map.now (says_pitch c.args.root) c.args.first) c.loop-k.k c.args.numbers.now)
 

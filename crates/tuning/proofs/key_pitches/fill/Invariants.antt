@@ -1,7 +1,7 @@
 -- `fill` meets its contract: each key in its turn. The invariant: the keys before k have answered.
 -- Assumes nothing.
 use mathlib.Core.Path.{◌≡◌}
-use Prim.Native.Nat.{◌≤◌, ◌-◌}
+use Prim.Native.Nat.{◌≤◌}
 use Rattle.kbm.specs.Middle.{counted}
 use Rattle.scl.specs.Table.{item_table, items_in}
 use Rattle.pitch.specs.Answers.{says_pitch}
@@ -10,8 +10,5 @@ use Rattle.tuning.proofs.key_pitches.fill.Given as goal
 
 abbrev pub invariant-loop-k : goal.invariant-loop-k
 invariant-loop-k l =
-    let says = step_said (items_in l.count (item_table l.kind l.cents l.numer l.denom)) (counted l.counting l.kbm) l.map (says_pitch l.root) l.first in
+    let says = step_said (items_in l.count l.items) (counted l.counting l.kbm) l.map (says_pitch l.root) l.first in
     (l.k ≤ l.keys) × (l.hz ≡ sounded_to says l.k l.initial.hz) × (l.numbers ≡ numbers_to says l.k l.initial.numbers)
-
-abbrev pub decreases-loop-k : goal.decreases-loop-k
-decreases-loop-k l = l.keys - l.k

@@ -15,15 +15,15 @@ use Rattle.tuning.proofs.key_pitches.tested_run.Goals as goal
 use Rattle.tuning.proofs.key_pitches.tested_run.Goals.{Then-is_tuning}
 
 -- all tables can be used
-tuned : (c : Then-is_tuning) → is_tuning c.args.count (item_table c.args.kind.now c.args.cents.now c.args.numer.now c.args.denom.now) c.args.kbm c.args.map.now ≡ true
+tuned : (c : Then-is_tuning) → is_tuning c.args.count c.args.items.now c.args.kbm c.args.map.now ≡ true
 tuned c = sym c.is_tuning.ensures ∙ c.if-is_tuning.true
 
-parts : (c : Then-is_tuning) → (is_items c.args.count (item_table c.args.kind.now c.args.cents.now c.args.numer.now c.args.denom.now) ≡ true)
+parts : (c : Then-is_tuning) → (is_items c.args.count c.args.items.now ≡ true)
     × (is_table c.args.kbm.count c.args.map.now ≡ true)
 parts c =
-    let tuned : is_tuning c.args.count (item_table c.args.kind.now c.args.cents.now c.args.numer.now c.args.denom.now) c.args.kbm c.args.map.now ≡ true = sym c.is_tuning.ensures ∙ c.if-is_tuning.true in
+    let tuned : is_tuning c.args.count c.args.items.now c.args.kbm c.args.map.now ≡ true = sym c.is_tuning.ensures ∙ c.if-is_tuning.true in
     let table-in = is_table c.args.kbm.count c.args.map.now in
-    let two = both (is_items c.args.count (item_table c.args.kind.now c.args.cents.now c.args.numer.now c.args.denom.now)) (is_root c.args.kbm.root && table-in) tuned in
+    let two = both (is_items c.args.count c.args.items.now) (is_root c.args.kbm.root && table-in) tuned in
     (two.0, (both (is_root c.args.kbm.root) table-in two.1).1)
 
 pub root_of-root-requires : goal.root_of-root-requires
@@ -34,20 +34,20 @@ fill-requires c = ((parts (goal.at.fill-requires c).Then-is_tuning).0, (parts (g
 
 pub returns-then-keys-numbers : goal.returns-then-keys-numbers
 returns-then-keys-numbers c =
-    let done = run_done c.args.count (item_table c.args.kind.now c.args.cents.now c.args.numer.now c.args.denom.now) c.args.kbm c.args.map.now c.args.keys (length c.args.hz.now) (length c.args.numbers.now)
+    let done = run_done c.args.count c.args.items.now c.args.kbm c.args.map.now c.args.keys (length c.args.hz.now) (length c.args.numbers.now)
     (tuned (goal.at.returns-then-keys-numbers c).Then-is_tuning) c.if-keys-hz.true c.if-keys-numbers.true in
-    let same = keys_same c.args.counting (items_in c.args.count (item_table c.args.kind.now c.args.cents.now c.args.numer.now c.args.denom.now)) c.args.kbm c.args.map.now c.args.first c.root_of-root.ensures in
+    let same = keys_same c.args.counting (items_in c.args.count c.args.items.now) c.args.kbm c.args.map.now c.args.first c.root_of-root.ensures in
     let kbm = counted c.args.counting c.args.kbm in
-    let step = step_said (items_in c.args.count (item_table c.args.kind.now c.args.cents.now c.args.numer.now c.args.denom.now)) kbm c.args.map.now (says_pitch c.root_of-root.result) c.args.first in
+    let step = step_said (items_in c.args.count c.args.items.now) kbm c.args.map.now (says_pitch c.root_of-root.result) c.args.first in
     record {
       value = sym done;
-      hz_after = rw done (c.fill.ensures.0 ∙ sounded_same step (counted_pitches c.args.counting (items_in c.args.count (item_table c.args.kind.now c.args.cents.now c.args.numer.now c.args.denom.now)) c.args.kbm c.args.map.now c.args.first) same c.args.keys c.args.hz.now);
-      numbers_after = rw done (c.fill.ensures.1 ∙ numbers_same step (counted_pitches c.args.counting (items_in c.args.count (item_table c.args.kind.now c.args.cents.now c.args.numer.now c.args.denom.now)) c.args.kbm c.args.map.now c.args.first) same c.args.keys c.args.numbers.now);
+      hz_after = rw done (c.fill.ensures.0 ∙ sounded_same step (counted_pitches c.args.counting (items_in c.args.count c.args.items.now) c.args.kbm c.args.map.now c.args.first) same c.args.keys c.args.hz.now);
+      numbers_after = rw done (c.fill.ensures.1 ∙ numbers_same step (counted_pitches c.args.counting (items_in c.args.count c.args.items.now) c.args.kbm c.args.map.now c.args.first) same c.args.keys c.args.numbers.now);
     }
 
 pub returns-else-keys-numbers : goal.returns-else-keys-numbers
 returns-else-keys-numbers c =
-    let e = numbers_short c.args.count (item_table c.args.kind.now c.args.cents.now c.args.numer.now c.args.denom.now) c.args.kbm c.args.map.now c.args.keys (length c.args.hz.now) (length c.args.numbers.now)
+    let e = numbers_short c.args.count c.args.items.now c.args.kbm c.args.map.now c.args.keys (length c.args.hz.now) (length c.args.numbers.now)
     (tuned (goal.at.returns-else-keys-numbers c).Then-is_tuning) c.if-keys-hz.true c.if-keys-numbers.false in
     record {
       value = sym e;
@@ -57,7 +57,7 @@ returns-else-keys-numbers c =
 
 pub returns-else-keys-hz : goal.returns-else-keys-hz
 returns-else-keys-hz c =
-    let e = run_short c.args.count (item_table c.args.kind.now c.args.cents.now c.args.numer.now c.args.denom.now) c.args.kbm c.args.map.now c.args.keys (length c.args.hz.now) (length c.args.numbers.now)
+    let e = run_short c.args.count c.args.items.now c.args.kbm c.args.map.now c.args.keys (length c.args.hz.now) (length c.args.numbers.now)
     (tuned (goal.at.returns-else-keys-hz c).Then-is_tuning) c.if-keys-hz.false in
     record {
       value = sym e;
@@ -67,7 +67,7 @@ returns-else-keys-hz c =
 
 pub returns : goal.returns
 returns c =
-    let e = run_unusable c.args.count (item_table c.args.kind.now c.args.cents.now c.args.numer.now c.args.denom.now) c.args.kbm c.args.map.now c.args.keys (length c.args.hz.now) (length c.args.numbers.now)
+    let e = run_unusable c.args.count c.args.items.now c.args.kbm c.args.map.now c.args.keys (length c.args.hz.now) (length c.args.numbers.now)
     (sym c.is_tuning.ensures ∙ c.if-is_tuning.false) in
     record {
       value = sym e;

@@ -1,8 +1,0 @@
--- `after_rows` is safe and ends: each turn takes a row. Assumes nothing.
-use Rattle.frozen.proofs.after_rows.Goals as goal
-
-pub loop-k-init : goal.loop-k-init
-loop-k-init c = tt
-
-pub loop-k-preserved : goal.loop-k-preserved
-loop-k-preserved c = tt

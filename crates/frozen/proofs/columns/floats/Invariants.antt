@@ -1,9 +1,0 @@
--- `floats` is safe and ends: each turn takes a place. Assumes nothing.
-use Rattle.std.proofs.Common.{◌-◌}
-use Rattle.frozen.proofs.columns.floats.Given as goal
-
-abbrev pub invariant-loop-k : goal.invariant-loop-k
-invariant-loop-k l = Unit {0}
-
-abbrev pub decreases-loop-k : goal.decreases-loop-k
-decreases-loop-k l = 16 - l.k

@@ -1,8 +1,0 @@
--- `bits_of` is safe and ends: each turn takes a digit. Assumes nothing.
-use Rattle.frozen.proofs.given.bits_of.Goals as goal
-
-pub loop-k-init : goal.loop-k-init
-loop-k-init c = tt
-
-pub loop-k-preserved : goal.loop-k-preserved
-loop-k-preserved c = tt

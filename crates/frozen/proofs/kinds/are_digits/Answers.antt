@@ -1,8 +1,0 @@
--- `are_digits` is safe and ends: each turn takes a digit. Assumes nothing.
-use Rattle.frozen.proofs.kinds.are_digits.Goals as goal
-
-pub loop-k-init : goal.loop-k-init
-loop-k-init c = tt
-
-pub loop-k-preserved : goal.loop-k-preserved
-loop-k-preserved c = tt

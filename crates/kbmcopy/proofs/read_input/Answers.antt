@@ -1,8 +1,0 @@
--- Each read adds to what the reader gave.
-use Rattle.std.proofs.Common.{rules}
-use Rattle.kbmcopy.proofs.Consumed.{read_more}
-use Rattle.kbmcopy.proofs.read_input.Goals as goal
-
-pub loop-n-preserved : goal.loop-n-preserved
-loop-n-preserved g c =
-    (search rules, read_more _ _ _ _ _ _ _ _ c.loop-n.invariant.0 c.in-Ok.ensures.bound.0 c.loop-n.invariant.1 c.in-Ok.ensures.bytes.0)

@@ -1,8 +1,0 @@
--- `telbijan_find_by_pitch_sorted` meets its contract: what `find_by_pitch_sorted` answers, stored or coded. Assumes nothing.
-use mir.Facts.{to_z-of_z}
-use Rattle.searching.specs.DegreeAnswers.{says_degree_search}
-use Rattle.telbijan_tuning.proofs.Handed.{handed-both}
-use Rattle.telbijan_tuning.proofs.searches.telbijan_find_by_pitch_sorted.Goals as goal
-
-pub returns : goal.returns
-returns c = handed-both says_degree_search c.find_by_pitch_sorted.result c.args.degree.now c.args.deviation.now (rw (c.root_with-root.ensures, to_z-of_z c.ranges.reference, to_z-of_z c.ranges.offset) at c.find_by_pitch_sorted.ensures) c.store_degree.ensures

@@ -1,9 +1,0 @@
--- `telbijan_maybe_pitch_of_degree` meets its contract: what `maybe_pitch_of_degree` answers, stored or coded. Assumes nothing.
-use mir.Facts.{to_z-of_z}
-use Rattle.pitch.specs.Answers.{says_pitch}
-use Rattle.telbijan_answers.specs.Interface.{kept}
-use Rattle.telbijan_answers.proofs.Interface.{handed_on}
-use Rattle.telbijan_tuning.proofs.telbijan_maybe_pitch_of_degree.Goals as goal
-
-pub returns : goal.returns
-returns c = handed_on says_pitch (λ s. kept s c.args.pitch.now) c.maybe_pitch_of_degree.result (rw (c.mapping_with-kbm.ensures, to_z-of_z c.ranges.start, to_z-of_z c.ranges.end, to_z-of_z c.ranges.reference, to_z-of_z c.ranges.offset, to_z-of_z c.ranges.octave, to_z-of_z c.ranges.degree) at c.maybe_pitch_of_degree.ensures) c.store_pitch.ensures
