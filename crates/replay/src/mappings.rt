@@ -57,7 +57,7 @@ pub fn say_mapping<W: Write>(sink: &mut W, kbm: Kbm) -> io::Result<()> {
     say::int(sink, kbm.start.0)?;
     say::int(sink, kbm.end.0)?;
     say_root(sink, kbm.root)?;
-    say::int(sink, i32::from(kbm.octave))
+    say::short(sink, kbm.octave)
 }
 
 // `degree KEY MAPPING TABLE`, and `middle_degree`, counted from the middle key: the degree, or a refusal.

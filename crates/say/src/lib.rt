@@ -79,6 +79,13 @@ pub fn int<W: Write>(out: &mut W, z: i32) -> io::Result<()>
     write!(out, " {z}")
 }
 
+// A short integer.
+pub fn short<W: Write>(out: &mut W, z: i16) -> io::Result<()>
+    ensures { OnOk result (Appends (W.contents out.old) (W.contents out.new) (int_field z)) }
+{
+    int(out, i32::from(z))
+}
+
 // A float: 16 hex digits of its bits, or `nan`.
 pub fn float<W: Write>(out: &mut W, x: f64) -> io::Result<()>
     ensures { OnOk result (Appends (W.contents out.old) (W.contents out.new) (float_field x)) }
