@@ -98,13 +98,19 @@ pub fn float<W: Write>(out: &mut W, x: f64) -> io::Result<()>
     }
 }
 
+// A refusal by any number: the number after `!`, and the detail.
+pub fn refused<W: Write>(out: &mut W, number: u32, detail: usize) -> io::Result<()>
+    ensures { OnOk result (Appends (W.contents out.old) (W.contents out.new) (refusal_field number detail)) }
+{
+    write!(out, " !{number}")?;
+    size(out, detail)
+}
+
 // A refusal: its number after `!`, and its detail.
 pub fn refusal<W: Write>(out: &mut W, refusal: Refusal) -> io::Result<()>
     ensures { OnOk result (Appends (W.contents out.old) (W.contents out.new) (refusal_field (number_of refusal.reason) refusal.detail)) }
 {
-    let number = refusal.reason.number();
-    write!(out, " !{number}")?;
-    size(out, refusal.detail)
+    refused(out, refusal.reason.number(), refusal.detail)
 }
 
 // What was answered: a value, as `value` writes it, or the refusal.
