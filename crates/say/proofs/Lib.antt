@@ -1,2 +1,4 @@
+mod Answered
 mod Consumed
 mod Placed
+pub mod Theorems

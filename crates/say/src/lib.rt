@@ -7,6 +7,8 @@ ghost use Rattle.std.specs.Prelude.{◌≡◌, ◌∷◌, [], ◌≤◌, pos, �
 ghost use Rattle.std.specs.Io.KnownBytes.{Appends, Consumes, IsAtEnd};
 ghost use lib.Ieee.{nan};
 ghost use Rattle.base.specs.Numbers.{number_of};
+ghost use Rattle.text.specs.Cut.{lines};
+ghost use Rattle.say.specs.Called.{CalledOnce, AnswersLines};
 ghost use Rattle.say.specs.Said.{name_text, word_field, natural_field, int_field, refusal_field, float_field, two_digits, bytes_field, table_field, lent_item, item_fields, lent_entry, entry_fields, place_fields, places_fields};
 
 use base::Refusal;
@@ -120,7 +122,8 @@ pub fn answer<W: Write, T, F: FnOnce(&mut W, T) -> io::Result<()>>(
     value: F,
 ) -> io::Result<()>
     requires { F.IsAlwaysCallable value }
-    ensures { IfErr answer (λ r. OnOk result
+    ensures value { IfOk answer (λ x. CalledOnce F.FnOnce value out.old x result out.new) }
+    ensures refusal { IfErr answer (λ r. OnOk result
         (Appends (W.contents out.old) (W.contents out.new) (refusal_field (number_of r.reason) r.detail))) }
 {
     match answer {
@@ -136,6 +139,7 @@ pub fn answers<W: Write, F: FnMut(&mut W, &[u8]) -> io::Result<()>>(
     mut answer: F,
 ) -> io::Result<()>
     requires { F.IsAlwaysCallable answer }
+    ensures { OnOk result (AnswersLines F.FnMut W.contents answer out.old (lines list.now) out.new) }
 {
     let mut at = 0;
     // A line has as many bytes as it has, so that the steps vary.
