@@ -24,7 +24,8 @@ pub enum LineSays {
 fn is_split(b: u8) -> bool
     ensures { result ≡ splits b }
 {
-    matches!(b, b' ' | b'\t' | b'\n' | 12 | b'\r')
+    // These become the test of a bit, where a `matches!` becomes a comparison for each case.
+    b == b' ' || b == b'\t' || b == b'\n' || b == 12 || b == b'\r'
 }
 
 // How long the token is that `s` starts with.
