@@ -16,11 +16,11 @@ pub fn first(bytes: &[u8], n: usize) -> &[u8] {
 // Reads a file of at most 65,536 bytes into as many and one more, and how many it has; or what is wrong with it: its name is not UTF-8, or
 // it cannot be opened or read, or is longer.
 fn read<R: Files>(rt: &R, name: &[u8], bytes: &mut [u8]) -> Result<usize, &'static str> {
-    let path = str::from_utf8(name).map_err(|_| "cannot be opened")?;
-    let mut file = fs::open(rt, path).map_err(|_| "cannot be opened")?;
-    let n = say::read_all(&mut file, bytes).map_err(|_| "cannot be read")?;
+    let path = str::from_utf8(name).map_err(|_| ": cannot be opened\n")?;
+    let mut file = fs::open(rt, path).map_err(|_| ": cannot be opened\n")?;
+    let n = say::read_all(&mut file, bytes).map_err(|_| ": cannot be read\n")?;
     if n == bytes.len() {
-        return Err("longer than 65536 bytes");
+        return Err(": longer than 65536 bytes\n");
     }
     Ok(n)
 }
@@ -36,7 +36,7 @@ pub fn read_file<R: Files, E: Write>(
         Ok(n) => Some(n),
         Err(what) => {
             let _ = err.write_all(name);
-            let _ = write!(err, ": {what}\n");
+            let _ = err.write_all(what.as_bytes());
             None
         }
     }

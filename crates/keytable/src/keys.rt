@@ -59,7 +59,7 @@ fn degree_of(counting: Counting, kbm: Kbm, map: &[i32], key: PianoKey) -> Result
 fn print_key<W: Write>(
     out: &mut W,
     counting: Counting,
-    mapping: &Mapping,
+    mapping: &Mapping<'_>,
     key: PianoKey,
     hz: f64,
     number: u32,
@@ -70,7 +70,7 @@ fn print_key<W: Write>(
         return print_reason(out, number);
     }
     let kbm = mapping.kbm;
-    let Ok(degree) = degree_of(counting, kbm, &mapping.map, key) else {
+    let Ok(degree) = degree_of(counting, kbm, mapping.map, key) else {
         return out.write_all(b"unmapped\n");
     };
     let z = degree.0;
@@ -93,7 +93,7 @@ fn print_left<W: Write>(out: &mut W, first: PianoKey, end: PianoKey) -> io::Resu
 pub fn print_keys<W: Write>(
     out: &mut W,
     counting: Counting,
-    mapping: &Mapping,
+    mapping: &Mapping<'_>,
     sounds: &Sounds,
 ) -> io::Result<()> {
     let end = mapping.kbm.end;

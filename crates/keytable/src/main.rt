@@ -22,14 +22,15 @@ const NAME: usize = 131072;
 fn print_table<W: Write>(
     out: &mut W,
     counting: Counting,
-    mapping: &tables::Mapping,
+    mapping: &tables::Mapping<'_>,
     sounds: &tables::Sounds,
 ) -> io::Result<()> {
-    let from = match counting {
-        Counting::Reference => "reference",
-        Counting::Middle => "middle",
-    };
-    write!(out, "key degree Hz cents, counted from the {from} key\n")?;
+    match counting {
+        Counting::Reference => {
+            out.write_all(b"key degree Hz cents, counted from the reference key\n")?
+        }
+        Counting::Middle => out.write_all(b"key degree Hz cents, counted from the middle key\n")?,
+    }
     keys::print_keys(out, counting, mapping, sounds)
 }
 
@@ -42,13 +43,16 @@ fn print_files<R: Files, W: Write, E: Write>(
     scl_name: &[u8],
     kbm_name: &[u8],
 ) {
-    let Some(scale) = tables::read_scale(rt, err, scl_name) else {
+    let mut columns = tables::EMPTY;
+    let Some(scl) = tables::read_scale(rt, err, scl_name, &mut columns) else {
         return;
     };
-    let Some(mapping) = tables::read_mapping(rt, err, kbm_name) else {
+    let mut map = [0i32; tables::PLACES];
+    let Some(kbm) = tables::read_mapping(rt, err, kbm_name, &mut map) else {
         return;
     };
-    let sounds = tables::sounds_of(counting, &scale, &mapping);
+    let mapping = tables::Mapping { kbm, map: &map };
+    let sounds = tables::sounds_of(counting, scl, &columns, &mapping);
     if print_table(out, counting, &mapping, &sounds).is_err() {
         let _ = err.write_all(b"keytable: standard output cannot be written\n");
     }

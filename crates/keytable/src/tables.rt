@@ -8,23 +8,30 @@ use std::io::Write;
 use std::rt::Files;
 
 // How many items a scale and how many entries a mapping can have.
-const PLACES: usize = 8192;
+pub const PLACES: usize = 8192;
 
-// A scale, and the columns of its items.
-#[derive(Clone, Copy)]
-pub struct Scale {
-    pub scl: Scl,
+// The columns of a scale's items. They are lent to be read into, and not handed on by value: the stack holds them once.
+#[derive(Drop)]
+pub struct Columns {
     pub kind: [u8; 8192],
     pub cents: [f64; 8192],
     pub numer: [u32; 8192],
     pub denom: [u32; 8192],
 }
 
+// Columns to be read into.
+pub const EMPTY: Columns = Columns {
+    kind: [0; 8192],
+    cents: [0.0; 8192],
+    numer: [0; 8192],
+    denom: [0; 8192],
+};
+
 // A mapping, and its table.
 #[derive(Clone, Copy)]
-pub struct Mapping {
+pub struct Mapping<'a> {
     pub kbm: Kbm,
-    pub map: [i32; 8192],
+    pub map: &'a [i32],
 }
 
 // The pitches of keys, and beside each its refusal's number, 0 for a pitch.
@@ -34,34 +41,29 @@ pub struct Sounds {
     pub numbers: [u32; 1024],
 }
 
-// The scale of a file; where there is none, says why.
-pub fn read_scale<R: Files, E: Write>(rt: &R, err: &mut E, name: &[u8]) -> Option<Scale> {
+// The scale of a file, its items read into lent columns; where there is none, says why.
+pub fn read_scale<R: Files, E: Write>(
+    rt: &R,
+    err: &mut E,
+    name: &[u8],
+    items: &mut Columns,
+) -> Option<Scl> {
     let mut text = [0u8; ROOM];
     let n = crate::files::read_file(rt, err, name, &mut text)?;
-    let mut kind = [0u8; PLACES];
-    let mut cents = [0.0; PLACES];
-    let mut numer = [0u32; PLACES];
-    let mut denom = [0u32; PLACES];
     let mut place = [0u32; PLACES];
     let mut ratio = [0.0; PLACES];
     let mut wraps = [0i32; PLACES];
     match scl_read::read_scl(
         crate::files::first(&text, n),
-        &mut kind,
-        &mut cents,
-        &mut numer,
-        &mut denom,
+        &mut items.kind,
+        &mut items.cents,
+        &mut items.numer,
+        &mut items.denom,
         &mut place,
         &mut ratio,
         &mut wraps,
     ) {
-        Ok(read) => Some(Scale {
-            scl: read.scl,
-            kind,
-            cents,
-            numer,
-            denom,
-        }),
+        Ok(read) => Some(read.scl),
         Err(refusal) => {
             let required = ["the description", "the number of notes"];
             let _ = crate::reasons::refuse(err, name, &required, refusal);
@@ -70,13 +72,17 @@ pub fn read_scale<R: Files, E: Write>(rt: &R, err: &mut E, name: &[u8]) -> Optio
     }
 }
 
-// The mapping of a file; where there is none, says why.
-pub fn read_mapping<R: Files, E: Write>(rt: &R, err: &mut E, name: &[u8]) -> Option<Mapping> {
+// The mapping of a file, its entries read into a lent table; where there is none, says why.
+pub fn read_mapping<R: Files, E: Write>(
+    rt: &R,
+    err: &mut E,
+    name: &[u8],
+    map: &mut [i32],
+) -> Option<Kbm> {
     let mut text = [0u8; ROOM];
     let n = crate::files::read_file(rt, err, name, &mut text)?;
-    let mut map = [0i32; PLACES];
-    match kbm_read::read_kbm(crate::files::first(&text, n), &mut map) {
-        Ok(kbm) => Some(Mapping { kbm, map }),
+    match kbm_read::read_kbm(crate::files::first(&text, n), map) {
+        Ok(kbm) => Some(kbm),
         Err(refusal) => {
             let required = [
                 "the size",
@@ -94,27 +100,32 @@ pub fn read_mapping<R: Files, E: Write>(rt: &R, err: &mut E, name: &[u8]) -> Opt
 }
 
 // The pitches of the first keys of a mapping's range in either counting; 10 for each where the tables cannot be used.
-pub fn sounds_of(counting: Counting, scale: &Scale, mapping: &Mapping) -> Sounds {
+pub fn sounds_of(counting: Counting, scl: Scl, columns: &Columns, mapping: &Mapping<'_>) -> Sounds {
     let kbm = mapping.kbm;
-    let items = ItemColumns::new(&scale.kind, &scale.cents, &scale.numer, &scale.denom);
+    let items = ItemColumns::new(
+        &columns.kind,
+        &columns.cents,
+        &columns.numer,
+        &columns.denom,
+    );
     let mut hz = [0.0; MOST];
     let mut numbers = [Reason::Unusable.number(); MOST];
     let run = match counting {
         Counting::Reference => tuning::key_pitches::pitches_of(
-            scale.scl,
+            scl,
             &items,
             kbm,
-            &mapping.map,
+            mapping.map,
             kbm.start,
             1024,
             &mut hz,
             &mut numbers,
         ),
         Counting::Middle => tuning::key_pitches::pitches_from_middle(
-            scale.scl,
+            scl,
             &items,
             kbm,
-            &mapping.map,
+            mapping.map,
             kbm.start,
             1024,
             &mut hz,
