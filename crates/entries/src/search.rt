@@ -217,7 +217,7 @@ fn finish(s: Scan, sorted: bool) -> Result<Approximation, Refusal>
     if !s.usable {
         return Err(scl::NOT_USABLE);
     }
-    let found = found_in(s)?;
+    let found = found_in(s);
     if sorted {
         searching::approximation::ascending(found, s.count)
     } else {

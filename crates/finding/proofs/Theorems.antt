@@ -28,7 +28,7 @@ use Rattle.searching.specs.Search.{search_of}
 use Rattle.searching.specs.declared.Found.{Found}
 use Rattle.searching.proofs.Theorems.{search_says, degree_search_one, key_search_one}
 use Rattle.searching.proofs.Within.{search_reach}
-use Rattle.searching.specs.Degrees.{approximation, declared_of, ascending_of, key_of}
+use Rattle.searching.specs.Degrees.{approximation, declared_of, ascending_of, key_of, says_key_search}
 use Rattle.searching.specs.declared.approximation.Approximation.{Approximation}
 use Rattle.finding.specs.Find.{computed_search, pitch_search_from, pitch_search_of}
 use Rattle.finding.specs.Says.{Finds, FindsPitch, FindsKey}
@@ -126,5 +126,5 @@ module _ (count : ℕ) (t : ItemTable) (l : ListTable) where
   pub find_by_pitch_sorted_one : (root : KbmRoot) (pitch : Float) → One outcome (of_pitch root pitch (ascending_of count))
   find_by_pitch_sorted_one root pitch = degree_search_one (of_pitch root pitch (ascending_of count))
 
-  pub find_key_by_pitch_one : (root : KbmRoot) (pitch : Float) → One outcome (and_then (of_pitch root pitch (declared_of count)) (key_of root))
+  pub find_key_by_pitch_one : (root : KbmRoot) (pitch : Float) → One says_key_search (and_then (of_pitch root pitch (declared_of count)) (key_of root))
   find_key_by_pitch_one root pitch = key_search_one (and_then (of_pitch root pitch (declared_of count)) (key_of root))

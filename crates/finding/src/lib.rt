@@ -13,7 +13,7 @@ ghost use Rattle.sorted.specs.Lent.{list_table, list_in, is_list};
 ghost use Rattle.scl.specs.Table.{item_table, items_in, is_items};
 ghost use Rattle.relative.specs.Scales.{tested, is_scale};
 ghost use Rattle.searching.specs.Search.{search_of};
-ghost use Rattle.searching.specs.Degrees.{declared_of, ascending_of, key_of};
+ghost use Rattle.searching.specs.Degrees.{declared_of, ascending_of, key_of, says_key_search};
 ghost use Rattle.finding.specs.Find.{computed_search, pitch_search_from, pitch_search_of};
 
 use base::Refusal;
@@ -21,7 +21,7 @@ use kbm::KbmRoot;
 use pitch::{Pitch, Ratio};
 use scl::{ItemColumns, Scl};
 use searching::Found;
-use searching::approximation::Approximation;
+use searching::approximation::{Approximation, NearestKey};
 use sorted::ListColumns;
 
 // The search of a computed ratio: 18 outside 2^-64..2^64.
@@ -137,7 +137,7 @@ pub fn find_by_relative_pitch(
     ensures { outcome result ≡ tested (is_scale scl.count items.now list.now && in_search target.0)
         (and_then (search_of (items_in scl.count items.now) (list_in scl.count list.now) target.0) (declared_of scl.count)) }
 {
-    let found = found_by_ratio(items, list, scl.count, target.0)?;
+    let found = found_by_ratio(items, list, scl.count, target.0);
     searching::approximation::declared(found, scl.count)
 }
 
@@ -151,7 +151,7 @@ pub fn find_by_relative_pitch_sorted(
     ensures { outcome result ≡ tested (is_scale scl.count items.now list.now && in_search target.0)
         (and_then (search_of (items_in scl.count items.now) (list_in scl.count list.now) target.0) (ascending_of scl.count)) }
 {
-    let found = found_by_ratio(items, list, scl.count, target.0)?;
+    let found = found_by_ratio(items, list, scl.count, target.0);
     searching::approximation::ascending(found, scl.count)
 }
 
@@ -167,7 +167,7 @@ pub fn find_by_pitch(
     ensures { outcome result ≡ tested (is_scale scl.count items.now list.now && (is_root root && in_pitch pitch.0))
         (and_then (pitch_search_of (items_in scl.count items.now) (list_in scl.count list.now) root pitch.0) (declared_of scl.count)) }
 {
-    let found = found_by_pitch(items, list, scl.count, root, pitch)?;
+    let found = found_by_pitch(items, list, scl.count, root, pitch);
     searching::approximation::declared(found, scl.count)
 }
 
@@ -182,7 +182,7 @@ pub fn find_by_pitch_sorted(
     ensures { outcome result ≡ tested (is_scale scl.count items.now list.now && (is_root root && in_pitch pitch.0))
         (and_then (pitch_search_of (items_in scl.count items.now) (list_in scl.count list.now) root pitch.0) (ascending_of scl.count)) }
 {
-    let found = found_by_pitch(items, list, scl.count, root, pitch)?;
+    let found = found_by_pitch(items, list, scl.count, root, pitch);
     searching::approximation::ascending(found, scl.count)
 }
 
@@ -193,10 +193,10 @@ pub fn find_key_by_pitch(
     list: &ListColumns<'_>,
     root: KbmRoot,
     pitch: Pitch,
-) -> Result<Approximation, Refusal>
-    ensures { outcome result ≡ and_then (tested (is_scale scl.count items.now list.now && (is_root root && in_pitch pitch.0))
+) -> Result<NearestKey, Refusal>
+    ensures { says_key_search result ≡ and_then (tested (is_scale scl.count items.now list.now && (is_root root && in_pitch pitch.0))
         (and_then (pitch_search_of (items_in scl.count items.now) (list_in scl.count list.now) root pitch.0) (declared_of scl.count))) (key_of root) }
 {
-    let degree = find_by_pitch(scl, items, list, root, pitch)?;
+    let degree = find_by_pitch(scl, items, list, root, pitch);
     searching::approximation::key_from(root, degree)
 }

@@ -29,16 +29,24 @@ fn say_found<W: Write>(sink: &mut W, found: Approximation) -> io::Result<()> {
     say::float(sink, found.deviation)
 }
 
-// The columns of a line, so many places of seven fields each, from a field on.
-fn columns_of(places: usize, line: &[u8], from: usize) -> Columns {
+// The columns of the items of a line, so many places of seven fields each, from a field on; those of the list as they are lent.
+fn items_of(places: usize, line: &[u8], from: usize) -> Columns {
     Columns {
         kind: columns::bytes(9, places, line, from, 7),
         cents: columns::floats(2.0, places, line, from.wrapping_add(1), 7),
         numer: columns::naturals(7, places, line, from.wrapping_add(2), 7),
         denom: columns::naturals(7, places, line, from.wrapping_add(3), 7),
+        ..say::LENT
+    }
+}
+
+// All columns of a line.
+fn columns_of(places: usize, line: &[u8], from: usize) -> Columns {
+    Columns {
         place: columns::naturals(8, places, line, from.wrapping_add(4), 7),
         ratio: columns::floats(0.5, places, line, from.wrapping_add(5), 7),
         wraps: columns::ints(8, places, line, from.wrapping_add(6), 7),
+        ..items_of(places, line, from)
     }
 }
 
@@ -56,7 +64,12 @@ fn answer<W: Write>(sink: &mut W, line: &[u8]) -> io::Result<()> {
         b"maybe_key" | b"maybe_degree" | b"run" | b"middle_key" | b"middle_run" => {
             mapped::say_mapped(sink, name, line)
         }
-        _ => scaled::say_scaled(sink, name, line),
+        b"period" | b"relative" | b"degree" | b"key" => scaled::say_scaled(sink, name, line),
+        b"sorted_relative" | b"sorted_pitch" => scaled::say_sorted(sink, name, line),
+        b"find" | b"find_sorted" | b"find_pitch" | b"find_pitch_sorted" | b"find_key" => {
+            scaled::say_search(sink, name, line)
+        }
+        _ => Ok(()),
     }
 }
 

@@ -67,7 +67,7 @@ fn say_run<W: Write>(
 
 // `maybe_key`, `maybe_degree`, `run`, and counted from the middle key `middle_key`, `middle_run`.
 pub fn say_mapped<W: Write>(sink: &mut W, name: &[u8], line: &[u8]) -> io::Result<()> {
-    let c = crate::columns_of(size(line, 21), line, 22);
+    let c = crate::items_of(size(line, 21), line, 22);
     let scl = Scl {
         count: count(line, 2),
     };

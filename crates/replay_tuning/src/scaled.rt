@@ -4,7 +4,6 @@ use frozen::given::{count, float, int, size};
 use kbm::KbmRoot;
 use key::{Degree, PianoKey};
 use pitch::{Pitch, Ratio};
-use say::Columns;
 use scl::{ItemColumns, Scl};
 use sorted::ListColumns;
 use std::io;
@@ -19,28 +18,13 @@ pub fn root(line: &[u8]) -> KbmRoot {
     }
 }
 
-// Pitches and searches in the scale of a line.
-pub fn say_scaled<W: Write>(sink: &mut W, name: &[u8], line: &[u8]) -> io::Result<()> {
-    let c = crate::columns_of(size(line, 8), line, 9);
-    let number = int(line, 6);
-    match name {
-        b"sorted_relative" | b"sorted_pitch" => say_sorted(sink, name, line, &c, Degree(number)),
-        b"period" | b"relative" | b"degree" | b"key" => say_of_items(sink, name, line, &c, number),
-        _ => say_search(sink, name, line, &c, float(line, 7)),
-    }
-}
-
 // The pitches that the items alone give.
-fn say_of_items<W: Write>(
-    sink: &mut W,
-    name: &[u8],
-    line: &[u8],
-    c: &Columns,
-    number: i32,
-) -> io::Result<()> {
+pub fn say_scaled<W: Write>(sink: &mut W, name: &[u8], line: &[u8]) -> io::Result<()> {
     let scl = Scl {
         count: count(line, 2),
     };
+    let c = crate::items_of(size(line, 8), line, 9);
+    let number = int(line, 6);
     let items = ItemColumns::new(&c.kind, &c.cents, &c.numer, &c.denom);
     match name {
         b"period" => say::answer(sink, relative::period(scl, &items), say_ratio),
@@ -63,16 +47,12 @@ fn say_of_items<W: Write>(
 }
 
 // The pitches of a degree in ascending order.
-fn say_sorted<W: Write>(
-    sink: &mut W,
-    name: &[u8],
-    line: &[u8],
-    c: &Columns,
-    degree: Degree,
-) -> io::Result<()> {
+pub fn say_sorted<W: Write>(sink: &mut W, name: &[u8], line: &[u8]) -> io::Result<()> {
     let scl = Scl {
         count: count(line, 2),
     };
+    let c = crate::columns_of(size(line, 8), line, 9);
+    let degree = Degree(int(line, 6));
     let items = ItemColumns::new(&c.kind, &c.cents, &c.numer, &c.denom);
     let list = ListColumns::new(&c.place, &c.ratio, &c.wraps);
     match name {
@@ -90,16 +70,12 @@ fn say_sorted<W: Write>(
 }
 
 // The searches.
-fn say_search<W: Write>(
-    sink: &mut W,
-    name: &[u8],
-    line: &[u8],
-    c: &Columns,
-    x: f64,
-) -> io::Result<()> {
+pub fn say_search<W: Write>(sink: &mut W, name: &[u8], line: &[u8]) -> io::Result<()> {
     let scl = Scl {
         count: count(line, 2),
     };
+    let c = crate::columns_of(size(line, 8), line, 9);
+    let x = float(line, 7);
     let root = root(line);
     let items = ItemColumns::new(&c.kind, &c.cents, &c.numer, &c.denom);
     let list = ListColumns::new(&c.place, &c.ratio, &c.wraps);
@@ -110,7 +86,9 @@ fn say_search<W: Write>(
         b"find_pitch_sorted" => {
             finding::find_by_pitch_sorted(scl, &items, &list, root, Pitch(x))
         }
-        b"find_key" => finding::find_key_by_pitch(scl, &items, &list, root, Pitch(x)),
+        b"find_key" => {
+            finding::find_key_by_pitch(scl, &items, &list, root, Pitch(x)).map(|key| key.0)
+        }
         _ => return Ok(()),
     };
     say::answer(sink, said, say_found)

@@ -12,7 +12,7 @@ use lib.Ieee.{Float, binary64, fits, lt, eq, mul, div}
 use borrow.Author.Tests.{ne_eqb}
 use Rattle.base.specs.Numbers.{unusable, beyond_reach}
 use Rattle.base.specs.Said.{Said, gives, refuses, pick, and_then, One, outcome}
-use Rattle.base.proofs.Said.{same_value, one_said}
+use Rattle.base.proofs.Said.{same_value, one_said, one_read}
 use Rattle.floats.specs.Floats.{zero_f, one_f}
 use Rattle.floats.specs.Ranges.{in_reach}
 use Rattle.explog.specs.Rules.{L}
@@ -37,7 +37,7 @@ use Rattle.searching.specs.declared.Choice.{Choice}
 use Rattle.searching.specs.declared.Found.{Found}
 use Rattle.searching.proofs.Opened.{lastly, chosen_is, search_none}
 use Rattle.searching.proofs.Parting.{ratio_at_law, parts}
-use Rattle.searching.specs.Degrees.{declared_of, ascending_of, key_of}
+use Rattle.searching.specs.Degrees.{declared_of, ascending_of, key_of, says_key_search}
 use Rattle.searching.specs.declared.approximation.Approximation.{Approximation}
 
 -- ---- of two neighbours none is nearer beyond the tolerance
@@ -135,14 +135,14 @@ choose_one a b x = one_said (chosen_of a b x)
 pub degree_search_one : (s : Said Approximation) → One outcome s
 degree_search_one = one_said
 
-pub key_search_one : (s : Said Approximation) → One outcome s
-key_search_one = one_said
+pub key_search_one : (s : Said Approximation) → One says_key_search s
+key_search_one = one_read (λ k. k.0) (λ a b e i. record { 0 = e i })
 
-pub declared_one : (count : ℕ) (found : Found) → One outcome (declared_of count found)
-declared_one count found = degree_search_one (declared_of count found)
+pub declared_one : (found : Said Found) (count : ℕ) → One outcome (and_then found (declared_of count))
+declared_one found count = degree_search_one (and_then found (declared_of count))
 
-pub ascending_one : (count : ℕ) (found : Found) → One outcome (ascending_of count found)
-ascending_one count found = degree_search_one (ascending_of count found)
+pub ascending_one : (found : Said Found) (count : ℕ) → One outcome (and_then found (ascending_of count))
+ascending_one found count = degree_search_one (and_then found (ascending_of count))
 
-pub key_from_one : (root : KbmRoot) (found : Approximation) → One outcome (key_of root found)
-key_from_one root found = key_search_one (key_of root found)
+pub key_from_one : (root : KbmRoot) (found : Said Approximation) → One says_key_search (and_then found (key_of root))
+key_from_one root found = key_search_one (and_then found (key_of root))

@@ -3,18 +3,22 @@
 ghost use Rattle.std.specs.Prelude.{◌≡◌, pos, ◌+ℤ◌, ◌-ℤ◌, ◌*ℤ◌};
 ghost use Rattle.base.specs.Integers.{held};
 ghost use Rattle.base.specs.Said.{gives, and_then, outcome};
-ghost use Rattle.searching.specs.Degrees.{approximation, declared_of, ascending_of, key_of};
+ghost use Rattle.searching.specs.Degrees.{approximation, declared_of, ascending_of, key_of, says_key_search};
 
 use crate::Found;
 use base::Refusal;
 use kbm::KbmRoot;
 
-// The nearest degree or key, and how far the target lies above it, a ratio.
+// The nearest degree, and how far the target lies above it, a ratio.
 #[derive(Clone, Copy)]
 pub struct Approximation {
     pub approx_value: i32,
     pub deviation: f64,
 }
+
+// The nearest key: what is approximated is the number of a key, and no degree.
+#[derive(Clone, Copy)]
+pub struct NearestKey(pub Approximation);
 
 // The exact declared degree of a place, so many periods up and so many wraparounds down.
 fn declared_number(place: u32, periods: i32, wraps: i32, count: u16) -> i64
@@ -41,9 +45,10 @@ fn answer(number: i64, deviation: f64) -> Result<Approximation, Refusal>
 }
 
 // The declared degree of what was found; 11 outside 32 bits.
-pub fn declared(found: Found, count: u16) -> Result<Approximation, Refusal>
-    ensures { outcome result ≡ declared_of count found }
+pub fn declared(found: Result<Found, Refusal>, count: u16) -> Result<Approximation, Refusal>
+    ensures { outcome result ≡ and_then (outcome found) (declared_of count) }
 {
+    let found = found?;
     answer(
         declared_number(found.place, found.periods, found.wraps, count),
         found.deviation,
@@ -51,9 +56,10 @@ pub fn declared(found: Found, count: u16) -> Result<Approximation, Refusal>
 }
 
 // The ascending degree of what was found; 11 outside 32 bits.
-pub fn ascending(found: Found, count: u16) -> Result<Approximation, Refusal>
-    ensures { outcome result ≡ ascending_of count found }
+pub fn ascending(found: Result<Found, Refusal>, count: u16) -> Result<Approximation, Refusal>
+    ensures { outcome result ≡ and_then (outcome found) (ascending_of count) }
 {
+    let found = found?;
     answer(
         ascending_number(found.index, found.periods, count),
         found.deviation,
@@ -61,11 +67,13 @@ pub fn ascending(found: Found, count: u16) -> Result<Approximation, Refusal>
 }
 
 // The key of a degree found, counted from the reference key; 11 outside 32 bits.
-pub fn key_from(root: KbmRoot, found: Approximation) -> Result<Approximation, Refusal>
-    ensures { outcome result ≡ key_of root found }
+pub fn key_from(root: KbmRoot, found: Result<Approximation, Refusal>) -> Result<NearestKey, Refusal>
+    ensures { says_key_search result ≡ and_then (outcome found) (key_of root) }
 {
-    answer(
+    let found = found?;
+    let key = answer(
         integer_math::sum(root.reference.0, found.approx_value),
         found.deviation,
-    )
+    )?;
+    Ok(NearestKey(key))
 }

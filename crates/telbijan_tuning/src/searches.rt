@@ -176,7 +176,7 @@ pub fn telbijan_find_key_by_pitch(
     let scl = Scl { count };
     let root = telbijan_mappings::root_with(reference, hz, offset);
     store_found(
-        finding::find_key_by_pitch(scl, &items, &list, root, Pitch(pitch)),
+        finding::find_key_by_pitch(scl, &items, &list, root, Pitch(pitch)).map(|key| key.0),
         number,
         deviation,
     )

@@ -1,20 +1,22 @@
 -- `find_by_relative_pitch_sorted` meets its contract: what refuses the search is the answer.
 use Rattle.std.specs.Prelude.{◌&&◌}
-use Rattle.std.proofs.Common.{arith}
-use Rattle.std.proofs.lemmas.Grind.{common_steps}
+use mathlib.Core.Path.{◌∙◌, ap}
+use Rattle.base.specs.Said.{Said, and_then}
 use Rattle.floats.specs.Ranges.{in_search}
 use Rattle.searching.specs.Search.{search_of}
 use Rattle.sorted.specs.Lent.{list_table, list_in}
 use Rattle.scl.specs.Table.{item_table, items_in}
 use Rattle.relative.specs.Scales.{is_scale}
+use Rattle.searching.specs.declared.Found.{Found}
 use Rattle.searching.specs.Degrees.{ascending_of}
-use Rattle.finding.proofs.Tested.{refused_on}
+use Rattle.finding.proofs.Tested.{then_tested}
 use Rattle.finding.proofs.find_by_relative_pitch_sorted.Goals as goal
 
-pub returns-in_err-found : goal.returns-in_err-found
-returns-in_err-found c =
+pub returns : goal.returns
+returns c =
     let count = c.args.scl.count in
     let table = item_table c.args.items.now.kinds c.args.items.now.cents c.args.items.now.numers c.args.items.now.denoms in
     let list = list_table c.args.list.now.places c.args.list.now.ratios c.args.list.now.wraps in
-    let on = refused_on (is_scale count table list && in_search c.args.target.0) (search_of (items_in count table) (list_in count list) c.args.target.0) (ascending_of count) _ c.in_err-found.ensures in
-    grind (arith, common_steps, on)
+    c.ascending.ensures
+    ∙ ap (λ (t : Said Found). and_then t (ascending_of count)) c.found_by_ratio-found.ensures
+    ∙ then_tested (is_scale count table list && in_search c.args.target.0) (search_of (items_in count table) (list_in count list) c.args.target.0) (ascending_of count)

@@ -2,31 +2,23 @@
 -- Assumes nothing.
 use mathlib.Core.Path.{◌∙◌, ap}
 use Rattle.std.proofs.lemmas.Bool.{not-true, not-false}
-use Rattle.std.proofs.lemmas.Result.{err_from_is_err_and}
 use Rattle.base.specs.Said.{Said, and_then}
 use Rattle.searching.specs.declared.Found.{Found}
 use Rattle.searching.specs.Degrees.{declared_of, ascending_of}
-use Rattle.entries.specs.Columns.{degree_by}
-use Rattle.entries.proofs.Opened.{answer_unusable, answer_usable, answer_ascending, answer_declared}
+use Rattle.entries.proofs.Opened.{answer_unusable, answer_ascending, answer_declared}
 use Rattle.entries.proofs.search.finish.Goals as goal
 
 pub returns-then-not-s : goal.returns-then-not-s
 returns-then-not-s c = answer_unusable c.args.s c.args.sorted (not-true c.args.s.usable c.if-not-s.true)
 
-pub returns-in_err-found : goal.returns-in_err-found
-returns-in_err-found c =
-    let p = err_from_is_err_and c.from_residual.result c.from_residual.ensures.1 in
-    rw (p.1, p.2)
-    (ap (λ (t : Said Found). and_then t (degree_by c.args.sorted c.args.s.count)) c.in_err-found.ensures ∙ answer_usable c.args.s c.args.sorted (not-false c.args.s.usable c.if-not-s.false))
-
 pub returns-then-sorted : goal.returns-then-sorted
 returns-then-sorted c =
     c.ascending.ensures
-    ∙ ap (λ (t : Said Found). and_then t (ascending_of c.args.s.count)) c.in_ok-found.ensures
+    ∙ ap (λ (t : Said Found). and_then t (ascending_of c.args.s.count)) c.found_in-found.ensures
     ∙ answer_ascending c.args.s c.args.sorted (not-false c.args.s.usable c.if-not-s.false) c.if-sorted.true
 
 pub returns-else-sorted : goal.returns-else-sorted
 returns-else-sorted c =
     c.declared.ensures
-    ∙ ap (λ (t : Said Found). and_then t (declared_of c.args.s.count)) c.in_ok-found.ensures
+    ∙ ap (λ (t : Said Found). and_then t (declared_of c.args.s.count)) c.found_in-found.ensures
     ∙ answer_declared c.args.s c.args.sorted (not-false c.args.s.usable c.if-not-s.false) c.if-sorted.false
