@@ -106,9 +106,9 @@ pub fn read_entry(token: &[u8]) -> Option<Option<i16>>
 fn take_entry(token: &[u8], line: usize, room: usize, state: State) -> Result<State, Refusal>
     ensures { outcome result ≡ take_entry room line token.now state }
 {
-    if read_entry(token).is_none() {
+    let Some(_) = read_entry(token) else {
         return Err(refused(Reason::KeyboardMapping, line));
-    }
+    };
     let head = state.head;
     let count = state.count;
     if room <= count {
@@ -215,10 +215,10 @@ pub fn found_in(text: &[u8], says: LineSays, required: usize) -> Found
             if required > 0 {
                 return Found::Required;
             }
-            match read_entry(&text[start..token_end]) {
-                Some(entry) => Found::Is(entry),
-                None => Found::Nothing,
-            }
+            let Some(entry) = read_entry(&text[start..token_end]) else {
+                return Found::Nothing;
+            };
+            Found::Is(entry)
         }
     }
 }

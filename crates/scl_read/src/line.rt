@@ -129,10 +129,10 @@ pub fn found_in(text: &[u8], says: LineSays, required: usize) -> Found
             if required > 0 {
                 return Found::Required;
             }
-            match read_item(&text[start..token_end]) {
-                Ok(item) => Found::Is(item),
-                Err(_) => Found::Nothing,
-            }
+            let Ok(item) = read_item(&text[start..token_end]) else {
+                return Found::Nothing;
+            };
+            Found::Is(item)
         }
     }
 }

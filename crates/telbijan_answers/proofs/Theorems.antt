@@ -18,6 +18,9 @@ use Rattle.pitch.specs.Answers.{says_ratio, says_pitch}
 use Rattle.scl.specs.Answers.{says_scl}
 use Rattle.telbijan_answers.specs.Interface.{code, result, kept, field_of}
 
+pub code_with_one : (number detail : ℕ) → One (λ r. r) (code number detail)
+code_with_one number detail = one_result (code number detail)
+
 pub code_of_one : (refusal : Refusal) → One (λ r. r) (code (number_of refusal.reason) refusal.detail)
 code_of_one refusal = one_result (code (number_of refusal.reason) refusal.detail)
 

@@ -16,13 +16,18 @@ use key::{Degree, PianoKey};
 use pitch::{Pitch, Ratio};
 use scl::Scl;
 
-// detail * 256 + number.
+// detail * 256 + number, of any number.
+pub fn code_with(number: u32, detail: usize) -> u64
+    ensures { result ≡ code number detail }
+{
+    detail as u64 % 0x100_0000_0000_0000 * 256 + u64::from(number) % 256
+}
+
+// The same of a refusal.
 pub fn code_of(refusal: Refusal) -> u64
     ensures { result ≡ code (number_of refusal.reason) refusal.detail }
 {
-    let detail = refusal.detail as u64;
-    let number = refusal.reason.number() as u64;
-    detail % 0x100_0000_0000_0000 * 256 + number % 256
+    code_with(refusal.reason.number(), refusal.detail)
 }
 
 // Nothing is stored.
