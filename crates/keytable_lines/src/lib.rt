@@ -16,7 +16,7 @@ fn is_printable(x: f64) -> bool
     floats::abs_of(x) <= 9007199254740992.0
 }
 
-// x with three decimals at `at`. Full where it does not fit or is above 2^53, and then nothing is written.
+// x with three decimals at `at`. None where it does not fit or is above 2^53, and then nothing is written.
 pub fn write_three(x: f64, out: &mut [u8], at: usize) -> Option<usize>
     ensures value { result ≡ pick (printable x) (placed out.old at (text_of 3 false x)) None }
     ensures out_after { out.new ≡ pick (printable x) (written out.old at (text_of 3 false x)) out.old }

@@ -140,7 +140,7 @@ fn write_number(
 }
 
 // x with d decimals at `at`, from its exact value, a tie to the even digit, the sign kept; with a plus where x is not
-// negative and `plus` asks for it. Full (12) where it does not fit, and then nothing is written.
+// negative and `plus` asks for it. None (12) where it does not fit, and then nothing is written.
 pub fn write_fixed(x: f64, d: u64, plus: bool, out: &mut [u8], at: usize) -> Option<usize>
     requires { T (limited x) × (d ≤ 4) }
     ensures value { result ≡ placed out.old at (text_of d plus x) }
@@ -151,7 +151,7 @@ pub fn write_fixed(x: f64, d: u64, plus: bool, out: &mut [u8], at: usize) -> Opt
     write_number(u.negative, plus, f.whole, f.part, d, out, at)
 }
 
-// The integer of this sign and magnitude, in decimal digits, at `at`. Full (12) where it does not fit, and then nothing is
+// The integer of this sign and magnitude, in decimal digits, at `at`. None (12) where it does not fit, and then nothing is
 // written.
 fn write_integer(negative: bool, magnitude: u64, out: &mut [u8], at: usize) -> Option<usize>
     requires { magnitude < 10 ^ 18 }
@@ -161,7 +161,7 @@ fn write_integer(negative: bool, magnitude: u64, out: &mut [u8], at: usize) -> O
     write_number(negative, false, magnitude, 0, 0, out, at)
 }
 
-// n in decimal digits at `at`. Full (12) where it does not fit, and then nothing is written.
+// n in decimal digits at `at`. None (12) where it does not fit, and then nothing is written.
 pub fn write_u32(n: u32, out: &mut [u8], at: usize) -> Option<usize>
     ensures value { result ≡ placed out.old at (whole_text (pos n)) }
     ensures out_after { out.new ≡ written out.old at (whole_text (pos n)) }
@@ -181,7 +181,7 @@ fn magnitude(z: i32) -> u64
     }
 }
 
-// z in decimal digits at `at`, with its minus. Full (12) where it does not fit, and then nothing is written.
+// z in decimal digits at `at`, with its minus. None (12) where it does not fit, and then nothing is written.
 pub fn write_i32(z: i32, out: &mut [u8], at: usize) -> Option<usize>
     ensures value { result ≡ placed out.old at (whole_text z) }
     ensures out_after { out.new ≡ written out.old at (whole_text z) }

@@ -1,11 +1,9 @@
 -- Which calls of what a caller hands over write an answer, and which those of the lines of a list.
-use Rattle.std.specs.Prelude.{◌≡◌, ℕ, List, [], ◌∷◌, Ok}
+use Rattle.std.specs.Prelude.{◌≡◌, ℕ, List, [], ◌∷◌, Option, Result, Ok}
 use Rattle.std.specs.Borrow.{Bor, MutBor}
 use Rattle.std.specs.Fn.{Once, Mut, CalledWithState}
 use Rattle.std.specs.Io.KnownBytes.{Appends}
 use Rattle.std.specs.List.{FoldsTo}
-use Rattle.std.specs.declared.option.Option.{Option}
-use Rattle.std.specs.declared.result.Result.{Result}
 
 module _ {F W X R : Type 0} (g : Once F (MutBor W × (X × Unit {0})) (R × (MutBor W × Unit {0}))) where
   -- called with the writer w and with x, f may give r, and leave the writer as v
