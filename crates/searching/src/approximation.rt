@@ -70,10 +70,10 @@ pub fn ascending(found: Result<Found, Refusal>, count: u16) -> Result<Approximat
 pub fn key_from(root: KbmRoot, found: Result<Approximation, Refusal>) -> Result<NearestKey, Refusal>
     ensures { says_key_search result ≡ and_then (outcome found) (key_of root) }
 {
-    let found = found?;
+    let degree = found?;
     let key = answer(
-        integer_math::sum(root.reference.0, found.approx_value),
-        found.deviation,
+        integer_math::sum(root.reference.0, degree.approx_value),
+        degree.deviation,
     )?;
     Ok(NearestKey(key))
 }
