@@ -5,7 +5,7 @@
 
 DATA is a type of values, known by its form (`is_data`), or in the line of a generic function any type, `{A : Type 0}` (`kinds`); any other premise
 is a fault. Of a trait's function, or one generic in a trait, the contract is read at each type, with what the trait's ghost members are there, and
-(λ x. x) t is t. What is asked of a result, `says r ≡ s` or each part of FACT,
+(λ x. BODY) t is BODY of t, where BODY has x and binds nothing. What is asked of a result, `says r ≡ s` or each part of FACT,
 must be what the contract ensures, with the line's variables replaced by terms of what goes in; and what is equated must be the result and all that
 a `&mut` holds after the call. Terms are compared as they are written, but for quotes, the abbreviations of the line's own file, and those
 that stand for a relation in the specs of the crate or of a telbijan_ crate below it, or for a lent table in a file Lent.antt of the specs of
@@ -141,13 +141,16 @@ def replaced(term, by):
 
 
 def applied(term):
-    """A term with each (λ x. x) t as t."""
+    """A term with each (λ x. BODY) t as BODY of t, where BODY has x in it and binds nothing."""
     if not isinstance(term, tuple):
         return term
     term = tuple(map(applied, term))
     first = term[0] if term else ()
-    same = isinstance(first, tuple) and len(first) == 3 and first[0] == "λ" and first[1] == f"{first[2]}."
-    return closed(term[1:]) if same and len(term) > 1 else term
+    if len(term) < 2 or not isinstance(first, tuple) or first[0] != "λ" or not re.fullmatch(r"\w+\.", str(first[1])):
+        return term
+    body = closed(first[2:])
+    name, inside = first[1][:-1], words(body)
+    return applied(closed((replaced(body, {name: term[1]}), *term[2:]))) if name in inside and inside.isdisjoint(JOINS) else term
 
 
 def words(term):
@@ -321,14 +324,16 @@ def outputs(term):
     return set().union(*parts) if all(parts) else set()
 
 
-def matches(pattern, term, line, bound):
-    """Whether a term of a contract is a line's term with its variables replaced; `bound` says by what, and grows."""
+def matches(pattern, term, line, bound, inner=frozenset()):
+    """Whether a term of a contract is a line's term with its variables replaced; `bound` says by what, and grows. What a λ around the term binds,
+    `inner`, is no such thing."""
     if isinstance(pattern, str) and pattern in line.inputs | line.results:
-        fits = outputs(term) if pattern in line.results else not words(term) & {RESULT, ".exit", ".new"}
+        fits = outputs(term) if pattern in line.results else not words(term) & {RESULT, ".exit", ".new", *inner}
         return bool(fits) and is_same(bound.setdefault(pattern, term), term)
     if isinstance(pattern, str) or isinstance(term, str):
         return is_same(pattern, term)
-    return len(pattern) == len(term) and all(matches(*pair, line, bound) for pair in zip(pattern, term))
+    inner |= {name[:-1] for sign, name in zip(term, term[1:]) if sign == "λ" and isinstance(name, str)}
+    return len(pattern) == len(term) and all(matches(*pair, line, bound, inner) for pair in zip(pattern, term))
 
 
 def settled(line, contract):

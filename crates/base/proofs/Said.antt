@@ -10,6 +10,7 @@ use Rattle.base.specs.Said.{Said, gives, refuses, refusal, outcome, outcome_by, 
 use Rattle.base.specs.declared.Reason.{Reason}
 use Rattle.base.specs.declared.Reason.TheVariants as reason
 use Rattle.base.specs.declared.Refusal.{Refusal}
+use Rattle.base.specs.declared.AnyRefusal.{AnyRefusal}
 
 -- a contract `r ≡ s` leaves one result
 pub one_result : {A : Type 0} (s : A) → One (λ r. r) s
@@ -18,6 +19,19 @@ one_result s x y p q = p ∙ sym q
 -- a reason has one number
 pub number_one : (r : Reason) → One (λ n. n) (number_of r)
 number_one r = one_result (number_of r)
+
+-- a refusal has one number and one detail
+pub number_Refusal_one : (r : Refusal) → One (λ n. n) (number_of r.reason)
+number_Refusal_one r = one_result (number_of r.reason)
+
+pub detail_Refusal_one : (r : Refusal) → One (λ n. n) r.detail
+detail_Refusal_one r = one_result r.detail
+
+pub number_AnyRefusal_one : (r : AnyRefusal) → One (λ n. n) r.number
+number_AnyRefusal_one r = one_result r.number
+
+pub detail_AnyRefusal_one : (r : AnyRefusal) → One (λ n. n) r.detail
+detail_AnyRefusal_one r = one_result r.detail
 
 -- the reason of a number; some reason where it is no reason's
 abbrev reason_of : ℕ → Reason

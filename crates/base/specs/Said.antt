@@ -28,15 +28,18 @@ pub data NumberedOr {A : Type 0} (more : ℕ) : Said A → Type 0 where
 abbrev pub refusal : {A : Type 0} → Refusal → Said A
 refusal r = refuses (number_of r.reason) r.detail
 
+-- what a result says whose value is read by `f`, and its refusal's number by `n` and its detail by `d`
+abbrev pub said_by : {R A B : Type 0} → (R → ℕ) → (R → ℕ) → (A → B) → Result A R → Said B
+said_by n d f (Ok a) = gives (f a)
+said_by n d f (Err r) = refuses (n r) (d r)
+
 -- what a result says whose value is read by `f`
 abbrev pub outcome_by : {A B : Type 0} → (A → B) → Result A Refusal → Said B
-outcome_by f (Ok a) = gives (f a)
-outcome_by f (Err r) = refusal r
+outcome_by = said_by (λ r. number_of r.reason) (λ r. r.detail)
 
 -- what a result says
 abbrev pub outcome : {A : Type 0} → Result A Refusal → Said A
-outcome (Ok a) = gives a
-outcome (Err r) = refusal r
+outcome = outcome_by (λ a. a)
 
 -- where a test holds the first, else the second
 abbrev pub pick : {A : Type 0} → Bool → A → A → A

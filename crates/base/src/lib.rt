@@ -1,7 +1,7 @@
 // What every other crate shares: why a call refuses. Document 01, "Numbers that answer"; 19, 25 and 29 are of document 02.
 #![tactic(auto)]
 
-ghost use Rattle.std.specs.Prelude.{◌≡◌};
+ghost use Rattle.std.specs.Prelude.{◌≡◌, ℕ};
 ghost use Rattle.base.specs.Numbers.{number_of};
 
 // Why a call refuses, by 01's numbers.
@@ -65,4 +65,55 @@ impl Reason {
 pub struct Refusal {
     pub reason: Reason,
     pub detail: usize,
+}
+
+// What says why a call refused: a number, and the place that it is about.
+pub trait Refuses: Copy {
+    ghost number: { Self → ℕ };
+
+    ghost detail: { Self → ℕ };
+
+    // The refusal's number.
+    fn number(self) -> u32
+        ensures { result ≡ number self };
+
+    // The line, or what else the number speaks of.
+    fn detail(self) -> usize
+        ensures { result ≡ detail self };
+}
+
+impl Refuses for Refusal {
+    ghost number = { λ r. number_of r.reason };
+
+    ghost detail = { λ r. r.detail };
+
+    fn number(self) -> u32 {
+        self.reason.number()
+    }
+
+    fn detail(self) -> usize {
+        // A line, or 0 outside a text.
+        self.detail
+    }
+}
+
+// A refusal of a caller's own: any number, and any detail.
+#[derive(Clone, Copy, PartialEq, Eq)]
+pub struct AnyRefusal {
+    pub number: u32,
+    pub detail: usize,
+}
+
+impl Refuses for AnyRefusal {
+    ghost number = { λ r. r.number };
+
+    ghost detail = { λ r. r.detail };
+
+    fn number(self) -> u32 {
+        self.number
+    }
+
+    fn detail(self) -> usize {
+        self.detail
+    }
 }

@@ -95,7 +95,7 @@ impl Integer for u32 {
 impl Integer for i16 {
     ghost SIGNED = { true };
 
-    const SIGNED: bool = true;
+    const SIGNED: bool = true; // down to -32,768
 
     ghost TOP = { 2 ^ 15 };
 
@@ -108,6 +108,7 @@ impl Integer for i16 {
     }
 
     fn number(self) -> i64 {
+        // Below zero too.
         i64::from(self)
     }
 

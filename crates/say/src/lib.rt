@@ -11,7 +11,7 @@ ghost use Rattle.text.specs.Cut.{lines};
 ghost use Rattle.say.specs.Called.{CalledOnce, AnswersLines};
 ghost use Rattle.say.specs.Said.{name_text, word_field, natural_field, int_field, refusal_field, float_field, two_digits, bytes_field, table_field, lent_item, item_fields, lent_entry, entry_fields, place_fields, places_fields};
 
-use base::Refusal;
+use base::{Refusal, Refuses};
 use std::io;
 use std::io::{Read, Write};
 use text::lines::next_line;
@@ -100,19 +100,13 @@ pub fn float<W: Write>(out: &mut W, x: f64) -> io::Result<()>
     }
 }
 
-// A refusal by any number: the number after `!`, and the detail.
-pub fn refused<W: Write>(out: &mut W, number: u32, detail: usize) -> io::Result<()>
-    ensures { OnOk result (Appends (W.contents out.old) (W.contents out.new) (refusal_field number detail)) }
-{
-    write!(out, " !{number}")?;
-    size(out, detail)
-}
-
 // A refusal: its number after `!`, and its detail.
-pub fn refusal<W: Write>(out: &mut W, refusal: Refusal) -> io::Result<()>
-    ensures { OnOk result (Appends (W.contents out.old) (W.contents out.new) (refusal_field (number_of refusal.reason) refusal.detail)) }
+pub fn refusal<W: Write, R: Refuses>(out: &mut W, refusal: R) -> io::Result<()>
+    ensures { OnOk result (Appends (W.contents out.old) (W.contents out.new) (refusal_field (R.number refusal) (R.detail refusal))) }
 {
-    refused(out, refusal.reason.number(), refusal.detail)
+    let number = refusal.number();
+    write!(out, " !{number}")?;
+    size(out, refusal.detail())
 }
 
 // What was answered: a value, as `value` writes it, or the refusal.

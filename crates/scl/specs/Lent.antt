@@ -1,5 +1,5 @@
--- The lent columns of items in a contract: what stands behind the references. A `requires` says `items_lent kind cents numer denom`, and an
--- `ensures` says `items_before ..` of the same columns as the call found them. Assumes nothing.
+-- Lent columns of items, one parameter each, as the calls for C take them: `items_before kind cents numer denom` is the table that stands
+-- behind them as the call finds it, and telbijan_answers/specs/Lent.antt says the names that their contracts use. Assumes nothing.
 use Rattle.std.specs.Prelude.{List, ℕ, Float}
 use Rattle.std.specs.Borrow.{Bor}
 use denote.Triple.Both.{Both}

@@ -81,12 +81,16 @@ module _ (lower upper target : Float) (l : in_reach lower ≡ true) (u : in_reac
 
   -- by its tests: beyond reach, the lower neighbour, the upper one
   abbrev by_tests : Bool → Bool → Said Choice
-  by_tests held below = pick held (pick below (gives (choice false down_r)) (and_then (inverse up_r) (λ turned. gives (choice true turned)))) (refuses beyond_reach 0)
+  by_tests held below =
+      pick held (pick below (gives (choice false down_r)) (and_then (inverse up_r) (λ turned. gives (choice true turned))))
+      (refuses beyond_reach 0)
 
-  pub chosen_beyond : ((in_reach up_r && in_reach down_r) && in_reach bound_r) ≡ false → refuses beyond_reach 0 ≡ chosen_of lower upper target
+  pub chosen_beyond : ((in_reach up_r && in_reach down_r) && in_reach bound_r) ≡ false
+      → refuses beyond_reach 0 ≡ chosen_of lower upper target
   chosen_beyond held = sym (chosen_is ∙ ap (λ b. by_tests b (lt bound_r up_r)) held)
 
-  pub chosen_lower : ((in_reach up_r && in_reach down_r) && in_reach bound_r) ≡ true → lt bound_r up_r ≡ true → gives (choice false down_r) ≡ chosen_of lower upper target
+  pub chosen_lower : ((in_reach up_r && in_reach down_r) && in_reach bound_r) ≡ true → lt bound_r up_r ≡ true
+      → gives (choice false down_r) ≡ chosen_of lower upper target
   chosen_lower held below = sym (chosen_is ∙ ap (λ b. by_tests b (lt bound_r up_r)) held ∙ ap (by_tests true) below)
 
   pub chosen_upper : ((in_reach up_r && in_reach down_r) && in_reach bound_r) ≡ true → lt bound_r up_r ≡ false

@@ -10,9 +10,12 @@ use lib.IntN.{ℤ, pos}
 use lib.ListN.{length, get_or, length-map}
 use lib.Ieee.{Float, binary64, fits, lt, eq, mul, div}
 use borrow.Author.Tests.{ne_eqb}
-use Rattle.base.specs.Numbers.{unusable, beyond_reach}
-use Rattle.base.specs.Said.{Said, gives, refuses, pick, and_then, One, outcome}
-use Rattle.base.proofs.Said.{same_value, one_said, one_read}
+use Rattle.std.specs.Prelude.{Result, Ok, Err}
+use Rattle.base.specs.Numbers.{number_of, unusable, beyond_reach}
+use Rattle.base.specs.Said.{Said, gives, refuses, pick, and_then, One, outcome, said_by}
+use Rattle.base.specs.declared.Refusal.{Refusal}
+use Rattle.base.specs.declared.AnyRefusal.{AnyRefusal}
+use Rattle.base.proofs.Said.{same_value, same_reason, same_refuses, no_value, no_refusal, one_said, one_read}
 use Rattle.floats.specs.Floats.{zero_f, one_f}
 use Rattle.floats.specs.Ranges.{in_reach}
 use Rattle.explog.specs.Rules.{L}
@@ -39,6 +42,7 @@ use Rattle.searching.proofs.Opened.{lastly, chosen_is, search_none}
 use Rattle.searching.proofs.Parting.{ratio_at_law, parts}
 use Rattle.searching.specs.Degrees.{declared_of, ascending_of, key_of, says_key_search}
 use Rattle.searching.specs.declared.approximation.Approximation.{Approximation}
+use Rattle.searching.specs.declared.approximation.NearestKey.{NearestKey}
 
 -- ---- of two neighbours none is nearer beyond the tolerance
 module _ (es : List Entry) (periods : ℤ) (target : Float) (at : ℕ) (l : in_reach (ratio_at es (at - 1)) ≡ true) (u : in_reach (ratio_at es at) ≡ true) (t : in_reach target ≡ true) where
@@ -146,3 +150,56 @@ ascending_one found count = degree_search_one (and_then found (ascending_of coun
 
 pub key_from_one : (root : KbmRoot) (found : Said Approximation) → One says_key_search (and_then found (key_of root))
 key_from_one root found = key_search_one (and_then found (key_of root))
+
+-- ---- of a refusal that is handed on, the library's or any
+pub of_Refusal_one : (refusal r r' : Refusal) → (number_of r.reason ≡ number_of refusal.reason) × (r.detail ≡ refusal.detail)
+    → (number_of r'.reason ≡ number_of refusal.reason) × (r'.detail ≡ refusal.detail) → r ≡ r'
+of_Refusal_one refusal r r' p q =
+    let same = same_reason r.reason r'.reason (p.0 ∙ sym q.0) in
+    let place = p.1 ∙ sym q.1 in
+    λ i. record { reason = same i; detail = place i }
+
+pub of_AnyRefusal_one : (refusal : Refusal) (r r' : AnyRefusal) → (r.number ≡ number_of refusal.reason) × (r.detail ≡ refusal.detail)
+    → (r'.number ≡ number_of refusal.reason) × (r'.detail ≡ refusal.detail) → r ≡ r'
+of_AnyRefusal_one refusal r r' p q =
+    let number = p.0 ∙ sym q.0 in
+    let place = p.1 ∙ sym q.1 in
+    λ i. record { number = number i; detail = place i }
+
+pub declared_Refusal_one : (found : Said Found) (count : ℕ)
+    → One {A = Result Approximation Refusal} (said_by (λ r. number_of r.reason) (λ r. r.detail) (λ a. a)) (and_then found (declared_of count))
+declared_Refusal_one = declared_one
+
+pub ascending_Refusal_one : (found : Said Found) (count : ℕ)
+    → One {A = Result Approximation Refusal} (said_by (λ r. number_of r.reason) (λ r. r.detail) (λ a. a)) (and_then found (ascending_of count))
+ascending_Refusal_one = ascending_one
+
+pub key_from_Refusal_one : (root : KbmRoot) (found : Said Approximation)
+    → One {A = Result NearestKey Refusal} (said_by (λ r. number_of r.reason) (λ r. r.detail) (λ k. k.0)) (and_then found (key_of root))
+key_from_Refusal_one = key_from_one
+
+-- what a result says with any refusal, its value read by what tells it from another
+module _ {A B : Type 0} (f : A → B) (apart : (a b : A) → f a ≡ f b → a ≡ b) where
+  abbrev says_any : Result A AnyRefusal → Said B
+  says_any = said_by (λ r. r.number) (λ r. r.detail) f
+
+  same_any : (x y : Result A AnyRefusal) → says_any x ≡ says_any y → x ≡ y
+  same_any (Ok a) (Ok b) e = ap Ok (apart a b (same_value _ _ e))
+  same_any (Ok a) (Err s) e = no_refusal e
+  same_any (Err r) (Ok b) e = no_value e
+  same_any (Err r) (Err s) e = let p = same_refuses e in λ i. Err (record { number = p.0 i; detail = p.1 i })
+
+  any_one : (s : Said B) → One says_any s
+  any_one s x y p q = same_any x y (p ∙ sym q)
+
+pub declared_AnyRefusal_one : (found : Said Found) (count : ℕ)
+    → One {A = Result Approximation AnyRefusal} (said_by (λ r. r.number) (λ r. r.detail) (λ a. a)) (and_then found (declared_of count))
+declared_AnyRefusal_one found count = any_one (λ a. a) (λ a b e. e) (and_then found (declared_of count))
+
+pub ascending_AnyRefusal_one : (found : Said Found) (count : ℕ)
+    → One {A = Result Approximation AnyRefusal} (said_by (λ r. r.number) (λ r. r.detail) (λ a. a)) (and_then found (ascending_of count))
+ascending_AnyRefusal_one found count = any_one (λ a. a) (λ a b e. e) (and_then found (ascending_of count))
+
+pub key_from_AnyRefusal_one : (root : KbmRoot) (found : Said Approximation)
+    → One {A = Result NearestKey AnyRefusal} (said_by (λ r. r.number) (λ r. r.detail) (λ k. k.0)) (and_then found (key_of root))
+key_from_AnyRefusal_one root found = any_one (λ k. k.0) (λ a b e i. record { 0 = e i }) (and_then found (key_of root))

@@ -2,14 +2,15 @@
 // from the one internal search; document 01, "Scales and searches".
 ghost use Rattle.std.specs.Prelude.{◌≡◌, pos, ◌+ℤ◌, ◌-ℤ◌, ◌*ℤ◌};
 ghost use Rattle.base.specs.Integers.{held};
-ghost use Rattle.base.specs.Said.{gives, and_then, outcome};
-ghost use Rattle.searching.specs.Degrees.{approximation, declared_of, ascending_of, key_of, says_key_search};
+ghost use Rattle.base.specs.Numbers.{number_of};
+ghost use Rattle.base.specs.Said.{gives, and_then, said_by};
+ghost use Rattle.searching.specs.Degrees.{approximation, declared_of, ascending_of, key_of};
 
 use crate::Found;
-use base::Refusal;
+use base::{AnyRefusal, Refusal, Refuses};
 use kbm::KbmRoot;
 
-// The nearest degree, and how far the target lies above it, a ratio.
+// The nearest degree, or in a `NearestKey` the nearest key, and how far the target lies above it, a ratio.
 #[derive(Clone, Copy)]
 pub struct Approximation {
     pub approx_value: i32,
@@ -34,19 +35,44 @@ fn ascending_number(index: u32, periods: i32, count: u16) -> i64
     i64::from(index) + i64::from(periods) * i64::from(count)
 }
 
+// A refusal that is handed on, and that can be one of the library's.
+pub trait HandedOn: Refuses {
+    // The library's refusal.
+    fn of(refusal: Refusal) -> Self
+        ensures { (Self.number result ≡ number_of refusal.reason) × (Self.detail result ≡ refusal.detail) };
+}
+
+impl HandedOn for Refusal {
+    fn of(refusal: Refusal) -> Refusal {
+        refusal
+    }
+}
+
+impl HandedOn for AnyRefusal {
+    fn of(refusal: Refusal) -> AnyRefusal {
+        AnyRefusal {
+            number: refusal.number(),
+            detail: refusal.detail(),
+        }
+    }
+}
+
 // The answer of an exact number; 11 outside 32 bits.
-fn answer(number: i64, deviation: f64) -> Result<Approximation, Refusal>
-    ensures { outcome result ≡ and_then (held number) (λ z. gives (approximation deviation z)) }
+fn answer<R: HandedOn>(number: i64, deviation: f64) -> Result<Approximation, R>
+    ensures { said_by R.number R.detail (λ a. a) result ≡ and_then (held number) (λ z. gives (approximation deviation z)) }
 {
-    Ok(Approximation {
-        approx_value: integer_math::to_i32(number)?,
-        deviation,
-    })
+    match integer_math::to_i32(number) {
+        Ok(approx_value) => Ok(Approximation {
+            approx_value,
+            deviation,
+        }),
+        Err(refusal) => Err(R::of(refusal)),
+    }
 }
 
 // The declared degree of what was found; 11 outside 32 bits.
-pub fn declared(found: Result<Found, Refusal>, count: u16) -> Result<Approximation, Refusal>
-    ensures { outcome result ≡ and_then (outcome found) (declared_of count) }
+pub fn declared<R: HandedOn>(found: Result<Found, R>, count: u16) -> Result<Approximation, R>
+    ensures { said_by R.number R.detail (λ a. a) result ≡ and_then (said_by R.number R.detail (λ f. f) found) (declared_of count) }
 {
     let found = found?;
     answer(
@@ -56,8 +82,8 @@ pub fn declared(found: Result<Found, Refusal>, count: u16) -> Result<Approximati
 }
 
 // The ascending degree of what was found; 11 outside 32 bits.
-pub fn ascending(found: Result<Found, Refusal>, count: u16) -> Result<Approximation, Refusal>
-    ensures { outcome result ≡ and_then (outcome found) (ascending_of count) }
+pub fn ascending<R: HandedOn>(found: Result<Found, R>, count: u16) -> Result<Approximation, R>
+    ensures { said_by R.number R.detail (λ a. a) result ≡ and_then (said_by R.number R.detail (λ f. f) found) (ascending_of count) }
 {
     let found = found?;
     answer(
@@ -67,8 +93,11 @@ pub fn ascending(found: Result<Found, Refusal>, count: u16) -> Result<Approximat
 }
 
 // The key of a degree found, counted from the reference key; 11 outside 32 bits.
-pub fn key_from(root: KbmRoot, found: Result<Approximation, Refusal>) -> Result<NearestKey, Refusal>
-    ensures { says_key_search result ≡ and_then (outcome found) (key_of root) }
+pub fn key_from<R: HandedOn>(
+    root: KbmRoot,
+    found: Result<Approximation, R>,
+) -> Result<NearestKey, R>
+    ensures { said_by R.number R.detail (λ k. k.0) result ≡ and_then (said_by R.number R.detail (λ a. a) found) (key_of root) }
 {
     let degree = found?;
     let key = answer(

@@ -6,9 +6,7 @@ use Prim.Native.Nat.{ℕ, ◌≤◌, ◌<◌, ◌^◌}
 use native.Mathlib.Omega.{arith}
 use lib.ListN.{length, take, drop}
 use lib.Seq.{take-append-le, take-length}
-use Rattle.base.specs.Numbers.{number_of}
-use Rattle.base.specs.Said.{Said, gives, refuses, refusal, Numbered, NumberedOr}
-use Rattle.base.specs.declared.Refusal.{Refusal}
+use Rattle.base.specs.Said.{Said, gives, refuses, Numbered, NumberedOr}
 use Rattle.base.proofs.Said.{no_value}
 use Rattle.writing.specs.Fitted.{text_length}
 use Rattle.telbijan_answers.specs.Interface.{code, result, Coded, kept, field_of, number_in, detail_in}
@@ -29,15 +27,16 @@ module _ {X A : Type 0} (says : X → Said A) {s : Said A} {x x' : X} (told : sa
   pub stored_part : {B : Type 0} (part : A → B) {a : A} {v : B} (old : B) → says x' ≡ gives a → v ≡ part a → v ≡ kept (field_of part s) old
   stored_part part old gave is-part = is-part ∙ ap (λ s. kept (field_of part s) old) (sym gave ∙ said)
 
-  -- a refusal r: the result is its code, and what was there stays
-  pub refused : (r : Refusal) {n : ℕ} → says x' ≡ refusal r → n ≡ code (number_of r.reason) r.detail → n ≡ result s
-  refused r gave coded = coded ∙ ap result (sym gave ∙ said)
+  -- a refusal: the result is its code, and what was there stays
+  pub refused : {number detail n : ℕ} → says x' ≡ refuses number detail → n ≡ code number detail → n ≡ result s
+  refused gave coded = coded ∙ ap result (sym gave ∙ said)
 
-  pub stays : (r : Refusal) (old : A) → says x' ≡ refusal r → old ≡ kept s old
-  stays r old gave = ap (λ s. kept s old) (sym gave ∙ said)
+  pub stays : {number detail : ℕ} (old : A) → says x' ≡ refuses number detail → old ≡ kept s old
+  stays old gave = ap (λ s. kept s old) (sym gave ∙ said)
 
-  pub stays_part : {B : Type 0} (part : A → B) (r : Refusal) (old : B) → says x' ≡ refusal r → old ≡ kept (field_of part s) old
-  stays_part part r old gave = ap (λ s. kept (field_of part s) old) (sym gave ∙ said)
+  pub stays_part : {B : Type 0} (part : A → B) {number detail : ℕ} (old : B) → says x' ≡ refuses number detail
+      → old ≡ kept (field_of part s) old
+  stays_part part old gave = ap (λ s. kept (field_of part s) old) (sym gave ∙ said)
 
 -- what a `store_..` call made of an answer, of which told says what it says: n is its result, v what is stored, by `keep`
 pub handed_on : {X A B : Type 0} (says : X → Said A) (keep : Said A → B) (x : X) {s : Said A} {n : ℕ} {v : B} → says x ≡ s → (n ≡ result (says x)) × (v ≡ keep (says x)) → (n ≡ result s) × (v ≡ keep s)

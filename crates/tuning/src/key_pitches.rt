@@ -6,7 +6,6 @@ ghost use Rattle.kbm.specs.Middle.{counted};
 ghost use Rattle.kbm.specs.Answers.{says_degree};
 ghost use Rattle.kbm.specs.Table.{is_table, table_of};
 ghost use Rattle.pitch.specs.Answers.{says_pitch};
-ghost use Rattle.scl.specs.Lent.{items_lent, items_before};
 ghost use Rattle.scl.specs.Table.{item_table, items_in, is_items};
 ghost use Rattle.tuning.specs.Middle.{sounding_degree};
 ghost use Rattle.tuning.specs.Run.{key_at, root_said, key_said, step_said, key_pitches, key_pitches_from_middle, counted_pitches};

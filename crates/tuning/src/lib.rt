@@ -12,7 +12,6 @@ ghost use Rattle.kbm.specs.Root.{is_root};
 ghost use Rattle.kbm.specs.Table.{is_table};
 ghost use Rattle.pitch.specs.Answers.{says_pitch};
 ghost use Rattle.sorted.specs.Lent.{list_table, list_in};
-ghost use Rattle.scl.specs.Lent.{items_lent, items_before};
 ghost use Rattle.scl.specs.Table.{item_table, items_in, is_items};
 ghost use Rattle.relative.specs.Scales.{tested, is_scale};
 ghost use Rattle.relative.specs.Pitches.{pitch_of, sorted_pitch_of};

@@ -20,4 +20,5 @@ returns c =
     let list = list_table c.args.list.now.places c.args.list.now.ratios c.args.list.now.wraps in
     c.declared.ensures
     ∙ ap (λ (t : Said Found). and_then t (declared_of count)) c.found_by_pitch-found.ensures
-    ∙ then_tested (is_scale count table list && (is_root c.args.root && in_pitch c.args.pitch.0)) (pitch_search_of (items_in count table) (list_in count list) c.args.root c.args.pitch.0) (declared_of count)
+    ∙ then_tested (is_scale count table list && (is_root c.args.root && in_pitch c.args.pitch.0))
+    (pitch_search_of (items_in count table) (list_in count list) c.args.root c.args.pitch.0) (declared_of count)

@@ -19,4 +19,5 @@ returns c =
     let list = list_table c.args.list.now.places c.args.list.now.ratios c.args.list.now.wraps in
     c.declared.ensures
     ∙ ap (λ (t : Said Found). and_then t (declared_of count)) c.found_by_ratio-found.ensures
-    ∙ then_tested (is_scale count table list && in_search c.args.target.0) (search_of (items_in count table) (list_in count list) c.args.target.0) (declared_of count)
+    ∙ then_tested (is_scale count table list && in_search c.args.target.0)
+    (search_of (items_in count table) (list_in count list) c.args.target.0) (declared_of count)
